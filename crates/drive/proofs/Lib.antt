@@ -1,0 +1,4 @@
+mod Cases
+mod Below
+mod Homes
+pub mod Laws

@@ -1,0 +1,244 @@
+// The drives and their pins and option boards: document 01, "Drive and pins".
+ghost use mathlib.Core.Path.{_≡_};
+ghost use Rattle.drive.specs.Types.{cycleOf, takes, takesB, takesC};
+ghost use lib.ListN.{length};
+ghost use Rattle.drive.specs.Pins.{inputs, outputsWritten, homeIn, homeOf, homeNumbered, rowsOf, onBoard, presence, pinOf, refusalOf};
+
+// A drive as the header of an image names it: its type, and the board in each of its two slots.
+pub struct Drive {
+    pub model: u8,
+    pub b: u8,
+    pub c: u8,
+}
+
+// What a command does with a pin.
+pub enum PinKind {
+    Input,
+    OutputWritten,
+    OutputRead,
+}
+
+// Whether a drive has a pin of a kind; if not, whether a board that its type may carry would bring it.
+pub enum Presence {
+    Present,
+    BoardMissing,
+    Never,
+}
+
+// Where a pin is: on the 631 itself, on every other type itself, or on a board, by its number in slot B or C.
+pub enum Home {
+    Nowhere,
+    Only631,
+    Others,
+    SlotB(u8),
+    SlotC(u8),
+}
+
+impl Drive {
+    // The types, by document 01's numbers, and how many there are.
+    pub const TYPE_631: u8 = 0;
+
+    pub const TYPE_635: u8 = 1;
+
+    pub const TYPE_637: u8 = 2;
+
+    pub const TYPE_637_PLUS: u8 = 3;
+
+    pub const TYPE_637F: u8 = 4;
+
+    pub const TYPES: u8 = 5;
+
+    // The least type that may carry a board, by the board's number in its slot. Number 0 is the empty slot.
+    // Slot B: RP-EA5, RP-2C8. Slot C: RP-EAE, RP-SBT.
+    pub const SLOT_B: [u8; 3] = [0, 1, 4];
+
+    pub const SLOT_C: [u8; 3] = [0, 1, 4];
+
+    pub const BOARDS: u32 = 3;
+
+    // Cycle lengths in microseconds: up to the 637, and from the 637+ on.
+    pub const LONG_CYCLE: u32 = 1899;
+
+    pub const SHORT_CYCLE: u32 = 844;
+
+    // The cycle length in microseconds; 0 for a number that is no type.
+    pub fn cycle(self) -> u32
+        ensures { λ r. ⌜ r ≡ cycleOf (self .model) ⌝ }
+    {
+        let t = self.model;
+        match t {
+            0..=2 => Drive::LONG_CYCLE,
+            3..=4 => Drive::SHORT_CYCLE,
+            _ => 0,
+        }
+    }
+
+    // Whether a type may have this board number in slot B.
+    pub fn takes_b(model: u8, board: u32) -> bool
+        ensures { λ r. ⌜ r ≡ takesB model board ⌝ }
+    {
+        may_take(Drive::SLOT_B, model, board)
+    }
+
+    // Whether a type may have this board number in slot C.
+    pub fn takes_c(model: u8, board: u32) -> bool
+        ensures { λ r. ⌜ r ≡ takesC model board ⌝ }
+    {
+        may_take(Drive::SLOT_C, model, board)
+    }
+
+    // Whether this drive has the pin, used in this way.
+    pub fn pin(self, kind: PinKind, pin: u8) -> Presence
+        ensures { λ r. ⌜ r ≡ pinOf self kind pin ⌝ }
+    {
+        found(self, home_of(kind, pin))
+    }
+}
+
+impl Presence {
+    // Document 01's number: 0 for a pin that is present, else 6.
+    pub fn refusal(self) -> u32
+        ensures { λ r. ⌜ r ≡ refusalOf self ⌝ }
+    {
+        match self {
+            Presence::Present => 0,
+            Presence::BoardMissing => 6,
+            Presence::Never => 6,
+        }
+    }
+}
+
+// Whether a type may carry a board of a slot, from the least types of the slot's boards.
+fn may_take(least: [u8; 3], model: u8, board: u32) -> bool
+    ensures { λ r. ⌜ r ≡ takes least model board ⌝ }
+{
+    if board >= Drive::BOARDS {
+        return false;
+    }
+    if model >= Drive::TYPES {
+        return false;
+    }
+    least[board as usize] <= model
+}
+
+// Whether a drive has what is at this home.
+fn found(d: Drive, home: Home) -> Presence
+    ensures { λ r. ⌜ r ≡ presence d home ⌝ }
+{
+    let t = d.model;
+    match home {
+        Home::Nowhere => Presence::Never,
+        Home::Only631 => {
+            if t == Drive::TYPE_631 {
+                return Presence::Present;
+            }
+            Presence::Never
+        }
+        Home::Others => {
+            if t == Drive::TYPE_631 {
+                return Presence::Never;
+            }
+            if t >= Drive::TYPES {
+                return Presence::Never;
+            }
+            Presence::Present
+        }
+        Home::SlotB(board) => on_board(Drive::takes_b(t, board as u32), board, d.b),
+        Home::SlotC(board) => on_board(Drive::takes_c(t, board as u32), board, d.c),
+    }
+}
+
+// What a type that could carry the board or not, and has what it has in the slot, finds on the board.
+fn on_board(could: bool, board: u8, slot: u8) -> Presence
+    ensures { λ r. ⌜ r ≡ onBoard could board slot ⌝ }
+{
+    if !could {
+        return Presence::Never;
+    }
+    if slot == board {
+        return Presence::Present;
+    }
+    Presence::BoardMissing
+}
+
+// Where a pin is that is used in this way.
+fn home_of(kind: PinKind, pin: u8) -> Home
+    ensures { λ r. ⌜ r ≡ homeOf kind pin ⌝ }
+{
+    match kind {
+        PinKind::Input => input_home(pin),
+        PinKind::OutputWritten => output_home(pin),
+        PinKind::OutputRead => {
+            if pin == READ_ONLY_OUTPUT {
+                return Home::Others;
+            }
+            output_home(pin)
+        }
+    }
+}
+
+// The one output that can be read and not written.
+const READ_ONLY_OUTPUT: u8 = 8;
+
+// Document 01's rows of inputs: the first and the last pin of each, and its home by the numbers of `home_numbered`.
+const INPUT_FIRST: [u8; 14] = [7, 2, 4, 11, 15, 22, 24, 101, 106, 201, 211, 121, 91, 93];
+
+const INPUT_LAST: [u8; 14] = [10, 2, 4, 11, 15, 22, 25, 102, 108, 208, 216, 124, 91, 93];
+
+const INPUT_HOME: [u8; 14] = [1, 2, 2, 2, 2, 2, 2, 3, 3, 5, 5, 4, 6, 6];
+
+fn input_home(pin: u8) -> Home
+    ensures { λ r. ⌜ r ≡ homeIn inputs pin ⌝ }
+{
+    let first = INPUT_FIRST;
+    let last = INPUT_LAST;
+    let homes = INPUT_HOME;
+    home_in(&first, &last, &homes, pin)
+}
+
+// The same for the outputs that can be written.
+const OUTPUT_FIRST: [u8; 8] = [5, 12, 20, 23, 109, 209, 217, 125];
+
+const OUTPUT_LAST: [u8; 8] = [6, 13, 20, 23, 110, 210, 224, 128];
+
+const OUTPUT_HOME: [u8; 8] = [1, 2, 2, 2, 3, 5, 5, 4];
+
+fn output_home(pin: u8) -> Home
+    ensures { λ r. ⌜ r ≡ homeIn outputsWritten pin ⌝ }
+{
+    let first = OUTPUT_FIRST;
+    let last = OUTPUT_LAST;
+    let homes = OUTPUT_HOME;
+    home_in(&first, &last, &homes, pin)
+}
+
+// The home of the first row that has the pin.
+fn home_in(first: &[u8], last: &[u8], homes: &[u8], pin: u8) -> Home
+    requires { ⌜ (length (now last) ≡ length (now first)) × (length (now homes) ≡ length (now first)) ⌝ }
+    ensures { λ r. ⌜ r ≡ homeIn (rowsOf (now (first .entry)) (now (last .entry)) (now (homes .entry))) pin ⌝ }
+{
+    let mut i = 0;
+    while i < first.len() {
+        if first[i] <= pin {
+            if pin <= last[i] {
+                return home_numbered(homes[i]);
+            }
+        }
+        i += 1;
+    }
+    Home::Nowhere
+}
+
+fn home_numbered(n: u8) -> Home
+    ensures { λ r. ⌜ r ≡ homeNumbered n ⌝ }
+{
+    match n {
+        1 => Home::Only631,
+        2 => Home::Others,
+        3 => Home::SlotB(1),
+        4 => Home::SlotB(2),
+        5 => Home::SlotC(1),
+        6 => Home::SlotC(2),
+        _ => Home::Nowhere,
+    }
+}

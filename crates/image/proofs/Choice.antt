@@ -1,0 +1,38 @@
+-- Choices by a test: what holds of both ways, and which way was taken.
+-- Assumes nothing.
+use mathlib.Core.Path.{_≡_, refl, sym, _∙_}
+use mathlib.Core.Bool.{Bool, true, false, _&&_, cond}
+use Prim.Native.Nat.{ℕ, _<_, _≤_}
+use native.Mathlib.Omega.{arith}
+use lib.Dec.{ltb}
+use borrow.Author.Tests.{ltb-true, ltb-false}
+
+-- by cases: a is below b, or not
+pub by : {P : Type 0} (a b : ℕ) → (a < b → P) → (b ≤ a → P) → P
+by {P} a b f g = split (ltb a b) refl
+  where
+    split : (t : Bool) → ltb a b ≡ t → P
+    split true e = f (ltb-true a b e)
+    split false e = g (ltb-false a b e)
+
+pub clash : {A : Type 0} → _≡_ {A = Bool} true false → A
+clash e = absurd (let z : _≡_ {A = ℕ} 0 1 = cc in omega arith)
+
+pub both : (a b : Bool) → (a && b) ≡ true → (a ≡ true) × (b ≡ true)
+both true b e = (refl, e)
+both false b e = clash (sym e)
+
+module _ {A : Type 0} where
+  -- what holds of both ways holds of the way taken
+  pub either : (P : A → Type 0) (t : Bool) {a b : A} → P a → P b → P (cond t a b)
+  either P true h k = h
+  either P false h k = k
+
+  -- where f holds of the choice and not of one way, the other way was taken
+  pub first-way : (f : A → Bool) (t : Bool) {a b : A} → f b ≡ false → f (cond t a b) ≡ true → (t ≡ true) × (cond t a b ≡ a)
+  first-way f true r h = (refl, refl)
+  first-way f false r h = clash (sym h ∙ r)
+
+  pub other-way : (f : A → Bool) (t : Bool) {a b : A} → f a ≡ false → f (cond t a b) ≡ true → (t ≡ false) × (cond t a b ≡ b)
+  other-way f true r h = clash (sym h ∙ r)
+  other-way f false r h = (refl, refl)

@@ -1,0 +1,52 @@
+-- What the header of an image that is not refused promises to whoever goes on with it.
+-- Assumes nothing.
+use mathlib.Core.Path.{_≡_, ap, _∙_}
+use mathlib.Core.Bool.{true}
+use mathlib.Core.List.{List}
+use Prim.Native.Nat.{ℕ, _*_, _<_, _≤_}
+use native.Mathlib.Omega.{arith}
+use lib.ListN.{length, drop, length-drop}
+use Rattle.drive.specs.Types.{types, takesB, takesC}
+use Rattle.image.specs.Outcome.{done}
+use Rattle.image.specs.Rows.{mostBlocks}
+use Rattle.image.specs.Scan.{fromImage, headerOf, blocksOf, blockLength}
+use Rattle.image.specs.declared.Outcome.the-variants.{Done}
+use Rattle.image.specs.declared.Header.{Header}
+use Rattle.image.specs.declared.reader.HeaderRead.{HeaderRead}
+use Rattle.image.proofs.Accepted.{value, accepted-header, headerWith}
+use Rattle.image.proofs.Read.{read-fine}
+
+pub record Good (h : Header) : Type 0 where
+  pub format : h .format ≡ 1
+  pub model : h .drive .model < types
+  pub boardB : takesB (h .drive .model) (h .drive .b) ≡ true
+  pub boardC : takesC (h .drive .model) (h .drive .c) ≡ true
+  pub count : (0 < h .count) × (h .count ≤ mostBlocks)
+  pub start : h .start < h .count
+
+module _ (image : List ℕ) (ok : headerOf image .outcome ≡ Done) where
+  abbrev v : ℕ → ℕ
+  v = value (length image) (fromImage image)
+
+  pub header-is : headerOf image .header ≡ headerWith (v 0) (v 1) (v 2) (v 3) (v 4) (v 5)
+  unfolding headerOf
+  header-is =
+      let c = read-fine image (ap done ok) in
+      ap (λ (r : HeaderRead). r .header) (c .is) ∙ accepted-header (length image) (fromImage image) (c .scanned) .header
+
+  -- each number of the header is in its range
+  pub header-good : Good (headerOf image .header)
+  header-good =
+      let a = accepted-header (length image) (fromImage image) (read-fine image (ap done ok) .scanned) in
+      rw header-is
+      (record { format = a .format; model = a .model; boardB = a .boardB; boardC = a .boardC; count = a .count; start = a .start })
+
+  -- there are as many blocks as it says
+  pub block-bytes : length (blocksOf image) ≡ blockLength * headerOf image .header .count
+  unfolding headerOf blocksOf
+  block-bytes =
+      let c = read-fine image (ap done ok) in
+      let l = c .long in
+      let h = ap (λ (r : HeaderRead). r .header .count) (c .is) in
+      let p = ap (λ (r : HeaderRead). r .at) (c .is) in
+      rw (ap done ok) (length-drop (headerOf image .at) image ∙ omega arith)

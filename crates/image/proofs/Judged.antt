@@ -1,0 +1,120 @@
+-- Numbers that the writer's judging let pass: each has a form of one or two bytes, and they stand one after the other.
+-- Assumes nothing.
+use mathlib.Core.Path.{_≡_, refl, sym, ap, _∙_}
+use mathlib.Core.Bool.{Bool, true, false}
+use mathlib.Core.List.{List}
+use Prim.Native.Nat.{ℕ, zero, suc, _+_, _*_, _<_, _≤_}
+use native.Mathlib.Omega.{arith}
+use lib.ListN.{length, getD}
+use lib.Dec.{ltb}
+use borrow.Author.Tests.{ltb-false, le-ltb}
+use Rattle.drive.specs.Types.{slotB, slotC}
+use Rattle.drive.proofs.Laws.{board-small}
+use Rattle.image.specs.Outcome.{done}
+use Rattle.image.specs.Scan.{given, scan, firstRefusal}
+use Rattle.image.specs.Writer.{HaveForms, firstNumbers, imageOf, overlaid, roomOutcome, writtenWith, fitted, written, outAfter}
+use Rattle.image.specs.declared.Outcome.the-variants.{Done}
+use Rattle.image.specs.declared.Outcome.{Outcome}
+use Rattle.image.specs.declared.number.Number.{Number}
+use Rattle.image.specs.declared.number.Number as number
+use Rattle.image.specs.declared.reader.Scan.{Scan}
+use Rattle.image.specs.declared.writer.Written.{Written}
+use Rattle.image.proofs.Choice.{clash, other-way}
+use Rattle.image.proofs.Accepted.{place, Accepted, accepted-header, below-six}
+use Rattle.image.proofs.Read.{neither, both-pass}
+use Rattle.image.proofs.Written.{one-more, image-length}
+
+next-of : {v w a b : ℕ} → number.Number.Value v a ≡ number.Number.Value w b → a ≡ b
+next-of e = cc
+
+module _ (numbers : List ℕ) (ok : done (scan 0 (given numbers) 6 .outcome) ≡ true) where
+  pub judged-numbers : Accepted 0 (given numbers)
+  judged-numbers = accepted-header 0 (given numbers) ok
+
+  pub small-numbers : HaveForms numbers
+  small-numbers =
+      let a = judged-numbers in
+      let f = a .format in
+      let m = a .model in
+      let b = board-small slotB _ _ (a .boardB) in
+      let c = board-small slotC _ _ (a .boardC) in
+      let s = a .start in
+      let k = a .count .1 in
+      below-six (λ (j : ℕ). getD numbers j 0 < 16384) (omega arith) (omega arith) (omega arith) (omega arith) (omega arith) (omega arith)
+
+  -- the scan is where the bytes of the numbers end
+  pub placed : (k : ℕ) → k ≤ 6 → place 0 (given numbers) k ≡ length (firstNumbers numbers k)
+  unfolding scan firstNumbers
+  placed zero h = refl
+  placed (suc k) h =
+      let e = next-of (judged-numbers .numbers k (omega arith)) in
+      let p = placed k (omega arith) in
+      let m = one-more numbers k in
+      omega arith
+
+-- blocks and room that fit
+pub record Fits (s : Scan) (b room : ℕ) : Type 0 where
+  pub judged : done (s .outcome) ≡ true
+  pub long : b ≡ 8 * s .header .count
+  pub fits : s .at + b ≤ room
+  pub is : fitted s b room ≡ record { outcome = Done; length = s .at + b }
+
+pub room-right : (at count b room : ℕ) → done (roomOutcome at count b room) ≡ true → (b ≡ 8 * count) × (at + b ≤ room)
+unfolding roomOutcome
+room-right at count b room h =
+    let x = other-way done (ltb b (8 * count)) refl h in
+    let y = other-way done (ltb (8 * count) b) refl (sym (ap done (x .1)) ∙ h) in
+    let z = other-way done (ltb room (at + b)) refl (sym (ap done (y .1)) ∙ sym (ap done (x .1)) ∙ h) in
+    let low = ltb-false b (8 * count) (x .0) in
+    let high = ltb-false (8 * count) b (y .0) in
+    (omega arith, ltb-false room (at + b) (z .0))
+
+room-passes : (at count b room : ℕ) → b ≡ 8 * count → at + b ≤ room → roomOutcome at count b room ≡ Done
+unfolding roomOutcome
+room-passes at count b room e h = rw (le-ltb b (8 * count) (omega arith), le-ltb (8 * count) b (omega arith), le-ltb room (at + b) h)
+
+pub fitted-is : (s : Scan) (b room : ℕ) → done (s .outcome) ≡ true → b ≡ 8 * s .header .count → s .at + b ≤ room → fitted s b room ≡ record { outcome = Done; length = s .at + b }
+unfolding fitted writtenWith
+fitted-is s b room d e h =
+    rw (both-pass (s .outcome) (roomOutcome (s .at) (s .header .count) b room) d, room-passes (s .at) (s .header .count) b room e h)
+
+pub fitted-fine : (s : Scan) (b room : ℕ) → done (fitted s b room .outcome) ≡ true → Fits s b room
+unfolding fitted writtenWith
+fitted-fine s b room h = go (done o) refl
+  where
+    o : Outcome
+    o = firstRefusal (s .outcome) (roomOutcome (s .at) (s .header .count) b room)
+
+    go : (t : Bool) → done o ≡ t → Fits s b room
+    go false e = clash (sym (rw e at h) ∙ e)
+    go true e =
+        let p = neither (s .outcome) (roomOutcome (s .at) (s .header .count) b room) e in
+        let r = room-right (s .at) (s .header .count) b room (p .1) in
+        record { judged = p .0; long = r .0; fits = r .1; is = fitted-is s b room (p .0) (r .0) (r .1) }
+
+-- what the writer may rely on once nothing was refused
+module _ (numbers blocks : List ℕ) (room : ℕ) (ok : done (written numbers (length blocks) room .outcome) ≡ true) where
+  pub written-fine : Fits (scan 0 (given numbers) 6) (length blocks) room
+  unfolding written
+  written-fine = fitted-fine (scan 0 (given numbers) 6) (length blocks) room ok
+
+  pub has-room : length (imageOf numbers blocks) ≤ room
+  has-room =
+      let f = written-fine .fits in
+      let p = placed numbers (written-fine .judged) 6 (omega arith) in
+      let l = image-length numbers blocks in
+      omega arith
+
+-- what the answer says of the buffer
+module _ (numbers blocks out : List ℕ) where
+  pub answered : (w : Written) → w ≡ written numbers (length blocks) (length out) → (t u : Bool) → t ≡ done (w .outcome) → t ≡ u
+      → done (written numbers (length blocks) (length out) .outcome) ≡ u
+  answered w told t u e g = sym (ap (λ (x : Written). done (x .outcome)) told) ∙ sym e ∙ g
+
+  pub left-alone : done (written numbers (length blocks) (length out) .outcome) ≡ false → out ≡ outAfter numbers blocks out
+  unfolding outAfter
+  left-alone h = rw h
+
+  pub put-there : done (written numbers (length blocks) (length out) .outcome) ≡ true → overlaid (imageOf numbers blocks) out ≡ outAfter numbers blocks out
+  unfolding outAfter
+  put-there h = rw h

@@ -1,0 +1,79 @@
+-- A number that was written is read back, with the place behind it; and where a number is read, its bytes stand there, so that only
+-- shortest forms are read. Assumes nothing.
+use mathlib.Core.Path.{_≡_, refl, sym, ap, _∙_}
+use Prim.Native.Nat.{ℕ, _+_, _-_, _*_, _/_, _%_, _<_, _≤_}
+use native.Mathlib.Omega.{arith}
+use mathlib.Core.List.{List}
+use lib.ListN.{length, getD}
+use Rattle.image.specs.Number.{numberBytes, numberAt}
+use Rattle.image.specs.declared.number.Number.{Number}
+use Rattle.image.proofs.Choice.{by}
+use Rattle.image.proofs.Stands.{Has, head, tail, none, cons}
+use Rattle.image.proofs.Numbers as numbers
+use Rattle.image.proofs.Numbers.{one, two, short-one, cut, more, zero-high, big-high, good-high}
+
+-- a list that has the bytes of v at index at
+module _ (s : List ℕ) (at v : ℕ) (small : v < 16384) (has : Has s at (numberBytes v)) (room : at + length (numberBytes v) ≤ length s) where
+  back-one : v < 128 → numberAt s at ≡ Number.Value v (at + length (numberBytes v))
+  back-one h =
+      let e = one v h in
+      let r : at + 1 ≤ length s = rw e at room in
+      let g : getD s at 0 ≡ v = head (rw e at has) in
+      rw e (sym (short-one s at v (sym g) (omega arith) h))
+
+  back-two : 128 ≤ v → numberAt s at ≡ Number.Value v (at + length (numberBytes v))
+  back-two h =
+      let e = two v h in
+      let r : at + 2 ≤ length s = rw e at room in
+      let t = rw e at has in
+      let g : getD s at 0 ≡ 128 + v % 128 = head t in
+      let k : getD s (at + 1) 0 ≡ v / 128 = head (tail t) in
+      let q : 128 + v % 128 - 128 + 128 * (v / 128) ≡ v = omega arith in
+      rw e (sym (more s at (128 + v % 128) (sym g) (v / 128) (sym k) (omega arith) (omega arith))
+      ∙ sym (good-high at (128 + v % 128) (v / 128) (λ z. omega arith) (omega arith))
+      ∙ ap (λ (n : ℕ). Number.Value n (at + 2)) q)
+
+  pub number-back : numberAt s at ≡ Number.Value v (at + length (numberBytes v))
+  number-back = by v 128 back-one back-two
+
+-- the bytes of v stand at index at of s, with n behind them
+pub record There (s : List ℕ) (at v n : ℕ) : Type 0 where
+  pub has : Has s at (numberBytes v)
+  pub small : v < 16384
+  pub next : n ≡ at + length (numberBytes v)
+  pub room : n ≤ length s
+
+clash : {P : Type 0} {v n : ℕ} (r : Number) → r ≡ Number.Value v n → r ≡ Number.EndsEarly → P
+clash r p q = let z : _≡_ {A = ℕ} 0 1 = cc in absurd (omega arith)
+
+clash-long : {P : Type 0} {v n : ℕ} (r : Number) → r ≡ Number.Value v n → r ≡ Number.NotShortest → P
+clash-long r p q = let z : _≡_ {A = ℕ} 0 1 = cc in absurd (omega arith)
+
+module _ (s : List ℕ) (at v n : ℕ) (byte : getD s at 0 < 256) (read : numberAt s at ≡ Number.Value v n) where
+  there-one : at < length s → getD s at 0 < 128 → There s at v n
+  there-one h l =
+      let e = short-one s at (getD s at 0) refl h l in
+      let p : getD s at 0 ≡ v = cc in
+      let q : at + 1 ≡ n = cc in
+      let w = one v (omega arith) in
+      record { has = rw w (cons p none); small = omega arith; next = rw w (sym q); room = omega arith }
+
+  there-two : at + 1 < length s → 128 ≤ getD s at 0 → (getD s (at + 1) 0 ≡ 0 → ⊥) → getD s (at + 1) 0 < 128 → There s at v n
+  there-two h l z k =
+      let e = good-high at (getD s at 0) (getD s (at + 1) 0) z k ∙ more s at (getD s at 0) refl (getD s (at + 1) 0) refl l h in
+      let p : getD s at 0 - 128 + 128 * getD s (at + 1) 0 ≡ v = cc in
+      let q : at + 2 ≡ n = cc in
+      let w = two v (omega arith) in
+      record { has = rw w (cons (omega arith) (cons (omega arith) none)); small = omega arith; next = rw w (sym q); room = omega arith }
+
+  pub number-only : There s at v n
+  number-only =
+      by at (length s)
+      (λ h. by (getD s at 0) 128 (there-one h)
+      (λ l. by (at + 1) (length s)
+      (λ k. let m = more s at (getD s at 0) refl (getD s (at + 1) 0) refl l k in
+      by 0 (getD s (at + 1) 0)
+      (λ z. by (getD s (at + 1) 0) 128 (there-two k l (λ e. omega arith)) (λ g. clash-long (numberAt s at) read (sym (big-high at (getD s at 0) (getD s (at + 1) 0) g ∙ m))))
+      (λ z. clash-long (numberAt s at) read (sym (zero-high at (getD s at 0) (getD s (at + 1) 0) (omega arith) ∙ m))))
+      (λ k. clash (numberAt s at) read (sym (cut s at (getD s at 0) refl h l k)))))
+      (λ h. clash (numberAt s at) read (sym (numbers.none s at h)))

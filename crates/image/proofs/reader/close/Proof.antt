@@ -1,0 +1,48 @@
+-- `image::reader::close` meets its contract: the refusal of the numbers comes before that of the length. Assumes nothing.
+use borrow.Author.Needs.{needs}
+use mathlib.Core.Path.{sym, ap, _∙_}
+use borrow.Author.Tests.{not-true, not-false}
+use Rattle.image.specs.Scan.{firstRefusal, readWith, closed}
+use Rattle.image.proofs.reader.close.Statement.{statement}
+use Rattle.image.proofs.reader.close.Tie as tie
+
+judge-length-requires : tie.Need-judge-length-requires
+judge-length-requires c κs = search needs
+
+first-refusal-requires : tie.Need-first-refusal-requires
+first-refusal-requires c κs = search needs
+
+is-done-requires : tie.Need-is-done-requires
+is-done-requires c κs = search needs
+
+refuse-requires : tie.Need-refuse-requires
+refuse-requires c κs = search needs
+
+returns : tie.Need-returns
+unfolding closed readWith
+returns c =
+    let st = c .before .before .before .before .before .before in
+    let o = c .before .before .before .first-refusal in
+    let told = o .ensures ∙ ap (firstRefusal (st .args .s .outcome)) (c .before .before .before .before .judge-length .ensures) in
+    let d = c .before .before .is-done in
+    rw (← told, sym (d .ensures) ∙ not-true (d .result) (c .before .if1 .taken)) (c .refuse .ensures)
+
+returns-2 : tie.Need-returns-2
+unfolding closed readWith
+returns-2 c =
+    let st = c .before .before .before .before .before in
+    let o = c .before .before .first-refusal in
+    let told = o .ensures ∙ ap (firstRefusal (st .args .s .outcome)) (c .before .before .before .judge-length .ensures) in
+    let d = c .before .is-done in
+    rw (← told, sym (d .ensures) ∙ not-false (d .result) (c .if1 .left))
+
+pub close-spec : {M : Type 1} → statement M
+close-spec =
+    tie.close
+    (tie.spec
+    judge-length-requires
+    first-refusal-requires
+    is-done-requires
+    refuse-requires
+    returns
+    returns-2)

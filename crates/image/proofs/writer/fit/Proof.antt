@@ -1,0 +1,68 @@
+-- `image::writer::fit` meets its contract: the refusal of the numbers comes first; blocks that fit the room are counted without overflow.
+-- Assumes nothing.
+use borrow.Author.Needs.{needs}
+use mathlib.Core.Path.{sym, ap, _∙_}
+use native.Mathlib.Omega.{arith}
+use borrow.Author.Tests.{not-true, not-false}
+use Rattle.image.specs.Outcome.{done}
+use Rattle.image.specs.Scan.{firstRefusal}
+use Rattle.image.specs.Writer.{roomOutcome, writtenWith, fitted}
+use Rattle.image.proofs.Read.{neither}
+use Rattle.image.proofs.Judged.{room-right}
+use Rattle.image.proofs.writer.fit.Statement.{statement}
+use Rattle.image.proofs.writer.fit.Tie as tie
+
+judge-room-requires : tie.Need-judge-room-requires
+judge-room-requires c κs = search needs
+
+first-refusal-requires : tie.Need-first-refusal-requires
+first-refusal-requires c κs = search needs
+
+is-done-requires : tie.Need-is-done-requires
+is-done-requires c κs = search needs
+
+not-written-requires : tie.Need-not-written-requires
+not-written-requires c κs = search needs
+
+returns : tie.Need-returns
+unfolding fitted writtenWith
+returns c =
+    let st = c .before .before .before .before .before .before in
+    let o = c .before .before .before .first-refusal in
+    let told = o .ensures ∙ ap (firstRefusal (st .args .s .outcome)) (c .before .before .before .before .judge-room .ensures) in
+    let d = c .before .before .is-done in
+    rw (← told, sym (d .ensures) ∙ not-true (d .result) (c .before .if1 .taken)) (c .not-written .ensures)
+
+add-t11 : tie.Need-add-t11
+add-t11 c =
+    let st = c .before .before .before .before .before in
+    let o = c .before .before .first-refusal in
+    let told = o .ensures ∙ ap (firstRefusal (st .args .s .outcome)) (c .before .before .before .judge-room .ensures) in
+    let d = c .before .is-done in
+    let s = st .args .s in
+    let room = roomOutcome (s .at) (s .header .count) (st .args .blocks) (st .args .room) in
+    let ok = sym (ap done told) ∙ sym (d .ensures) ∙ not-false (d .result) (c .if1 .left) in
+    let r = room-right (s .at) (s .header .count) (st .args .blocks) (st .args .room) (neither (s .outcome) room ok .1) .1 in
+    let h = st .fits .room .fits in
+    omega arith
+
+returns-2 : tie.Need-returns-2
+unfolding fitted writtenWith
+returns-2 c =
+    let st = c .before .before .before .before .before in
+    let o = c .before .before .first-refusal in
+    let told = o .ensures ∙ ap (firstRefusal (st .args .s .outcome)) (c .before .before .before .judge-room .ensures) in
+    let d = c .before .is-done in
+    rw (← told, sym (d .ensures) ∙ not-false (d .result) (c .if1 .left))
+
+pub fit-spec : {M : Type 1} → statement M
+fit-spec =
+    tie.close
+    (tie.spec
+    judge-room-requires
+    first-refusal-requires
+    is-done-requires
+    not-written-requires
+    returns
+    add-t11
+    returns-2)

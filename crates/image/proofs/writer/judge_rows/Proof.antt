@@ -1,0 +1,77 @@
+-- `image::writer::judge_rows` meets its contract. The loop's invariant: the scan is that of the numbers passed. Assumes nothing.
+use borrow.Author.Needs.{needs}
+use mathlib.Core.Path.{_≡_, ap, _∙_}
+use Prim.Native.Nat.{_≤_, _-_}
+use native.Mathlib.Omega.{arith}
+use Rattle.image.specs.Scan.{given, scan}
+use Rattle.image.specs.declared.reader.Scan.{Scan}
+use Rattle.image.proofs.Scanning.{at-most, given-near, next-row}
+use Rattle.image.proofs.Written.{same-number}
+use Rattle.image.proofs.writer.judge_rows.Statement.{statement}
+use Rattle.image.proofs.writer.judge_rows.Tie as tie
+
+abbrev Inv-loop : tie.InvT-loop
+Inv-loop numbers s₀ row₀ s row = (s ≡ scan 0 (given numbers) row) × (row ≤ 6)
+
+abbrev μ-loop : tie.MeasureT-loop
+μ-loop numbers s₀ row₀ s row = 6 - row
+
+begin-requires : tie.Need-begin-requires Inv-loop μ-loop
+begin-requires c κs = search needs
+
+loop-holds : tie.Need-loop-holds Inv-loop μ-loop
+unfolding scan
+loop-holds c = (c .begin .ensures, omega arith)
+
+cast-judge-row : tie.Need-cast-judge-row Inv-loop μ-loop
+cast-judge-row c = omega arith
+
+mul-judge-row : tie.Need-mul-judge-row Inv-loop μ-loop
+mul-judge-row c = omega arith
+
+array-read-judge-row : tie.Need-array-read-judge-row Inv-loop μ-loop
+array-read-judge-row c = search needs
+
+judge-row-requires : tie.Need-judge-row-requires Inv-loop μ-loop
+judge-row-requires c κs =
+    let i = c .before .loop .inv in
+    let ns = c .before .before .before .args .t1 in
+    let m = at-most 0 (given ns) (given-near ns) (c .before .loop .row) in
+    let e : c .before .loop .s .at ≡ scan 0 (given ns) (c .before .loop .row) .at = ap (λ (s : Scan). s .at) (i .0) in
+    let l = c .loop-test .taken in
+    omega arith
+
+add-row : tie.Need-add-row Inv-loop μ-loop
+add-row c = omega arith
+
+loop-less : tie.Need-loop-less Inv-loop μ-loop
+loop-less c = omega arith
+
+loop-again : tie.Need-loop-again Inv-loop μ-loop
+loop-again c =
+    let at-loop = c .before .before in
+    let ns = c .before .before .before .before .args .t1 in
+    (c .judge-row .ensures ∙ same-number ns (at-loop .loop .row) (at-loop .loop .s) ∙ next-row 0 (given ns) (at-loop .loop .row) (at-loop .loop .s) (at-loop .loop .inv .0), omega arith)
+
+returns : tie.Need-returns Inv-loop μ-loop
+returns c =
+    let row = c .before .loop .row in
+    let h : row ≡ 6 = omega (arith, c .loop-test .left, c .before .loop .inv .1) in
+    rw h at (c .before .loop .inv .0)
+
+pub judge-rows-spec : {M : Type 1} → statement M
+judge-rows-spec =
+    tie.close
+    (tie.spec
+    Inv-loop
+    μ-loop
+    begin-requires
+    loop-holds
+    cast-judge-row
+    mul-judge-row
+    array-read-judge-row
+    judge-row-requires
+    add-row
+    loop-less
+    loop-again
+    returns)

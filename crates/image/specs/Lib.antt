@@ -1,0 +1,5 @@
+pub mod Outcome
+pub mod Number
+pub mod Rows
+pub mod Scan
+pub mod Writer

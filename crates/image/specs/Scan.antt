@@ -1,0 +1,91 @@
+-- The header as a whole: the numbers read and judged in order, then the length of the image (document 01, "Refused because of the input").
+-- Assumes nothing.
+use Prim.Native.Nat.{ℕ, zero, suc, _+_, _*_}
+use mathlib.Core.Bool.{cond}
+use mathlib.Core.List.{List, []}
+use lib.ListN.{length, getD, drop}
+use lib.Dec.{ltb}
+use Rattle.image.specs.Outcome.{done}
+use Rattle.image.specs.Number.{numberBytes, numberAt}
+use Rattle.image.specs.Rows.{noHeader, stopped, judged}
+use Rattle.image.specs.declared.Outcome.{Outcome}
+use Rattle.image.specs.declared.Outcome.the-variants.{Done, EndsEarly, NotShortest, LeftOver}
+use Rattle.image.specs.declared.number.Number.{Number}
+use Rattle.image.specs.declared.number.Number as number
+use Rattle.image.specs.declared.reader.Scan.{Scan}
+use Rattle.image.specs.declared.reader.HeaderRead.{HeaderRead}
+
+-- where numbers come from: which number it is and the place where it stands
+abbrev pub Source : Type 0
+Source = ℕ → ℕ → Number
+
+-- the reader looks into the image
+abbrev pub fromImage : List ℕ → Source
+fromImage image row at = numberAt image at
+
+-- a number v that stands at a place, its bytes before the next place
+abbrev pub standing : ℕ → ℕ → Number
+standing v at = number.Number.Value v (at + length (numberBytes v))
+
+-- the writer has the numbers given
+abbrev pub given : List ℕ → Source
+given numbers row at = standing (getD numbers row 0) at
+
+-- no number yet: nothing refused, all else 0
+abbrev pub begun : Scan
+begun = stopped Done
+
+-- what stands at the next place of an image of n bytes, taken as number `row`
+unfoldable pub taken : ℕ → ℕ → Scan → Number → Scan
+taken n row s (number.Number.Value v next) = judged row s v next
+taken n row s number.Number.EndsEarly = stopped (EndsEarly n)
+taken n row s number.Number.NotShortest = stopped (NotShortest (s .at))
+
+-- one number more, unless one before it was refused
+unfoldable pub more : ℕ → Source → ℕ → Scan → Scan
+more n source row s = cond (done (s .outcome)) (taken n row s (source row (s .at))) s
+
+-- the first k numbers
+unfoldable pub scan : ℕ → Source → ℕ → Scan
+scan n source zero = begun
+scan n source (suc row) = more n source row (scan n source row)
+
+-- how many numbers a header has
+abbrev pub rowCount : ℕ
+rowCount = 6
+
+-- the most bytes that the numbers take
+abbrev pub mostHeaderBytes : ℕ
+mostHeaderBytes = 12
+
+-- the bytes of a block
+abbrev pub blockLength : ℕ
+blockLength = 8
+
+-- of two judgements, one after the other, the refusal that comes first
+unfoldable pub firstRefusal : Outcome → Outcome → Outcome
+firstRefusal a b = cond (done a) b a
+
+-- the length of an image whose blocks begin at `at`: 1 at the image's end where it ends early, 4 at the first byte left over
+unfoldable pub lengthOutcome : ℕ → ℕ → ℕ → Outcome
+lengthOutcome at count n =
+    cond (ltb n (at + blockLength * count)) (EndsEarly n) (cond (ltb (at + blockLength * count) n) (LeftOver (at + blockLength * count)) Done)
+
+abbrev pub refusedRead : Outcome → HeaderRead
+refusedRead o = record { outcome = o; header = noHeader; at = 0 }
+
+-- numbers and blocks judged: the header that was read, or the refusal
+unfoldable pub readWith : Scan → Outcome → HeaderRead
+readWith s o = cond (done o) (record { outcome = o; header = s .header; at = s .at }) (refusedRead o)
+
+-- the numbers, then the length
+unfoldable pub closed : Scan → ℕ → HeaderRead
+closed s n = readWith s (firstRefusal (s .outcome) (lengthOutcome (s .at) (s .header .count) n))
+
+-- the header of an image
+unfoldable pub headerOf : List ℕ → HeaderRead
+headerOf image = closed (scan (length image) (fromImage image) rowCount) (length image)
+
+-- the blocks of an image: none where it is refused
+unfoldable pub blocksOf : List ℕ → List ℕ
+blocksOf image = cond (done (headerOf image .outcome)) (drop (headerOf image .at) image) []

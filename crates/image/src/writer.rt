@@ -1,0 +1,128 @@
+// The image writer: document 01, "Refused because of the input", its last paragraph. It judges the header's numbers as the reader
+// does, then the length of the blocks (1, 4), then the room (14); it does not judge blocks.
+use crate::Outcome;
+use crate::number;
+use crate::reader;
+use crate::reader::Scan;
+ghost use mathlib.Core.Path.{_≡_};
+ghost use Prim.Native.Nat.{_≤_};
+ghost use lib.ListN.{length};
+ghost use lib.Seq.{sets};
+ghost use Rattle.image.specs.Scan.{standing, given, more, scan, rowCount, mostHeaderBytes};
+ghost use Rattle.image.specs.Writer.{HaveForms, roomOutcome, notWritten, fitted, written, firstNumbers, imageOf, overlaid, outAfter};
+
+// What writing came to: the outcome, and the length of the image, 0 when refused.
+pub struct Written {
+    pub outcome: Outcome,
+    pub length: usize,
+}
+
+// Writes the image of these header numbers (format, type, slot B, slot C, start, count) and blocks to the front of out, and leaves
+// what stands behind it. A refusal leaves out as it is.
+pub fn write(numbers: [u32; 6], blocks: &[u8], out: &mut [u8]) -> Written
+    ensures { λ r. ⌜ r ≡ written numbers (length (now (blocks .entry))) (length (now (out .entry))) ⌝ }
+    ensures { λ _. ⌜ now (out .exit) ≡ outAfter numbers (now (blocks .entry)) (now (out .entry)) ⌝ }
+{
+    let s = judge_rows(numbers);
+    let w = fit(s, blocks.len(), out.len());
+    let judged = w.outcome;
+    if !judged.is_done() {
+        return w;
+    }
+    put_image(numbers, blocks, out);
+    w
+}
+
+// The six numbers judged, each at the place where it would stand.
+fn judge_rows(numbers: [u32; 6]) -> Scan
+    ensures { λ r. ⌜ r ≡ scan 0 (given numbers) rowCount ⌝ }
+{
+    let mut s = reader::begin();
+    let mut row: u8 = 0;
+    while row < reader::ROWS {
+        s = judge_row(s, row, numbers[row as usize]);
+        row += 1;
+    }
+    s
+}
+
+// One number more, unless one before it was refused.
+fn judge_row(s: Scan, row: u8, v: u32) -> Scan
+    requires { ⌜ s .at ≤ mostHeaderBytes ⌝ }
+    ensures { λ r. ⌜ r ≡ more 0 (λ k. standing v) row s ⌝ }
+{
+    let outcome = s.outcome;
+    if !outcome.is_done() {
+        return s;
+    }
+    let next = s.at + number::size(v);
+    reader::judge(row, s, v, next)
+}
+
+// What the judged numbers, the length of the blocks and the room come to.
+fn fit(s: Scan, blocks: usize, room: usize) -> Written
+    requires { ⌜ s .at ≤ mostHeaderBytes ⌝ }
+    ensures { λ r. ⌜ r ≡ fitted s blocks room ⌝ }
+{
+    let judged = s.outcome;
+    let header = s.header;
+    let at = s.at;
+    let outcome = reader::first_refusal(judged, judge_room(at, header.count, blocks, room));
+    if !outcome.is_done() {
+        return not_written(outcome);
+    }
+    Written {
+        outcome: outcome,
+        length: at + blocks,
+    }
+}
+
+// Whether the blocks are as long as the count says, and there is room for them behind the numbers.
+fn judge_room(at: usize, count: u16, blocks: usize, room: usize) -> Outcome
+    requires { ⌜ at ≤ mostHeaderBytes ⌝ }
+    ensures { λ r. ⌜ r ≡ roomOutcome at count blocks room ⌝ }
+{
+    let whole = reader::BLOCK_LENGTH * (count as usize);
+    if blocks < whole {
+        return Outcome::EndsEarly(blocks);
+    }
+    if whole < blocks {
+        return Outcome::LeftOver(blocks);
+    }
+    if room < at + blocks {
+        return Outcome::NoRoom(at + blocks);
+    }
+    Outcome::Done
+}
+
+fn not_written(outcome: Outcome) -> Written
+    ensures { λ r. ⌜ r ≡ notWritten outcome ⌝ }
+{
+    Written {
+        outcome: outcome,
+        length: 0,
+    }
+}
+
+// The image itself, where there is room for it.
+fn put_image(numbers: [u32; 6], blocks: &[u8], out: &mut [u8])
+    requires { ⌜ HaveForms numbers × (length (imageOf numbers (now blocks)) ≤ length (now out)) ⌝ }
+    ensures { λ _. ⌜ now (out .exit) ≡ overlaid (imageOf numbers (now (blocks .entry))) (now (out .entry)) ⌝ }
+{
+    let at = put_numbers(numbers, out);
+    bytes::copy(blocks, &mut out[at..]);
+}
+
+// The numbers' bytes, one after the other; gives the place behind them.
+fn put_numbers(numbers: [u32; 6], out: &mut [u8]) -> usize
+    requires { ⌜ HaveForms numbers × (length (firstNumbers numbers rowCount) ≤ length (now out)) ⌝ }
+    ensures { λ r. ⌜ (r ≡ length (firstNumbers numbers rowCount)) × (now (out .exit) ≡ sets (now (out .entry)) 0 (firstNumbers numbers rowCount)) ⌝ }
+{
+    let mut at = 0;
+    let mut row: u8 = 0;
+    while row < reader::ROWS {
+        at = number::put(out, at, numbers[row as usize]);
+        row += 1;
+    }
+    at
+}

@@ -1,0 +1,69 @@
+-- `vectors::write_rows` meets its contract: the writer's definition computes at each header and length. Assumes nothing.
+use borrow.Author.Needs.{needs}
+use mathlib.Core.Path.{refl}
+use Rattle.drive.specs.Types.{takes}
+use Rattle.image.specs.Number.{numberBytes}
+use Rattle.image.specs.Rows.{judged, formatRow, typeRow, slotBRow, slotCRow, countRow}
+use Rattle.image.specs.Scan.{firstRefusal, scan, more, taken}
+use Rattle.image.specs.Writer.{written, fitted, writtenWith, roomOutcome}
+use Rattle.vectors.proofs.Rows.{_◂_}
+use Rattle.vectors.proofs.write_rows.Statement.{statement}
+use Rattle.vectors.proofs.write_rows.Tie as tie
+
+write-outcome-requires : tie.Need-write-outcome-requires
+write-outcome-requires c κs = search needs
+
+write-outcome-requires-2 : tie.Need-write-outcome-requires-2
+write-outcome-requires-2 c κs = search needs
+
+write-outcome-requires-3 : tie.Need-write-outcome-requires-3
+write-outcome-requires-3 c κs = search needs
+
+write-outcome-requires-4 : tie.Need-write-outcome-requires-4
+write-outcome-requires-4 c κs = search needs
+
+write-outcome-requires-5 : tie.Need-write-outcome-requires-5
+write-outcome-requires-5 c κs = search needs
+
+write-outcome-requires-6 : tie.Need-write-outcome-requires-6
+write-outcome-requires-6 c κs = search needs
+
+slice-aggregate-write-outcome : tie.Need-slice-aggregate-write-outcome
+slice-aggregate-write-outcome c = search needs
+
+write-outcome-requires-7 : tie.Need-write-outcome-requires-7
+write-outcome-requires-7 c κs = search needs
+
+slice-aggregate-write-outcome-2 : tie.Need-slice-aggregate-write-outcome-2
+slice-aggregate-write-outcome-2 c = search needs
+
+write-outcome-requires-8 : tie.Need-write-outcome-requires-8
+write-outcome-requires-8 c κs = search needs
+
+returns : tie.Need-returns
+unfolding written fitted writtenWith roomOutcome numberBytes scan more taken judged formatRow typeRow slotBRow slotCRow countRow takes firstRefusal
+returns c =
+    let c7 = c .before .before in
+    let c6 = c7 .before .before in
+    let c5 = c6 .before .before in
+    let c4 = c5 .before .before in
+    let c3 = c4 .before .before in
+    let c2 = c3 .before .before in
+    let c1 = c2 .before .before in
+    c1 .write-outcome .ensures ◂ c2 .write-outcome2 .ensures ◂ c3 .write-outcome3 .ensures ◂ c4 .write-outcome4 .ensures ◂ c5 .write-outcome5 .ensures ◂ c6 .write-outcome6 .ensures ◂ c7 .write-outcome7 .ensures ◂ c .write-outcome8 .ensures ◂ refl
+
+pub write-rows-spec : {M : Type 1} → statement M
+write-rows-spec =
+    tie.close
+    (tie.spec
+    write-outcome-requires
+    write-outcome-requires-2
+    write-outcome-requires-3
+    write-outcome-requires-4
+    write-outcome-requires-5
+    write-outcome-requires-6
+    slice-aggregate-write-outcome
+    write-outcome-requires-7
+    slice-aggregate-write-outcome-2
+    write-outcome-requires-8
+    returns)

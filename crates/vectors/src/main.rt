@@ -1,0 +1,476 @@
+// Runs vectors with known answers over the crates arith, drive and image, a line for each, and a table of the pins of every drive.
+// What it prints is held to the file stdout, whose answers are document 01's. Each function shows what it does, and gives it back.
+use arith::Quotient;
+use arith::le;
+use drive::Drive;
+use drive::PinKind;
+use drive::Presence;
+use image::Outcome;
+use image::number;
+use image::number::Number;
+use image::reader;
+use image::reader::HeaderRead;
+use image::writer;
+use image::writer::Written;
+use libc::STDOUT_FILENO;
+ghost use mathlib.Core.Path.{_≡_};
+ghost use mathlib.Core.List.{[], _∷_};
+ghost use Prim.Native.Nat.{_+_};
+ghost use lib.IntN.{_+ℤ_};
+ghost use lib.ListN.{length};
+ghost use mir.Syntax.{w32};
+ghost use Rattle.arith.specs.Wrap.{word, wrap};
+ghost use Rattle.arith.specs.LittleEndian.{leBytes};
+ghost use Rattle.image.specs.Number.{numberAt};
+ghost use Rattle.image.specs.Scan.{headerOf};
+ghost use Rattle.image.specs.Writer.{written, outAfter};
+ghost use Rattle.drive.specs.declared.PinKind.the-variants.{Input, OutputWritten, OutputRead};
+ghost use Rattle.image.specs.declared.Outcome.the-variants.{Done, EndsEarly, NotShortest, OutOfRange, LeftOver, NoRoom};
+ghost use Rattle.image.specs.declared.number.Number.{Number};
+ghost use Rattle.vectors.specs.Pins.{presentPins, shownPin};
+
+fn main() {
+    arith_rows();
+    bytes_rows();
+    number_rows();
+    case_rows();
+    range_rows();
+    write_rows();
+    room_rows();
+    pin_rows();
+}
+
+// Pairs of numbers: the ends of the range, quotients of each sign, a zero divisor.
+const FIRST: [i32; 10] = [
+    2147483647,
+    -2147483648,
+    -2147483648,
+    -2147483648,
+    -7,
+    7,
+    -7,
+    5,
+    0,
+    100000,
+];
+
+const SECOND: [i32; 10] = [1, 1, -2147483648, -1, 2, -2, -2, 0, 0, 100000];
+
+// A row for each pair; gives how many.
+fn arith_rows() -> usize
+    ensures { λ r. ⌜ r ≡ 10 ⌝ }
+{
+    let mut i = 0;
+    while i < 10 {
+        arith_row(FIRST[i], SECOND[i]);
+        i += 1;
+    }
+    i
+}
+
+// Numbers of one to four bytes, and the ends of the range.
+const WHOLE: [i32; 8] = [0, 1, 255, 256, 16909060, -1, 2147483647, -2147483648];
+
+// A row for each of them; gives how many.
+fn bytes_rows() -> usize
+    ensures { λ r. ⌜ r ≡ 8 ⌝ }
+{
+    let mut i = 0;
+    while i < 8 {
+        bytes_row(WHOLE[i]);
+        i += 1;
+    }
+    i
+}
+
+// Numbers of one and two bytes, and bytes that are none.
+fn number_rows() -> [Number; 8]
+    ensures { λ r. ⌜ r ≡ Number.Value 1500 2 ∷ Number.NotShortest ∷ Number.Value 127 1 ∷ Number.Value 128 2 ∷ Number.Value 16383 2 ∷ Number.NotShortest ∷ Number.EndsEarly ∷ Number.EndsEarly ∷ [] ⌝ }
+{
+    [
+        number_row(b"\xdc\x0b"),
+        number_row(b"\x80\x00"),
+        number_row(b"\x7f"),
+        number_row(b"\x80\x01"),
+        number_row(b"\xff\x7f"),
+        number_row(b"\x80\x80\x01"),
+        number_row(b"\x80"),
+        number_row(b""),
+    ]
+}
+
+// Document 01's cases A and C and the accepted image of I; then A cut by a byte, A with a byte more, and no byte.
+fn case_rows() -> [Outcome; 6]
+    ensures { λ r. ⌜ r ≡ Done ∷ OutOfRange 4 ∷ Done ∷ EndsEarly 13 ∷ LeftOver 14 ∷ EndsEarly 0 ∷ [] ⌝ }
+{
+    [
+        header_outcome(b"\x01\x02\x00\x00\x00\x01\x55\x00\x00\x00\x00\x00\x00\x00"),
+        header_outcome(b"\x01\x02\x00\x00\x01\x01\x55\x00\x00\x00\x00\x00\x00\x00"),
+        header_outcome(
+            b"\x01\x02\x00\x00\x00\x02\x72\x0c\x01\x00\x00\x00\x00\x00\x55\x00\x00\x00\x00\x00\x00\x00",
+        ),
+        header_outcome(b"\x01\x02\x00\x00\x00\x01\x55\x00\x00\x00\x00\x00\x00"),
+        header_outcome(b"\x01\x02\x00\x00\x00\x01\x55\x00\x00\x00\x00\x00\x00\x00\x00"),
+        header_outcome(b""),
+    ]
+}
+
+// Headers that are refused by 2 or 3, one that is accepted, and one that ends early. Behind all but the last stands A's block.
+fn range_rows() -> [Outcome; 11]
+    ensures { λ r. ⌜ r ≡ NotShortest 1 ∷ OutOfRange 0 ∷ OutOfRange 1 ∷ OutOfRange 2 ∷ OutOfRange 2 ∷ OutOfRange 3 ∷ Done ∷ OutOfRange 5 ∷ OutOfRange 5 ∷ OutOfRange 4 ∷ EndsEarly 8 ∷ [] ⌝ }
+{
+    [
+        // Type 2 in two bytes.
+        header_outcome(b"\x01\x82\x00\x00\x00\x00\x01\x55\x00\x00\x00\x00\x00\x00\x00"),
+        // Format 2, type 5.
+        header_outcome(b"\x02\x02\x00\x00\x00\x01\x55\x00\x00\x00\x00\x00\x00\x00"),
+        header_outcome(b"\x01\x05\x00\x00\x00\x01\x55\x00\x00\x00\x00\x00\x00\x00"),
+        // RP-2C8 on type 3, a board in each slot of a 631, RP-2C8 and RP-SBT on type 4.
+        header_outcome(b"\x01\x03\x02\x00\x00\x01\x55\x00\x00\x00\x00\x00\x00\x00"),
+        header_outcome(b"\x01\x00\x01\x00\x00\x01\x55\x00\x00\x00\x00\x00\x00\x00"),
+        header_outcome(b"\x01\x00\x00\x01\x00\x01\x55\x00\x00\x00\x00\x00\x00\x00"),
+        header_outcome(b"\x01\x04\x02\x02\x00\x01\x55\x00\x00\x00\x00\x00\x00\x00"),
+        // Counts 0 and 1501; start 128 with counts 1 and 1500, the last without blocks.
+        header_outcome(b"\x01\x02\x00\x00\x00\x00\x55\x00\x00\x00\x00\x00\x00\x00"),
+        header_outcome(b"\x01\x02\x00\x00\x00\xdd\x0b\x55\x00\x00\x00\x00\x00\x00\x00"),
+        header_outcome(b"\x01\x02\x00\x00\x80\x01\x01\x55\x00\x00\x00\x00\x00\x00\x00"),
+        header_outcome(b"\x01\x02\x00\x00\x80\x01\xdc\x0b"),
+    ]
+}
+
+// Case A, then headers and lengths of blocks that are refused.
+fn write_rows() -> [Outcome; 8]
+    ensures { λ r. ⌜ r ≡ Done ∷ OutOfRange 0 ∷ OutOfRange 2 ∷ OutOfRange 6 ∷ OutOfRange 5 ∷ OutOfRange 4 ∷ EndsEarly 7 ∷ LeftOver 16 ∷ [] ⌝ }
+{
+    let a = b"\x55\x00\x00\x00\x00\x00\x00\x00";
+    [
+        write_outcome([1, 2, 0, 0, 0, 1], a),
+        // Format 2; RP-2C8 on type 3.
+        write_outcome([2, 2, 0, 0, 0, 1], a),
+        write_outcome([1, 3, 2, 0, 0, 1], a),
+        // Count 0 behind a start of two bytes and of one; a start that no number of two bytes is.
+        write_outcome([1, 2, 0, 0, 200, 0], a),
+        write_outcome([1, 2, 0, 0, 5, 0], a),
+        write_outcome([1, 2, 0, 0, 70000, 1], a),
+        // Blocks of 7 and of 16 bytes.
+        write_outcome([1, 2, 0, 0, 0, 1], b"\x55\x00\x00\x00\x00\x00\x00"),
+        write_outcome(
+            [1, 2, 0, 0, 0, 1],
+            b"\x55\x00\x00\x00\x00\x00\x00\x00\x55\x00\x00\x00\x00\x00\x00\x00",
+        ),
+    ]
+}
+
+// Case A into 13 bytes and into 14.
+fn room_rows() -> [Outcome; 2]
+    ensures { λ r. ⌜ r ≡ NoRoom 14 ∷ Done ∷ [] ⌝ }
+{
+    let mut short = [0xaau8; 13];
+    let mut exact = [0xaau8; 14];
+    let a = b"\x55\x00\x00\x00\x00\x00\x00\x00";
+    let refused = write_row([1, 2, 0, 0, 0, 1], a, &mut short);
+    let accepted = write_row([1, 2, 0, 0, 0, 1], a, &mut exact);
+    let first = refused.outcome;
+    let second = accepted.outcome;
+    [first, second]
+}
+
+// The pins of every drive: 5 types, 3 numbers in slot B and 3 in slot C, where the type takes the boards; gives how many that is.
+fn pin_rows() -> u8
+    ensures { λ r. ⌜ r ≡ 45 ⌝ }
+{
+    let mut k: u8 = 0;
+    while k < 45 {
+        let model = k / 9;
+        let b = k / 3 % 3;
+        let c = k % 3;
+        if Drive::takes_b(model, b as u32) && Drive::takes_c(model, c as u32) {
+            drive_rows(Drive { model, b, c });
+        }
+        k += 1;
+    }
+    k
+}
+
+// Sum, difference, product, negation, quotient, the conditions, and bits of the first number; gives the sum.
+fn arith_row(a: i32, b: i32) -> i32
+    ensures { λ r. ⌜ r ≡ wrap w32 (a +ℤ b) ⌝ }
+{
+    show_signed(b"arith ", a);
+    show_signed(b" ", b);
+    show_signed(b": sum ", arith::add(a, b));
+    show_signed(b" difference ", arith::sub(a, b));
+    show_signed(b" product ", arith::mul(a, b));
+    show_signed(b" negation ", arith::neg(a));
+    show_quotient(arith::div(a, b));
+    show_conditions(a, b);
+    show_bits(a);
+    io::write_all(STDOUT_FILENO, b"\n");
+    arith::add(a, b)
+}
+
+fn show_quotient(q: Quotient) -> Quotient
+    ensures { λ r. ⌜ r ≡ q ⌝ }
+{
+    match q {
+        Quotient::Value(v) => {
+            show_signed(b" quotient ", v);
+            q
+        }
+        Quotient::ByZero => {
+            io::write_all(STDOUT_FILENO, b" quotient by zero");
+            q
+        }
+    }
+}
+
+// Which of the conditions 0 to 8 hold, of which 8 is none; gives how many it showed.
+fn show_conditions(a: i32, b: i32) -> u8
+    ensures { λ r. ⌜ r ≡ 9 ⌝ }
+{
+    io::write_all(STDOUT_FILENO, b" conditions ");
+    let mut condition: u8 = 0;
+    while condition < 9 {
+        io::print_decimal(STDOUT_FILENO, arith::compare(condition, a, b) as u64);
+        condition += 1;
+    }
+    condition
+}
+
+// Bits 0 and 31, and 32, which there is not.
+fn show_bits(a: i32) -> i32
+    ensures { λ r. ⌜ r ≡ a ⌝ }
+{
+    show(b" bits ", arith::bit(a, 0) as u64);
+    show(b"", arith::bit(a, 31) as u64);
+    show(b"", arith::bit(a, 32) as u64);
+    a
+}
+
+// A number's four bytes, and the numbers of one, two and four bytes read back from them; gives the bytes.
+fn bytes_row(v: i32) -> [u8; 4]
+    ensures { λ r. ⌜ r ≡ leBytes 4 (word w32 v) ⌝ }
+{
+    show_signed(b"bytes ", v);
+    show_bytes(le::put_i32(v))
+}
+
+fn show_bytes(b: [u8; 4]) -> [u8; 4]
+    ensures { λ r. ⌜ r ≡ b ⌝ }
+{
+    show(b": ", b[0] as u64);
+    show(b" ", b[1] as u64);
+    show(b" ", b[2] as u64);
+    show(b" ", b[3] as u64);
+    show(b" read ", le::read_u8([b[0]]) as u64);
+    show(b" ", le::read_u16([b[0], b[1]]) as u64);
+    show(b" ", le::read_u32(b) as u64);
+    show_signed(b" ", le::read_i32(b));
+    io::write_all(STDOUT_FILENO, b"\n");
+    b
+}
+
+// What stands at the front of these bytes, read as a number.
+fn number_row(bytes: &[u8]) -> Number
+    ensures { λ r. ⌜ r ≡ numberAt (now (bytes .entry)) 0 ⌝ }
+{
+    let n = number::read(bytes, 0);
+    match n {
+        Number::Value(v, next) => {
+            show(b"number ", v as u64);
+            show(b" next ", next as u64);
+            io::write_all(STDOUT_FILENO, b"\n");
+            n
+        }
+        Number::EndsEarly => {
+            io::write_all(STDOUT_FILENO, b"number ends early\n");
+            n
+        }
+        Number::NotShortest => {
+            io::write_all(STDOUT_FILENO, b"number not shortest\n");
+            n
+        }
+    }
+}
+
+// What comes of an image's header.
+fn header_outcome(image: &[u8]) -> Outcome
+    ensures { λ r. ⌜ r ≡ headerOf (now (image .entry)) .outcome ⌝ }
+{
+    let r = header_row(image);
+    r.outcome
+}
+
+// The header of an image, and how long its blocks are.
+fn header_row(image: &[u8]) -> HeaderRead
+    ensures { λ r. ⌜ r ≡ headerOf (now (image .entry)) ⌝ }
+{
+    let r = reader::read(image);
+    show_header(r);
+    show(b" blocks ", reader::block_part(image).len() as u64);
+    io::write_all(STDOUT_FILENO, b"\n");
+    r
+}
+
+fn show_header(r: HeaderRead) -> HeaderRead
+    ensures { λ s. ⌜ s ≡ r ⌝ }
+{
+    let outcome = r.outcome;
+    let header = r.header;
+    let d = header.drive;
+    show(b"header refusal ", outcome.number() as u64);
+    show(b" place ", outcome.place() as u64);
+    show(b": format ", header.format as u64);
+    show(b" type ", d.model as u64);
+    show(b" B ", d.b as u64);
+    show(b" C ", d.c as u64);
+    show(b" start ", header.start as u64);
+    show(b" count ", header.count as u64);
+    show(b" at ", r.at as u64);
+    r
+}
+
+// What comes of writing into a buffer of 16 bytes, each AA.
+fn write_outcome(numbers: [u32; 6], blocks: &[u8]) -> Outcome
+    ensures { λ r. ⌜ r ≡ written numbers (length (now (blocks .entry))) 16 .outcome ⌝ }
+{
+    let mut out = [0xaau8; 16];
+    let w = write_row(numbers, blocks, &mut out);
+    w.outcome
+}
+
+// What the writer answers, and the buffer's bytes after it.
+fn write_row(numbers: [u32; 6], blocks: &[u8], out: &mut [u8]) -> Written
+    ensures { λ r. ⌜ r ≡ written numbers (length (now (blocks .entry))) (length (now (out .entry))) ⌝ }
+    ensures { λ _. ⌜ now (out .exit) ≡ outAfter numbers (now (blocks .entry)) (now (out .entry)) ⌝ }
+{
+    let w = writer::write(numbers, blocks, out);
+    show_written(w);
+    show_buffer(out);
+    io::write_all(STDOUT_FILENO, b"\n");
+    w
+}
+
+fn show_written(w: Written) -> Written
+    ensures { λ r. ⌜ r ≡ w ⌝ }
+{
+    let outcome = w.outcome;
+    show(b"write refusal ", outcome.number() as u64);
+    show(b" place ", outcome.place() as u64);
+    show(b" length ", w.length as u64);
+    io::write_all(STDOUT_FILENO, b" out");
+    w
+}
+
+// The bytes of a buffer; gives how many.
+fn show_buffer(out: &[u8]) -> usize
+    ensures { λ r. ⌜ r ≡ length (now (out .entry)) ⌝ }
+{
+    let mut i = 0;
+    while i < out.len() {
+        show_next(out[i]);
+        i += 1;
+    }
+    i
+}
+
+// One more byte of a row.
+fn show_next(v: u8) -> u64
+    ensures { λ r. ⌜ r ≡ v ⌝ }
+{
+    show(b" ", v as u64)
+}
+
+// The three kinds of pins of a drive; gives how many it has of all kinds.
+fn drive_rows(d: Drive) -> u32
+    ensures { λ r. ⌜ r ≡ presentPins d Input 256 + presentPins d OutputWritten 256 + presentPins d OutputRead 256 ⌝ }
+{
+    pin_row(d, PinKind::Input)
+        + pin_row(d, PinKind::OutputWritten)
+        + pin_row(d, PinKind::OutputRead)
+}
+
+// The pins of a kind that a drive has, and with a question mark those that a board would bring; gives how many it has.
+fn pin_row(d: Drive, kind: PinKind) -> u32
+    ensures { λ r. ⌜ r ≡ presentPins d kind 256 ⌝ }
+{
+    show(b"type ", d.model as u64);
+    show(b" B ", d.b as u64);
+    show(b" C ", d.c as u64);
+    show_kind(kind);
+    let n = show_pins(d, kind);
+    show(b": ", n as u64);
+    io::write_all(STDOUT_FILENO, b"\n");
+    n
+}
+
+fn show_kind(kind: PinKind) -> PinKind
+    ensures { λ r. ⌜ r ≡ kind ⌝ }
+{
+    match kind {
+        PinKind::Input => {
+            io::write_all(STDOUT_FILENO, b" inputs");
+            kind
+        }
+        PinKind::OutputWritten => {
+            io::write_all(STDOUT_FILENO, b" written");
+            kind
+        }
+        PinKind::OutputRead => {
+            io::write_all(STDOUT_FILENO, b" read");
+            kind
+        }
+    }
+}
+
+fn show_pins(d: Drive, kind: PinKind) -> u32
+    ensures { λ r. ⌜ r ≡ presentPins d kind 256 ⌝ }
+{
+    let mut n: u32 = 0;
+    let mut pin: u16 = 0;
+    while pin < 256 {
+        n += show_pin(d, kind, pin as u8);
+        pin += 1;
+    }
+    n
+}
+
+// One pin; gives 1 where the drive has it.
+fn show_pin(d: Drive, kind: PinKind, pin: u8) -> u32
+    ensures { λ r. ⌜ r ≡ shownPin d kind pin ⌝ }
+{
+    match d.pin(kind, pin) {
+        Presence::Present => {
+            show_next(pin);
+            1
+        }
+        Presence::BoardMissing => {
+            show_next(pin);
+            io::write_all(STDOUT_FILENO, b"?");
+            0
+        }
+        Presence::Never => 0,
+    }
+}
+
+// Prints text before a signed number.
+fn show_signed(text: &[u8], v: i32) -> i32
+    ensures { λ r. ⌜ r ≡ v ⌝ }
+{
+    io::write_all(STDOUT_FILENO, text);
+    if v < 0 {
+        show(b"-", 4_294_967_296 - (arith::pattern(v) as u64));
+    } else {
+        show(b"", arith::pattern(v) as u64);
+    }
+    v
+}
+
+// Prints text before a number.
+fn show(text: &[u8], v: u64) -> u64
+    ensures { λ r. ⌜ r ≡ v ⌝ }
+{
+    io::write_all(STDOUT_FILENO, text);
+    io::print_decimal(STDOUT_FILENO, v);
+    v
+}
