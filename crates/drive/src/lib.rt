@@ -4,7 +4,7 @@ ghost use Rattle.drive.specs.Types.{cycleOf, takes, takesB, takesC};
 ghost use lib.ListN.{length};
 ghost use Rattle.drive.specs.Pins.{inputs, outputsWritten, homeIn, homeOf, homeNumbered, rowsOf, onBoard, presence, pinOf, refusalOf};
 
-// A drive as the header of an image names it: its type, and the board in each of its two slots.
+// A drive as the header of an image names it: its model (document 01: type), and the numbers of the boards in its slots B and C.
 pub struct Drive {
     pub model: u8,
     pub b: u8,

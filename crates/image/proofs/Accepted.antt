@@ -1,17 +1,17 @@
 -- What a header was whose six numbers were accepted: each stands where the scan was, each row's rule holds, and the header holds them all.
 -- Assumes nothing.
 use mathlib.Core.Path.{_≡_, refl, sym, ap, _∙_}
-use mathlib.Core.Bool.{Bool, true, false, _&&_}
+use mathlib.Core.Bool.{Bool, true, false}
 use Prim.Native.Nat.{ℕ, zero, suc, _<_, _≤_}
 use native.Mathlib.Omega.{arith}
-use lib.Dec.{eqb, ltb, leb}
-use borrow.Author.Tests.{eqb-true, ltb-true, leb-true}
+use lib.Dec.{eqb, ltb}
+use borrow.Author.Tests.{eqb-true, ltb-true}
 use Rattle.drive.specs.Types.{takesB, takesC}
 use Rattle.image.specs.Outcome.{done}
-use Rattle.image.specs.Rows.{noHeader, withFormat, withDrive, withModel, withB, withC, withBlocks, formatRow, typeRow, slotBRow, slotCRow, startRow, countRow, judged}
+use Rattle.image.specs.Rows.{noHeader, withFormat, withDrive, withModel, withB, withC, withBlocks, formatRow, typeRow, slotBRow, slotCRow, startRow, countInRange, countRow, judged}
 use Rattle.image.specs.Scan.{Source, taken, scan}
-use Rattle.image.proofs.Choice.{clash, both, first-way}
-use Rattle.image.proofs.Scanning.{stays, takes}
+use Rattle.image.proofs.Choice.{clash, first-way}
+use Rattle.image.proofs.Scanning.{stays, takes, count-range}
 use Rattle.image.specs.declared.Header.{Header}
 use Rattle.image.specs.declared.number.Number.{Number}
 use Rattle.image.specs.declared.number.Number as number
@@ -113,8 +113,8 @@ module _ (n : ℕ) (source : Source) where
       let k₃ = first-way going (takesC (scan n source 3 .header .drive .model) (value 3)) refl (t₃ .ok) in
       let e₄ = t₃ .row ∙ k₃ .1 in
       let e₅ : scan n source 5 ≡ startRow (scan n source 4) (value 4) (t₄ .next) = t₄ .row in
-      let k₅ = first-way going (ltb 0 (value 5) && leb (value 5) 1500) refl (t₅ .ok) in
-      let r₅ = both (ltb 0 (value 5)) (leb (value 5) 1500) (k₅ .0) in
+      let k₅ = first-way going (countInRange (value 5)) refl (t₅ .ok) in
+      let r₅ = count-range (value 5) (k₅ .0) in
       let q₅ = first-way going (ltb (scan n source 5 .start) (value 5)) refl (sym (done-of (k₅ .1)) ∙ t₅ .ok) in
       let e₆ = t₅ .row ∙ k₅ .1 ∙ q₅ .1 in
       let h₁ : scan n source 1 .header ≡ withFormat (value 0) noHeader = ap (λ (s : Scan). s .header) e₁ in
@@ -135,7 +135,7 @@ module _ (n : ℕ) (source : Source) where
         boardB = sym (ap (λ (g : Header). takesB (g .drive .model) (value 2)) h₂) ∙ k₂ .0;
         boardC = sym (ap (λ (g : Header). takesC (g .drive .model) (value 3)) h₃) ∙ k₃ .0;
         start = let l = ltb-true _ (value 5) (q₅ .0) in omega arith;
-        count = (ltb-true 0 (value 5) (r₅ .0), leb-true (value 5) 1500 (r₅ .1));
+        count = r₅;
         header = h₆;
         numbers = below-six Stood
             (stood 0 t₀ (ap (λ (s : Scan). s .at) e₁))

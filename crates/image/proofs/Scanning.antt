@@ -1,20 +1,21 @@
 -- One number more of a header: what a scan does with it, and how far a scan can come.
 -- Assumes nothing.
 use mathlib.Core.Path.{_≡_}
-use mathlib.Core.Bool.{true, false, _&&_}
+use mathlib.Core.Bool.{true, false}
 use mathlib.Core.List.{List}
 use native.Mathlib.Omega.{arith}
 use lib.ListN.{length, getD}
 use lib.Dec.{eqb, ltb, leb}
+use borrow.Author.Tests.{ltb-true, leb-true}
 use Rattle.drive.specs.Types.{takesB, takesC}
-use Prim.Native.Nat.{ℕ, zero, suc, _+_, _*_, _≤_}
+use Prim.Native.Nat.{ℕ, zero, suc, _+_, _*_, _<_, _≤_}
 use native.Mathlib.Numerals.{add-one}
 use Rattle.image.specs.Outcome.{done}
 use Rattle.image.specs.Number.{numberBytes, numberAt, firstByte, secondByte}
-use Rattle.image.proofs.Choice.{either}
+use Rattle.image.proofs.Choice.{both, either}
 use Rattle.image.proofs.Numbers.{size-most}
 use Rattle.image.specs.Scan.{Source, fromImage, given, taken, more, scan}
-use Rattle.image.specs.Rows.{judged, formatRow, typeRow, slotBRow, slotCRow, countRow}
+use Rattle.image.specs.Rows.{judged, formatRow, typeRow, slotBRow, slotCRow, mostBlocks, countInRange, countRow}
 use Rattle.image.specs.declared.number.Number.{Number}
 use Rattle.image.specs.declared.number.Number as number
 use Rattle.image.specs.declared.reader.Scan.{Scan}
@@ -29,6 +30,13 @@ module _ (n : ℕ) (source : Source) (row : ℕ) (s : Scan) where
   pub takes : done (s .outcome) ≡ true → (x : Number) → source row (s .at) ≡ x → more n source row s ≡ taken n row s x
   unfolding more
   takes h x e = rw (h, e)
+
+-- a count that is in range
+pub count-range : (v : ℕ) → countInRange v ≡ true → (0 < v) × (v ≤ mostBlocks)
+unfolding countInRange
+count-range v h =
+    let r = both (ltb 0 v) (leb v mostBlocks) h in
+    (ltb-true 0 v (r .0), leb-true v mostBlocks (r .1))
 
 -- one row more of a scan
 pub next-row : (n : ℕ) (source : Source) (row : ℕ) (s : Scan) → s ≡ scan n source row → more n source row s ≡ scan n source (row + 1)
@@ -56,7 +64,7 @@ module _ (s : Scan) (v next m : ℕ) (h : next ≤ m) (k : s .at ≤ m) where
   row-near (suc (suc (suc zero))) = either Below (takesC (s .header .drive .model) v) h (omega arith)
   row-near (suc (suc (suc (suc zero)))) = h
   row-near (suc (suc (suc (suc (suc zero))))) =
-      either Below (ltb 0 v && leb v 1500) (either Below (ltb (s .start) v) h (omega arith)) (omega arith)
+      either Below (countInRange v) (either Below (ltb (s .start) v) h (omega arith)) (omega arith)
   row-near (suc (suc (suc (suc (suc (suc r)))))) = k
 
 taken-near : (n row : ℕ) (s : Scan) (x : Number) (m : ℕ) → Near (s .at) x → s .at + 2 ≤ m → taken n row s x .at ≤ m

@@ -1,7 +1,7 @@
 -- The header's numbers, one row for each: what it must be and where it goes. Document 01, "The image" and refusal 3.
 -- Assumes nothing.
 use Prim.Native.Nat.{ℕ}
-use mathlib.Core.Bool.{_&&_, cond}
+use mathlib.Core.Bool.{Bool, _&&_, cond}
 use mathlib.Core.List.{List, [], _∷_}
 use lib.ListN.{getD}
 use lib.Dec.{eqb, ltb, leb}
@@ -74,10 +74,14 @@ slotCRow s v next =
 abbrev pub startRow : Scan → ℕ → ℕ → Scan
 startRow s v next = record { outcome = Done; header = s .header; start = v; startplace = s .at; at = next }
 
+-- 1 to 1500
+unfoldable pub countInRange : ℕ → Bool
+countInRange v = ltb 0 v && leb v mostBlocks
+
 -- the count, then the start, which must be below it
 unfoldable pub countRow : Scan → ℕ → ℕ → Scan
 countRow s v next =
-    cond (ltb 0 v && leb v mostBlocks)
+    cond (countInRange v)
     (cond (ltb (s .start) v) (accepted s (withBlocks (s .start) v (s .header)) next) (stopped (OutOfRange (s .startplace))))
     (outOfRange s)
 

@@ -8,7 +8,7 @@ use drive::Drive;
 ghost use mathlib.Core.Path.{_≡_};
 ghost use Prim.Native.Nat.{_≤_};
 ghost use lib.ListN.{length};
-ghost use Rattle.image.specs.Rows.{noHeader, stopped, accepted, formatRow, typeRow, slotBRow, slotCRow, startRow, countRow, judged};
+ghost use Rattle.image.specs.Rows.{noHeader, stopped, accepted, formatRow, typeRow, slotBRow, slotCRow, startRow, countInRange, countRow, judged};
 ghost use Rattle.image.specs.Scan.{begun, taken, more, fromImage, scan, rowCount, mostHeaderBytes, firstRefusal, lengthOutcome, refusedRead, closed, headerOf, blocksOf};
 
 // The rows: which number of the header it is.
@@ -248,11 +248,9 @@ fn note_start(s: Scan, v: u32, next: usize) -> Scan
 fn judge_count(s: Scan, v: u32, next: usize) -> Scan
     ensures { λ r. ⌜ r ≡ countRow s v next ⌝ }
 {
-    if v == 0 {
-        return stop(Outcome::OutOfRange(s.at));
-    }
-    if v > MOST_BLOCKS {
-        return stop(Outcome::OutOfRange(s.at));
+    let place = s.at;
+    if !count_in_range(v) {
+        return stop(Outcome::OutOfRange(place));
     }
     if s.start >= v {
         return stop(Outcome::OutOfRange(s.startplace));
@@ -261,6 +259,15 @@ fn judge_count(s: Scan, v: u32, next: usize) -> Scan
     header.start = s.start as u16;
     header.count = v as u16;
     accept(s, header, next)
+}
+
+fn count_in_range(v: u32) -> bool
+    ensures { λ r. ⌜ r ≡ countInRange v ⌝ }
+{
+    if v == 0 {
+        return false;
+    }
+    v <= MOST_BLOCKS
 }
 
 // The scan with this header, at the next number's place.

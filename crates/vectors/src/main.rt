@@ -258,10 +258,8 @@ fn bytes_row(v: i32) -> [u8; 4]
 fn show_bytes(b: [u8; 4]) -> [u8; 4]
     ensures { λ r. ⌜ r ≡ b ⌝ }
 {
-    show(b": ", b[0] as u64);
-    show(b" ", b[1] as u64);
-    show(b" ", b[2] as u64);
-    show(b" ", b[3] as u64);
+    io::write_all(STDOUT_FILENO, b":");
+    show_buffer(&b);
     show(b" read ", le::read_u8([b[0]]) as u64);
     show(b" ", le::read_u16([b[0], b[1]]) as u64);
     show(b" ", le::read_u32(b) as u64);
@@ -318,16 +316,34 @@ fn show_header(r: HeaderRead) -> HeaderRead
     let outcome = r.outcome;
     let header = r.header;
     let d = header.drive;
-    show(b"header refusal ", outcome.number() as u64);
-    show(b" place ", outcome.place() as u64);
+    io::write_all(STDOUT_FILENO, b"header ");
+    show_outcome(outcome);
     show(b": format ", header.format as u64);
-    show(b" type ", d.model as u64);
-    show(b" B ", d.b as u64);
-    show(b" C ", d.c as u64);
+    io::write_all(STDOUT_FILENO, b" ");
+    show_drive(d);
     show(b" start ", header.start as u64);
     show(b" count ", header.count as u64);
     show(b" at ", r.at as u64);
     r
+}
+
+// A refusal's number and place.
+fn show_outcome(outcome: Outcome) -> Outcome
+    ensures { λ r. ⌜ r ≡ outcome ⌝ }
+{
+    show(b"refusal ", outcome.number() as u64);
+    show(b" place ", outcome.place() as u64);
+    outcome
+}
+
+// A drive's type and boards.
+fn show_drive(d: Drive) -> Drive
+    ensures { λ r. ⌜ r ≡ d ⌝ }
+{
+    show(b"type ", d.model as u64);
+    show(b" B ", d.b as u64);
+    show(b" C ", d.c as u64);
+    d
 }
 
 // What comes of writing into a buffer of 16 bytes, each AA.
@@ -355,8 +371,8 @@ fn show_written(w: Written) -> Written
     ensures { λ r. ⌜ r ≡ w ⌝ }
 {
     let outcome = w.outcome;
-    show(b"write refusal ", outcome.number() as u64);
-    show(b" place ", outcome.place() as u64);
+    io::write_all(STDOUT_FILENO, b"write ");
+    show_outcome(outcome);
     show(b" length ", w.length as u64);
     io::write_all(STDOUT_FILENO, b" out");
     w
@@ -394,9 +410,7 @@ fn drive_rows(d: Drive) -> u32
 fn pin_row(d: Drive, kind: PinKind) -> u32
     ensures { λ r. ⌜ r ≡ presentPins d kind 256 ⌝ }
 {
-    show(b"type ", d.model as u64);
-    show(b" B ", d.b as u64);
-    show(b" C ", d.c as u64);
+    show_drive(d);
     show_kind(kind);
     let n = show_pins(d, kind);
     show(b": ", n as u64);

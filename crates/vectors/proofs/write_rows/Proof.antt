@@ -3,7 +3,7 @@ use borrow.Author.Needs.{needs}
 use mathlib.Core.Path.{refl}
 use Rattle.drive.specs.Types.{takes}
 use Rattle.image.specs.Number.{numberBytes}
-use Rattle.image.specs.Rows.{judged, formatRow, typeRow, slotBRow, slotCRow, countRow}
+use Rattle.image.specs.Rows.{judged, formatRow, typeRow, slotBRow, slotCRow, countInRange, countRow}
 use Rattle.image.specs.Scan.{firstRefusal, scan, more, taken}
 use Rattle.image.specs.Writer.{written, fitted, writtenWith, roomOutcome}
 use Rattle.vectors.proofs.Rows.{_◂_}
@@ -41,7 +41,7 @@ write-outcome-requires-8 : tie.Need-write-outcome-requires-8
 write-outcome-requires-8 c κs = search needs
 
 returns : tie.Need-returns
-unfolding written fitted writtenWith roomOutcome numberBytes scan more taken judged formatRow typeRow slotBRow slotCRow countRow takes firstRefusal
+unfolding written fitted writtenWith roomOutcome numberBytes scan more taken judged formatRow typeRow slotBRow slotCRow countInRange countRow takes firstRefusal
 returns c =
     let c7 = c .before .before in
     let c6 = c7 .before .before in

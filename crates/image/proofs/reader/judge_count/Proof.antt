@@ -1,56 +1,53 @@
--- `image::reader::judge_count` meets its contract, by its tests. Assumes nothing.
+-- `image::reader::judge_count` meets its contract: the count, then the start; both fit 16 bits. Assumes nothing.
 use borrow.Author.Needs.{needs}
+use mathlib.Core.Path.{sym, _∙_}
 use native.Mathlib.Omega.{arith}
-use borrow.Author.Tests.{lt-ltb, le-ltb, le-leb, lt-leb}
+use borrow.Author.Tests.{lt-ltb, le-ltb, not-true, not-false}
 use Rattle.image.specs.Rows.{countRow}
+use Rattle.image.proofs.Scanning.{count-range}
 use Rattle.image.proofs.reader.judge_count.Statement.{statement}
 use Rattle.image.proofs.reader.judge_count.Tie as tie
+
+count-in-range-requires : tie.Need-count-in-range-requires
+count-in-range-requires c κs = search needs
 
 stop-requires : tie.Need-stop-requires
 stop-requires c κs = search needs
 
 returns : tie.Need-returns
 unfolding countRow
-returns c = let v = c .before .before .args .v in rw (le-ltb 0 v (omega arith)) (c .stop .ensures)
+returns c = rw (sym (c .before .before .count-in-range .ensures) ∙ not-true (c .before .before .count-in-range .result) (c .before .if1 .taken)) (c .stop .ensures)
 
 stop-requires-2 : tie.Need-stop-requires-2
 stop-requires-2 c κs = search needs
 
 returns-2 : tie.Need-returns-2
 unfolding countRow
-returns-2 c = let v = c .before .before .before .args .v in rw (lt-ltb 0 v (omega arith), lt-leb v 1500 (omega arith)) (c .stop2 .ensures)
-
-stop-requires-3 : tie.Need-stop-requires-3
-stop-requires-3 c κs = search needs
-
-returns-3 : tie.Need-returns-3
-unfolding countRow
-returns-3 c = let v = c .before .before .before .before .before .args .v in rw (lt-ltb 0 v (omega arith), le-leb v 1500 (omega arith), le-ltb _ v (c .before .if3 .taken)) (c .stop3 .ensures)
+returns-2 c = rw (sym (c .before .before .before .before .count-in-range .ensures) ∙ not-false (c .before .before .before .before .count-in-range .result) (c .before .before .before .if1 .left), le-ltb _ _ (c .before .if2 .taken)) (c .stop2 .ensures)
 
 cast-header : tie.Need-cast-header
-cast-header c = search needs
+cast-header c = let r = count-range _ (sym (c .before .before .before .before .before .count-in-range .ensures) ∙ not-false (c .before .before .before .before .before .count-in-range .result) (c .before .before .before .before .if1 .left)) .1 in let l = c .before .before .if2 .left in omega arith
 
 cast-header-2 : tie.Need-cast-header-2
-cast-header-2 c = search needs
+cast-header-2 c = let r = count-range _ (sym (c .before .before .before .before .before .count-in-range .ensures) ∙ not-false (c .before .before .before .before .before .count-in-range .result) (c .before .before .before .before .if1 .left)) .1 in let l = c .before .before .if2 .left in omega arith
 
 accept-requires : tie.Need-accept-requires
 accept-requires c κs = search needs
 
-returns-4 : tie.Need-returns-4
+returns-3 : tie.Need-returns-3
 unfolding countRow
-returns-4 c = let v = c .before .before .before .before .before .before .before .args .v in rw (lt-ltb 0 v (omega arith), le-leb v 1500 (omega arith), lt-ltb _ v (c .before .before .before .if3 .left)) (c .accept .ensures)
+returns-3 c = rw (sym (c .before .before .before .before .before .before .count-in-range .ensures) ∙ not-false (c .before .before .before .before .before .before .count-in-range .result) (c .before .before .before .before .before .if1 .left), lt-ltb _ _ (c .before .before .before .if2 .left)) (c .accept .ensures)
 
 pub judge-count-spec : {M : Type 1} → statement M
 judge-count-spec =
     tie.close
     (tie.spec
+    count-in-range-requires
     stop-requires
     returns
     stop-requires-2
     returns-2
-    stop-requires-3
-    returns-3
     cast-header
     cast-header-2
     accept-requires
-    returns-4)
+    returns-3)
