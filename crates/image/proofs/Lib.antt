@@ -3,10 +3,6 @@ pub mod Numbers
 pub mod Scanning
 pub mod Accepted
 pub mod Read
-pub mod Stores
-pub mod Written
-pub mod Judged
 pub mod Stands
 pub mod NumberLaws
-pub mod RoundTrip
 pub mod HeaderLaws

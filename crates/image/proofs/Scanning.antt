@@ -11,10 +11,9 @@ use Rattle.drive.specs.Types.{takesB, takesC}
 use Prim.Native.Nat.{ℕ, zero, suc, _+_, _*_, _<_, _≤_}
 use native.Mathlib.Numerals.{add-one}
 use Rattle.image.specs.Outcome.{done}
-use Rattle.image.specs.Number.{numberBytes, numberAt, firstByte, secondByte}
+use Rattle.image.specs.Number.{numberAt, firstByte, secondByte}
 use Rattle.image.proofs.Choice.{both, either}
-use Rattle.image.proofs.Numbers.{size-most}
-use Rattle.image.specs.Scan.{Source, fromImage, given, taken, more, scan}
+use Rattle.image.specs.Scan.{Source, fromImage, taken, more, scan}
 use Rattle.image.specs.Rows.{judged, formatRow, typeRow, slotBRow, slotCRow, mostBlocks, countInRange, countRow}
 use Rattle.image.specs.declared.number.Number.{Number}
 use Rattle.image.specs.declared.number.Number as number
@@ -82,7 +81,7 @@ unfolding scan
 at-most n source near zero = omega arith
 at-most n source near (suc k) = more-near n source k (scan n source k) (2 * suc k) near (let e = at-most n source near k in omega arith)
 
--- both kinds of numbers are near: those of an image, and those that are given
+-- the numbers of an image are near
 pub image-near : (s : List ℕ) (row at : ℕ) → Near at (fromImage s row at)
 unfolding numberAt firstByte secondByte
 image-near s row at =
@@ -92,7 +91,3 @@ image-near s row at =
     (either (Near at) (eqb (getD s (at + 1) 0) 0) tt (either (Near at) (ltb (getD s (at + 1) 0) 128) (omega arith) tt))
     tt))
     tt
-
-pub given-near : (numbers : List ℕ) (row at : ℕ) → Near at (given numbers row at)
-unfolding numberBytes
-given-near numbers row at = let e = size-most (getD numbers row 0) in omega arith

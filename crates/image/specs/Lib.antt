@@ -2,4 +2,3 @@ pub mod Outcome
 pub mod Number
 pub mod Rows
 pub mod Scan
-pub mod Writer

@@ -3,10 +3,10 @@
 use Prim.Native.Nat.{ℕ, zero, suc, _+_, _*_}
 use mathlib.Core.Bool.{cond}
 use mathlib.Core.List.{List, []}
-use lib.ListN.{length, getD, drop}
+use lib.ListN.{length, drop}
 use lib.Dec.{ltb}
 use Rattle.image.specs.Outcome.{done}
-use Rattle.image.specs.Number.{numberBytes, numberAt}
+use Rattle.image.specs.Number.{numberAt}
 use Rattle.image.specs.Rows.{noHeader, stopped, judged}
 use Rattle.image.specs.declared.Outcome.{Outcome}
 use Rattle.image.specs.declared.Outcome.the-variants.{Done, EndsEarly, NotShortest, LeftOver}
@@ -19,17 +19,9 @@ use Rattle.image.specs.declared.reader.HeaderRead.{HeaderRead}
 abbrev pub Source : Type 0
 Source = ℕ → ℕ → Number
 
--- the reader looks into the image
+-- the reader looks into the image; the writer has its own source
 abbrev pub fromImage : List ℕ → Source
 fromImage image row at = numberAt image at
-
--- a number v that stands at a place, its bytes before the next place
-abbrev pub standing : ℕ → ℕ → Number
-standing v at = number.Number.Value v (at + length (numberBytes v))
-
--- the writer has the numbers given
-abbrev pub given : List ℕ → Source
-given numbers row at = standing (getD numbers row 0) at
 
 -- no number yet: nothing refused, all else 0
 abbrev pub begun : Scan

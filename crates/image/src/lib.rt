@@ -6,8 +6,6 @@ ghost use Rattle.image.specs.Outcome.{numberOf, placeOf, done};
 
 pub mod number;
 pub mod reader;
-pub mod writer;
-
 // What reading or writing an image comes to: done, or a refusal with its place.
 pub enum Outcome {
     Done,

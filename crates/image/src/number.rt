@@ -1,10 +1,8 @@
 // The numbers of an image (document 01, "The image"): seven bits to a byte, one or two bytes, always the fewest. The value is summed
 // in 16 bits; its place keeps the width of the image's length.
 ghost use mathlib.Core.Path.{_≡_};
-ghost use Prim.Native.Nat.{_+_, _<_, _≤_};
-ghost use lib.ListN.{length};
-ghost use Rattle.image.specs.Number.{numberLimit, numberBytes, numberAt};
-ghost use lib.Seq.{sets};
+ghost use Prim.Native.Nat.{_+_, _<_};
+ghost use Rattle.image.specs.Number.{numberAt};
 
 // What stands at a place: a number with the place behind it; too few bytes; or bytes that are not the shortest form of a
 // number of two bytes (a second byte that is 0 or has its top bit set).
@@ -36,30 +34,6 @@ pub fn read(image: &[u8], at: usize) -> Number
         return Number::NotShortest;
     }
     Number::Value(low - 128 + 128 * high, at + 2)
-}
-
-// How many bytes a number takes; one that has no form counts as two, which is where the writer places what would follow it.
-pub fn size(v: u32) -> usize
-    ensures { λ r. ⌜ r ≡ length (numberBytes v) ⌝ }
-{
-    if v < 128 {
-        return 1;
-    }
-    2
-}
-
-// Writes a number at a place, and gives the place behind it.
-pub(crate) fn put(out: &mut [u8], at: usize, v: u32) -> usize
-    requires { ⌜ (v < numberLimit) × (at + length (numberBytes v) ≤ length (now out)) ⌝ }
-    ensures { λ r. ⌜ (r ≡ at + length (numberBytes v)) × (now (out .exit) ≡ sets (now (out .entry)) at (numberBytes v)) ⌝ }
-{
-    if v < 128 {
-        out[at] = v as u8;
-        return at + 1;
-    }
-    out[at] = (128 + v % 128) as u8;
-    out[at + 1] = (v / 128) as u8;
-    at + 2
 }
 
 fn wide(x: u8) -> u16

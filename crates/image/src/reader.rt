@@ -142,7 +142,7 @@ fn judge_length(at: usize, count: u16, length: usize) -> Outcome
 }
 
 // Of two judgements, one after the other, the refusal that comes first.
-pub(crate) fn first_refusal(a: Outcome, b: Outcome) -> Outcome
+pub fn first_refusal(a: Outcome, b: Outcome) -> Outcome
     ensures { λ r. ⌜ r ≡ firstRefusal a b ⌝ }
 {
     if a.is_done() {
@@ -163,14 +163,14 @@ fn refuse(outcome: Outcome) -> HeaderRead
 }
 
 // No number yet.
-pub(crate) fn begin() -> Scan
+pub fn begin() -> Scan
     ensures { λ r. ⌜ r ≡ begun ⌝ }
 {
     stop(Outcome::Done)
 }
 
 // A number v of the header, which stands at the scan's place, judged by its row.
-pub(crate) fn judge(row: u8, s: Scan, v: u32, next: usize) -> Scan
+pub fn judge(row: u8, s: Scan, v: u32, next: usize) -> Scan
     ensures { λ r. ⌜ r ≡ judged row s v next ⌝ }
 {
     match row {

@@ -5,7 +5,7 @@ use Rattle.drive.specs.Types.{takes}
 use Rattle.image.specs.Number.{numberBytes}
 use Rattle.image.specs.Rows.{judged, formatRow, typeRow, slotBRow, slotCRow, countInRange, countRow}
 use Rattle.image.specs.Scan.{firstRefusal, scan, more, taken}
-use Rattle.image.specs.Writer.{written, fitted, writtenWith, roomOutcome}
+use Rattle.writer.specs.Writer.{written, fitted, writtenWith, roomOutcome}
 use Rattle.vectors.proofs.Rows.{_◂_}
 use Rattle.vectors.proofs.write_rows.Statement.{statement}
 use Rattle.vectors.proofs.write_rows.Tie as tie

@@ -5,14 +5,24 @@ use mathlib.Core.Bool.{cond}
 use mathlib.Core.List.{List, [], _∷_, _++_}
 use lib.ListN.{length, getD, drop}
 use lib.Dec.{ltb}
 use Rattle.image.specs.Outcome.{done}
 use Rattle.image.specs.Number.{numberLimit, numberBytes}
-use Rattle.image.specs.Scan.{given, scan, firstRefusal, rowCount, blockLength}
+use Rattle.image.specs.Scan.{Source, scan, firstRefusal, rowCount, blockLength}
+use Rattle.image.specs.declared.number.Number.{Number}
+use Rattle.image.specs.declared.number.Number.the-variants.{Value}
 use Rattle.image.specs.declared.Outcome.{Outcome}
 use Rattle.image.specs.declared.Outcome.the-variants.{Done, EndsEarly, LeftOver, NoRoom}
 use Rattle.image.specs.declared.Header.{Header}
 use Rattle.image.specs.declared.reader.Scan.{Scan}
-use Rattle.image.specs.declared.writer.Written.{Written}
+use Rattle.writer.specs.declared.Written.{Written}
+
+-- a number v that stands at a place, its bytes before the next place
+abbrev pub standing : ℕ → ℕ → Number
+standing v at = Value v (at + length (numberBytes v))
+
+-- the writer has the numbers given
+abbrev pub given : List ℕ → Source
+given numbers row at = standing (getD numbers row 0) at
 
 -- the six numbers of a header, as they stand in an image
 abbrev pub numbersOf : Header → List ℕ

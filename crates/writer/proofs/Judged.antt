@@ -10,19 +10,19 @@ use lib.Dec.{ltb}
 use borrow.Author.Tests.{ltb-false, le-ltb}
 use Rattle.drive.specs.Types.{slotB, slotC}
 use Rattle.drive.proofs.Laws.{board-small}
 use Rattle.image.specs.Outcome.{done}
-use Rattle.image.specs.Scan.{given, scan, firstRefusal}
-use Rattle.image.specs.Writer.{HaveForms, firstNumbers, imageOf, overlaid, roomOutcome, writtenWith, fitted, written, outAfter}
+use Rattle.image.specs.Scan.{scan, firstRefusal}
+use Rattle.writer.specs.Writer.{given, HaveForms, firstNumbers, imageOf, overlaid, roomOutcome, writtenWith, fitted, written, outAfter}
 use Rattle.image.specs.declared.Outcome.the-variants.{Done}
 use Rattle.image.specs.declared.Outcome.{Outcome}
 use Rattle.image.specs.declared.number.Number.{Number}
 use Rattle.image.specs.declared.number.Number as number
 use Rattle.image.specs.declared.reader.Scan.{Scan}
-use Rattle.image.specs.declared.writer.Written.{Written}
+use Rattle.writer.specs.declared.Written.{Written}
 use Rattle.image.proofs.Choice.{clash, other-way}
 use Rattle.image.proofs.Accepted.{place, Accepted, accepted-header, below-six}
 use Rattle.image.proofs.Read.{neither, both-pass}
-use Rattle.image.proofs.Written.{one-more, image-length}
+use Rattle.writer.proofs.HeaderBytes.{one-more, image-length}
 
 next-of : {v w a b : ℕ} → number.Number.Value v a ≡ number.Number.Value w b → a ≡ b
 next-of e = cc

@@ -1,13 +1,13 @@
--- `image::number::put` meets its contract, by the two forms of a number: the stores of each are those of `sets`.
+-- `writer::put` meets its contract, by the two forms of a number: the stores of each are those of `sets`.
 -- Assumes nothing.
 use borrow.Author.Needs.{needs}
 use mathlib.Core.Path.{refl, ap}
 use native.Mathlib.Omega.{arith}
 use native.Mathlib.Numerals.{add-one}
 use lib.ListN.{length, length-set}
 use Rattle.image.proofs.Numbers.{one, two}
-use Rattle.image.proofs.number.put.Statement.{statement}
-use Rattle.image.proofs.number.put.Tie as tie
+use Rattle.writer.proofs.put.Statement.{statement}
+use Rattle.writer.proofs.put.Tie as tie
 
 cast-out : tie.Need-cast-out
 cast-out c = search needs

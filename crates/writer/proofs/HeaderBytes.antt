@@ -7,11 +7,13 @@ use native.Mathlib.Numerals.{add-one}
 use mathlib.Core.List.{List, _++_}
 use lib.ListN.{length, getD, length-append}
 use lib.Seq.{sets}
 use Rattle.image.specs.Number.{numberBytes}
-use Rattle.image.specs.Scan.{standing, given, more}
-use Rattle.image.specs.Writer.{firstNumbers, imageOf, overlaid}
+use Rattle.image.specs.Scan.{more}
+use Rattle.image.proofs.Scanning.{Near}
+use Rattle.image.proofs.Numbers.{size-most}
+use Rattle.writer.specs.Writer.{standing, given, firstNumbers, imageOf, overlaid}
 use Rattle.image.specs.declared.reader.Scan.{Scan}
-use Rattle.image.proofs.Stores.{next-run, from-front}
+use Rattle.writer.proofs.Stores.{next-run, from-front}
 
 -- a number that is given is the one of its row
 pub same-number : (numbers : List ℕ) (row : ℕ) (s : Scan) → more 0 (λ k. standing (getD numbers row 0)) row s ≡ more 0 (given numbers) row s
@@ -57,3 +59,8 @@ module _ (numbers : List ℕ) where
   pub image-length : (blocks : List ℕ) → length (imageOf numbers blocks) ≡ length (firstNumbers numbers 6) + length blocks
   unfolding imageOf
   image-length blocks = length-append (firstNumbers numbers 6) blocks
+
+-- the numbers that are given are near too
+pub given-near : (numbers : List ℕ) (row at : ℕ) → Near at (given numbers row at)
+unfolding numberBytes
+given-near numbers row at = let e = size-most (getD numbers row 0) in omega arith

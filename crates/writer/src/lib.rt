@@ -1,15 +1,15 @@
 // The image writer: document 01, "Refused because of the input", its last paragraph. It judges the header's numbers as the reader
 // does, then the length of the blocks (1, 4), then the room (14); it does not judge blocks.
-use crate::Outcome;
-use crate::number;
-use crate::reader;
-use crate::reader::Scan;
+use image::Outcome;
+use image::reader;
+use image::reader::Scan;
 ghost use mathlib.Core.Path.{_≡_};
-ghost use Prim.Native.Nat.{_≤_};
+ghost use Prim.Native.Nat.{_+_, _<_, _≤_};
 ghost use lib.ListN.{length};
 ghost use lib.Seq.{sets};
-ghost use Rattle.image.specs.Scan.{standing, given, more, scan, rowCount, mostHeaderBytes};
-ghost use Rattle.image.specs.Writer.{HaveForms, roomOutcome, notWritten, fitted, written, firstNumbers, imageOf, overlaid, outAfter};
+ghost use Rattle.image.specs.Number.{numberLimit, numberBytes};
+ghost use Rattle.image.specs.Scan.{more, scan, rowCount, mostHeaderBytes};
+ghost use Rattle.writer.specs.Writer.{standing, given, HaveForms, roomOutcome, notWritten, fitted, written, firstNumbers, imageOf, overlaid, outAfter};
 
 // What writing came to: the outcome, and the length of the image, 0 when refused.
 pub struct Written {
@@ -55,7 +55,7 @@ fn judge_row(s: Scan, row: u8, v: u32) -> Scan
     if !outcome.is_done() {
         return s;
     }
-    let next = s.at + number::size(v);
+    let next = s.at + size(v);
     reader::judge(row, s, v, next)
 }
 
@@ -121,8 +121,32 @@ fn put_numbers(numbers: [u32; 6], out: &mut [u8]) -> usize
     let mut at = 0;
     let mut row: u8 = 0;
     while row < reader::ROWS {
-        at = number::put(out, at, numbers[row as usize]);
+        at = put(out, at, numbers[row as usize]);
         row += 1;
     }
     at
+}
+
+// How many bytes a number takes; one that has no form counts as two, which is where the writer places what would follow it.
+fn size(v: u32) -> usize
+    ensures { λ r. ⌜ r ≡ length (numberBytes v) ⌝ }
+{
+    if v < 128 {
+        return 1;
+    }
+    2
+}
+
+// Writes a number at a place, and gives the place behind it.
+fn put(out: &mut [u8], at: usize, v: u32) -> usize
+    requires { ⌜ (v < numberLimit) × (at + length (numberBytes v) ≤ length (now out)) ⌝ }
+    ensures { λ r. ⌜ (r ≡ at + length (numberBytes v)) × (now (out .exit) ≡ sets (now (out .entry)) at (numberBytes v)) ⌝ }
+{
+    if v < 128 {
+        out[at] = v as u8;
+        return at + 1;
+    }
+    out[at] = (128 + v % 128) as u8;
+    out[at + 1] = (v / 128) as u8;
+    at + 2
 }

@@ -1,4 +1,4 @@
--- `image::writer::write` meets its contract: a refusal comes before any store, and an image that is written has room.
+-- `writer::write` meets its contract: a refusal comes before any store, and an image that is written has room.
 -- Assumes nothing.
 use borrow.Author.Needs.{needs}
 use mathlib.Core.Path.{_≡_, ap, _∙_}
@@ -6,13 +6,13 @@ use mathlib.Core.Bool.{true, false}
 use denote.Ref.{now}
 use lib.ListN.{length}
 use borrow.Author.Tests.{not-true, not-false}
-use Rattle.image.specs.Scan.{given}
-use Rattle.image.specs.Writer.{fitted, written}
+use Rattle.writer.specs.Writer.{given, fitted, written}
 use Rattle.image.specs.declared.reader.Scan.{Scan}
-use Rattle.image.proofs.Scanning.{at-most, given-near}
-use Rattle.image.proofs.Judged.{small-numbers, written-fine, has-room, answered, left-alone, put-there}
-use Rattle.image.proofs.writer.write.Statement.{statement}
-use Rattle.image.proofs.writer.write.Tie as tie
+use Rattle.image.proofs.Scanning.{at-most}
+use Rattle.writer.proofs.HeaderBytes.{given-near}
+use Rattle.writer.proofs.Judged.{small-numbers, written-fine, has-room, answered, left-alone, put-there}
+use Rattle.writer.proofs.write.Statement.{statement}
+use Rattle.writer.proofs.write.Tie as tie
 
 judge-rows-requires : tie.Need-judge-rows-requires
 judge-rows-requires c κs = search needs

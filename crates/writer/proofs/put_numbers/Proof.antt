@@ -1,14 +1,14 @@
--- `image::writer::put_numbers` meets its contract. The loop's invariant: the numbers passed stand at the front. Assumes nothing.
+-- `writer::put_numbers` meets its contract. The loop's invariant: the numbers passed stand at the front. Assumes nothing.
 use mathlib.Core.Path.{_≡_, refl, ap, _∙_}
 use Prim.Native.Nat.{_≤_, _<_, _-_}
 use native.Mathlib.Omega.{arith}
 use native.Mathlib.Numerals.{add-one}
 use lib.ListN.{length}
 use lib.Seq.{sets, length-sets}
-use Rattle.image.specs.Writer.{firstNumbers}
-use Rattle.image.proofs.Written.{one-more, room, stored}
-use Rattle.image.proofs.writer.put_numbers.Statement.{statement}
-use Rattle.image.proofs.writer.put_numbers.Tie as tie
+use Rattle.writer.specs.Writer.{firstNumbers}
+use Rattle.writer.proofs.HeaderBytes.{one-more, room, stored}
+use Rattle.writer.proofs.put_numbers.Statement.{statement}
+use Rattle.writer.proofs.put_numbers.Tie as tie
 
 abbrev Inv-loop : tie.InvT-loop
 Inv-loop out₀ numbers at₀ row₀ out at row = (at ≡ length (firstNumbers numbers row)) × (out ≡ sets out₀ 0 (firstNumbers numbers row)) × (row ≤ 6)

@@ -1,9 +1,9 @@
--- `image::writer::judge_room` meets its contract, by its tests. Assumes nothing.
+-- `writer::judge_room` meets its contract, by its tests. Assumes nothing.
 use borrow.Author.Needs.{needs}
 use borrow.Author.Tests.{lt-ltb, le-ltb}
-use Rattle.image.specs.Writer.{roomOutcome}
-use Rattle.image.proofs.writer.judge_room.Statement.{statement}
-use Rattle.image.proofs.writer.judge_room.Tie as tie
+use Rattle.writer.specs.Writer.{roomOutcome}
+use Rattle.writer.proofs.judge_room.Statement.{statement}
+use Rattle.writer.proofs.judge_room.Tie as tie
 
 mul-whole : tie.Need-mul-whole
 mul-whole c = search needs

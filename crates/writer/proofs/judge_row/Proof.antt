@@ -1,15 +1,16 @@
--- `image::writer::judge_row` meets its contract: a refusal stays, else the number is judged where it would stand. Assumes nothing.
+-- `writer::judge_row` meets its contract: a refusal stays, else the number is judged where it would stand. Assumes nothing.
 use borrow.Author.Needs.{needs}
 use mathlib.Core.Path.{refl, sym, ap, _∙_}
 use Prim.Native.Nat.{ℕ, _+_}
 use native.Mathlib.Omega.{arith}
 use borrow.Author.Tests.{not-true, not-false}
+use Rattle.writer.specs.Writer.{standing}
 use Rattle.image.specs.Rows.{judged}
-use Rattle.image.specs.Scan.{standing, taken}
+use Rattle.image.specs.Scan.{taken}
 use Rattle.image.proofs.Numbers.{size-most}
 use Rattle.image.proofs.Scanning.{stays, takes}
-use Rattle.image.proofs.writer.judge_row.Statement.{statement}
-use Rattle.image.proofs.writer.judge_row.Tie as tie
+use Rattle.writer.proofs.judge_row.Statement.{statement}
+use Rattle.writer.proofs.judge_row.Tie as tie
 
 is-done-requires : tie.Need-is-done-requires
 is-done-requires c κs = search needs

@@ -1,16 +1,16 @@
--- `image::writer::fit` meets its contract: the refusal of the numbers comes first; blocks that fit the room are counted without overflow.
+-- `writer::fit` meets its contract: the refusal of the numbers comes first; blocks that fit the room are counted without overflow.
 -- Assumes nothing.
 use borrow.Author.Needs.{needs}
 use mathlib.Core.Path.{sym, ap, _∙_}
 use native.Mathlib.Omega.{arith}
 use borrow.Author.Tests.{not-true, not-false}
 use Rattle.image.specs.Outcome.{done}
 use Rattle.image.specs.Scan.{firstRefusal}
-use Rattle.image.specs.Writer.{roomOutcome, writtenWith, fitted}
+use Rattle.writer.specs.Writer.{roomOutcome, writtenWith, fitted}
 use Rattle.image.proofs.Read.{neither}
-use Rattle.image.proofs.Judged.{room-right}
-use Rattle.image.proofs.writer.fit.Statement.{statement}
-use Rattle.image.proofs.writer.fit.Tie as tie
+use Rattle.writer.proofs.Judged.{room-right}
+use Rattle.writer.proofs.fit.Statement.{statement}
+use Rattle.writer.proofs.fit.Tie as tie
 
 judge-room-requires : tie.Need-judge-room-requires
 judge-room-requires c κs = search needs

@@ -1,14 +1,15 @@
--- `image::writer::judge_rows` meets its contract. The loop's invariant: the scan is that of the numbers passed. Assumes nothing.
+-- `writer::judge_rows` meets its contract. The loop's invariant: the scan is that of the numbers passed. Assumes nothing.
 use borrow.Author.Needs.{needs}
 use mathlib.Core.Path.{_≡_, ap, _∙_}
 use Prim.Native.Nat.{_≤_, _-_}
 use native.Mathlib.Omega.{arith}
-use Rattle.image.specs.Scan.{given, scan}
+use Rattle.writer.specs.Writer.{given}
+use Rattle.image.specs.Scan.{scan}
 use Rattle.image.specs.declared.reader.Scan.{Scan}
-use Rattle.image.proofs.Scanning.{at-most, given-near, next-row}
-use Rattle.image.proofs.Written.{same-number}
-use Rattle.image.proofs.writer.judge_rows.Statement.{statement}
-use Rattle.image.proofs.writer.judge_rows.Tie as tie
+use Rattle.image.proofs.Scanning.{at-most, next-row}
+use Rattle.writer.proofs.HeaderBytes.{given-near, same-number}
+use Rattle.writer.proofs.judge_rows.Statement.{statement}
+use Rattle.writer.proofs.judge_rows.Tie as tie
 
 abbrev Inv-loop : tie.InvT-loop
 Inv-loop numbers s₀ row₀ s row = (s ≡ scan 0 (given numbers) row) × (row ≤ 6)

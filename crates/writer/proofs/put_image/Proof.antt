@@ -1,15 +1,15 @@
--- `image::writer::put_image` meets its contract: the numbers, and the blocks right behind them, are one run of stores from the front.
+-- `writer::put_image` meets its contract: the numbers, and the blocks right behind them, are one run of stores from the front.
 -- Assumes nothing.
 use borrow.Author.Needs.{needs}
 use mathlib.Core.Path.{_≡_, ap, _∙_}
 use native.Mathlib.Omega.{arith}
 use lib.ListN.{length, length-take, length-drop}
 use lib.Seq.{length-sets}
-use Rattle.image.specs.Writer.{firstNumbers}
-use Rattle.image.proofs.Stores.{filled}
-use Rattle.image.proofs.Written.{image-length, whole}
-use Rattle.image.proofs.writer.put_image.Statement.{statement}
-use Rattle.image.proofs.writer.put_image.Tie as tie
+use Rattle.writer.specs.Writer.{firstNumbers}
+use Rattle.writer.proofs.Stores.{filled}
+use Rattle.writer.proofs.HeaderBytes.{image-length, whole}
+use Rattle.writer.proofs.put_image.Statement.{statement}
+use Rattle.writer.proofs.put_image.Tie as tie
 
 put-numbers-requires : tie.Need-put-numbers-requires
 put-numbers-requires c κs =

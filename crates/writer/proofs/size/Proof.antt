@@ -1,8 +1,8 @@
--- `image::number::size` meets its contract, by the two forms of a number.
+-- `writer::size` meets its contract, by the two forms of a number.
 -- Assumes nothing.
 use Rattle.image.proofs.Numbers.{one, two}
-use Rattle.image.proofs.number.size.Statement.{statement}
-use Rattle.image.proofs.number.size.Tie as tie
+use Rattle.writer.proofs.size.Statement.{statement}
+use Rattle.writer.proofs.size.Tie as tie
 
 returns : tie.Need-returns
 returns c = rw (one (c .before .args .v) (c .if1 .taken))

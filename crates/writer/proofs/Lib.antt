@@ -1,0 +1,4 @@
+pub mod Stores
+pub mod HeaderBytes
+pub mod Judged
+pub mod RoundTrip
