@@ -5,6 +5,8 @@ use mathlib.Core.Bool.{true, false}
 use mathlib.Core.List.{List}
 use native.Mathlib.Omega.{arith}
 use lib.ListN.{length, getD}
+use mir.Syntax.{w16}
+use mir.Val.{Fits}
 use lib.Dec.{eqb, ltb, leb}
 use borrow.Author.Tests.{ltb-true, leb-true}
 use Rattle.drive.specs.Types.{takesB, takesC}
@@ -36,6 +38,10 @@ unfolding countInRange
 count-range v h =
     let r = both (ltb 0 v) (leb v mostBlocks) h in
     (ltb-true 0 v (r .0), leb-true v mostBlocks (r .1))
+
+-- a start below it fits 16 bits
+pub start-fits : (start v : ℕ) → start < v → v ≤ mostBlocks → Fits w16 start
+start-fits start v h k = record { fits = omega arith }
 
 -- one row more of a scan
 pub next-row : (n : ℕ) (source : Source) (row : ℕ) (s : Scan) → s ≡ scan n source row → more n source row s ≡ scan n source (row + 1)

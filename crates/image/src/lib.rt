@@ -1,11 +1,12 @@
 // The program image (document 01, "The image"): a header of six numbers and the blocks, and no byte more.
-// number.rt reads and writes one number, reader.rt reads and judges the header, writer.rt writes an image.
+// number.rt reads one number, reader.rt reads and judges the header; the crate writer writes an image.
 use drive::Drive;
 ghost use mathlib.Core.Path.{_≡_};
 ghost use Rattle.image.specs.Outcome.{numberOf, placeOf, done};
 
 pub mod number;
 pub mod reader;
+
 // What reading or writing an image comes to: done, or a refusal with its place.
 pub enum Outcome {
     Done,

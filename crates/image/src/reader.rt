@@ -249,11 +249,14 @@ fn judge_count(s: Scan, v: u32, next: usize) -> Scan
     ensures { λ r. ⌜ r ≡ countRow s v next ⌝ }
 {
     let place = s.at;
-    if !count_in_range(v) {
+    let start_place = s.startplace;
+    let count_ok = count_in_range(v);
+    let start_ok = s.start < v;
+    if !count_ok {
         return stop(Outcome::OutOfRange(place));
     }
-    if s.start >= v {
-        return stop(Outcome::OutOfRange(s.startplace));
+    if !start_ok {
+        return stop(Outcome::OutOfRange(start_place));
     }
     let mut header = s.header;
     header.start = s.start as u16;
