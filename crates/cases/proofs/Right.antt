@@ -1,0 +1,68 @@
+-- Asking every question of the table gives its answer: one computation over the whole table, by the verdict's fast twin (crates/walk/proofs/Fast.antt).
+-- Assumes nothing.
+use mathlib.Core.Path.{_≡_, refl, ap, sym, _∙_}
+use mathlib.Core.Logic.{inl, inr}
+use mathlib.Core.List.{List, [], _∷_, map, tail}
+use lib.ListN.{getD}
+use Rattle.drive.specs.Types as types
+use Rattle.drive.specs.Pins as pins
+use Rattle.image.specs.Number as number
+use Rattle.image.specs.Rows as header
+use Rattle.image.specs.Scan as scan
+use Rattle.rows.specs.Rows as rows
+use Rattle.command.specs.Operands as operands
+use Rattle.command.specs.Judged as judged
+use Rattle.point.specs.Flow as flow
+use Rattle.point.specs.Fault as fault
+use Rattle.walk.specs.Program as program
+use Rattle.walk.specs.Index.{marksLength, indexOf, pointAt}
+use Rattle.walk.specs.Successors as successors
+use Rattle.walk.specs.Graph.{In, least}
+use Rattle.walk.specs.Verdict as verdict
+use Rattle.walk.proofs.Fast.{closureFast, walksFast, blocksFast, readFast, verdictFast, fast-is}
+use Rattle.cases.specs.Table.{Question, Answer, answerOf, ask, Row, table}
+
+-- the answer by the fast twin
+abbrev quick : Question → Answer
+quick (Question.verdict bytes) = answerOf (verdictFast bytes marksLength)
+quick (Question.number bytes) = ask (Question.number bytes)
+
+quick-is : (q : Question) → quick q ≡ ask q
+quick-is (Question.verdict bytes) = ap answerOf (fast-is bytes marksLength)
+quick-is (Question.number bytes) = refl
+
+-- the answers that are given, and those that the rows say
+abbrev given : List Row → List Answer
+given = map (λ r. quick (r .question))
+
+abbrev expected : List Row → List Answer
+expected = map (λ r. r .answer)
+
+computed : given table ≡ expected table
+unfolding table
+    types.takes
+    pins.outputsWritten pins.homeIn pins.homeOf pins.onBoard pins.presence pins.pinOf pins.refusalOf
+    number.secondByte number.firstByte number.numberAt
+    header.formatRow header.typeRow header.slotBRow header.slotCRow header.countInRange header.countRow header.judged
+    scan.taken scan.more scan.scan scan.firstRefusal scan.lengthOutcome scan.readWith scan.closed scan.headerOf scan.blocksOf
+    rows.rows rows.rowIn rows.rowOf
+    operands.laidOut operands.operands operands.usedBytes operands.allZero operands.unusedZero
+    judged.deviceRefusal judged.inRange judged.judgedBy judged.decodedBy judged.decoded
+    flow.flowBy flow.flowOf
+    fault.foreign fault.permitted fault.flowFault fault.faultOf
+    program.commandAt program.faultAt
+    indexOf pointAt
+    successors.successors successors.indices successors.nextOf
+    least
+    verdict.leastForeign verdict.leastBad verdict.verdictBy
+    closureFast walksFast blocksFast readFast verdictFast
+computed = refl
+
+-- a row of a list whose answers are right
+each : (rs : List Row) → given rs ≡ expected rs → (r : Row) → In r rs → ask (r .question) ≡ r .answer
+each [] e r m = absurd m
+each (s ∷ rs) e r (inl i) = rw i (sym (quick-is (s .question)) ∙ ap (λ (answers : List Answer). getD answers 0 (s .answer)) e)
+each (s ∷ rs) e r (inr m) = each rs (ap tail e) r m
+
+pub all-right : (r : Row) → In r table → ask (r .question) ≡ r .answer
+all-right = each table computed

@@ -1,0 +1,48 @@
+-- Images as document 01 writes them ("Examples and faults to shut out"): header 01 02 00 00, then start and count, then the blocks.
+-- Assumes nothing.
+use Prim.Native.Nat.{ℕ, zero, suc, _+_}
+use mathlib.Core.List.{List, [], _∷_, _++_}
+use lib.ListN.{length}
+use Rattle.rows.specs.Rows.{hex}
+
+-- a block: its code, D1, D2 and D3; the others are 00
+abbrev pub block : ℕ → ℕ → ℕ → ℕ → List ℕ
+block code first second third = code ∷ first ∷ second ∷ third ∷ 0 ∷ 0 ∷ 0 ∷ 0 ∷ []
+
+-- a code and seven 00
+abbrev pub plain : ℕ → List ℕ
+plain code = block code 0 0 0
+
+-- a code with a block's number, below 256, in D1 and D2
+abbrev pub toward : ℕ → ℕ → List ℕ
+toward code b = block code b 0 0
+
+abbrev pub bytesOf : List (List ℕ) → List ℕ
+bytesOf [] = []
+bytesOf (b ∷ bs) = b ++ bytesOf bs
+
+-- the four numbers of every example: format 1, type 2 (a 637), both slots empty
+abbrev pub header : List ℕ → List ℕ
+header rest = hex 0 1 ∷ hex 0 2 ∷ hex 0 0 ∷ hex 0 0 ∷ rest
+
+-- an image that begins at a block
+abbrev pub imageAt : ℕ → List (List ℕ) → List ℕ
+imageAt start blocks = header (start ∷ length blocks ∷ bytesOf blocks)
+
+-- an image that begins at block 0
+abbrev pub image : List (List ℕ) → List ℕ
+image = imageAt 0
+
+-- case A's block: a jump to block 0
+abbrev pub blockA : List ℕ
+blockA = plain (hex 5 5)
+
+-- n nested calls, from block b on: a program is a call of the next one, which stands two blocks on, and its last block; the innermost is its
+-- last block alone. The last block of a sub-program is 53.
+abbrev pub calls : ℕ → ℕ → List ℕ → List (List ℕ)
+calls zero b last = last ∷ []
+calls (suc n) b last = toward (hex 5 2) (b + 2) ∷ last ∷ calls n (b + 2) (plain (hex 5 3))
+
+-- a chain of n nested calls: the main program stands at block 0 and its last block is A's; sub-program k stands at block 2 k
+abbrev pub chain : ℕ → List ℕ
+chain n = image (calls n 0 blockA)

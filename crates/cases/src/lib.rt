@@ -1,0 +1,1 @@
+// Document 01's examples ("Examples and faults to shut out"). No code here: specs/ has the table, proofs/ proves it of the definitions.

@@ -1,0 +1,13 @@
+-- `axis` meets its contract, by its first test. Assumes nothing.
+use borrow.Author.Tests.{eq-eqb, ne-eqb}
+use Rattle.command.proofs.ranges.axis.Statement.{statement}
+use Rattle.command.proofs.ranges.axis.Tie as tie
+
+returns : tie.Need-returns
+returns c = rw (eq-eqb (c .before .args .x) 0 (c .if1 .taken))
+
+returns-2 : tie.Need-returns-2
+returns-2 c = rw (ne-eqb (c .before .args .x) 0 (c .if1 .left))
+
+pub axis-spec : {M : Type 1} → statement M
+axis-spec = tie.close (tie.spec returns returns-2)

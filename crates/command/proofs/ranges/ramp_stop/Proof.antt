@@ -1,0 +1,16 @@
+-- `ramp_stop` meets its contract, by its first test. Assumes nothing.
+use borrow.Author.Tests.{le-leb, lt-leb}
+use Rattle.command.proofs.ranges.ramp_stop.Statement.{statement}
+use Rattle.command.proofs.ranges.ramp_stop.Tie as tie
+
+up-to-requires : tie.Need-up-to-requires
+up-to-requires c κs = tt
+
+returns : tie.Need-returns
+returns c = rw (le-leb (c .before .before .args .x) 1 (c .before .if1 .taken)) (c .up-to .ensures)
+
+returns-2 : tie.Need-returns-2
+returns-2 c = rw (lt-leb (c .before .args .x) 1 (c .if1 .left))
+
+pub ramp-stop-spec : {M : Type 1} → statement M
+ramp-stop-spec = tie.close (tie.spec up-to-requires returns returns-2)

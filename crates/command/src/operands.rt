@@ -1,0 +1,218 @@
+// The operands of a block, where its code's layout has them. Nothing is judged but that unused bytes are 0.
+use crate::Command;
+use arith::le;
+ghost use mathlib.Core.Path.{_≡_};
+ghost use Rattle.command.specs.Operands.{laidOut, operands, usedBytes, unusedZero};
+ghost use Rattle.command.specs.Operands.{byteOf, wordOf, pairOf, tripleOf, tripleWordOf, byteWordOf, valueOf, byteValueOf, pairValueOf, valueJumpOf, bareOf};
+
+// The command of a block, without judging it. A code that is not carried has no operands.
+pub fn read(block: [u8; 8]) -> Command
+    ensures { λ r. ⌜ r ≡ operands block ⌝ }
+{
+    let row = rows::find(block[0]);
+    lay_out(row.layout, block)
+}
+
+// The command of a block whose code has this layout.
+pub fn lay_out(layout: u8, block: [u8; 8]) -> Command
+    ensures { λ r. ⌜ r ≡ laidOut layout block ⌝ }
+{
+    match layout {
+        rows::BYTE => byte(block),
+        rows::WORD => word(block),
+        rows::PAIR => pair(block),
+        rows::TRIPLE => triple(block),
+        rows::TRIPLE_WORD => triple_word(block),
+        rows::BYTE_WORD => byte_word(block),
+        rows::VALUE => value(block),
+        rows::BYTE_VALUE => byte_value(block),
+        rows::PAIR_VALUE => pair_value(block),
+        rows::VALUE_JUMP => value_jump(block),
+        _ => bare(block),
+    }
+}
+
+fn bare(block: [u8; 8]) -> Command
+    ensures { λ r. ⌜ r ≡ bareOf block ⌝ }
+{
+    Command {
+        code: block[0],
+        x: 0,
+        y: 0,
+        z: 0,
+        word: 0,
+        value: 0,
+    }
+}
+
+fn byte(block: [u8; 8]) -> Command
+    ensures { λ r. ⌜ r ≡ byteOf block ⌝ }
+{
+    Command {
+        code: block[0],
+        x: block[1],
+        y: 0,
+        z: 0,
+        word: 0,
+        value: 0,
+    }
+}
+
+fn word(block: [u8; 8]) -> Command
+    ensures { λ r. ⌜ r ≡ wordOf block ⌝ }
+{
+    let word = le::read_u16([block[1], block[2]]);
+    Command {
+        code: block[0],
+        x: 0,
+        y: 0,
+        z: 0,
+        word: word,
+        value: 0,
+    }
+}
+
+fn pair(block: [u8; 8]) -> Command
+    ensures { λ r. ⌜ r ≡ pairOf block ⌝ }
+{
+    Command {
+        code: block[0],
+        x: block[1],
+        y: block[2],
+        z: 0,
+        word: 0,
+        value: 0,
+    }
+}
+
+fn triple(block: [u8; 8]) -> Command
+    ensures { λ r. ⌜ r ≡ tripleOf block ⌝ }
+{
+    Command {
+        code: block[0],
+        x: block[1],
+        y: block[2],
+        z: block[3],
+        word: 0,
+        value: 0,
+    }
+}
+
+fn triple_word(block: [u8; 8]) -> Command
+    ensures { λ r. ⌜ r ≡ tripleWordOf block ⌝ }
+{
+    let word = le::read_u16([block[4], block[5]]);
+    Command {
+        code: block[0],
+        x: block[1],
+        y: block[2],
+        z: block[3],
+        word: word,
+        value: 0,
+    }
+}
+
+fn byte_word(block: [u8; 8]) -> Command
+    ensures { λ r. ⌜ r ≡ byteWordOf block ⌝ }
+{
+    let word = le::read_u16([block[2], block[3]]);
+    Command {
+        code: block[0],
+        x: block[1],
+        y: 0,
+        z: 0,
+        word: word,
+        value: 0,
+    }
+}
+
+fn value(block: [u8; 8]) -> Command
+    ensures { λ r. ⌜ r ≡ valueOf block ⌝ }
+{
+    let value = le::read_i32([block[1], block[2], block[3], block[4]]);
+    Command {
+        code: block[0],
+        x: 0,
+        y: 0,
+        z: 0,
+        word: 0,
+        value: value,
+    }
+}
+
+fn byte_value(block: [u8; 8]) -> Command
+    ensures { λ r. ⌜ r ≡ byteValueOf block ⌝ }
+{
+    let value = le::read_i32([block[2], block[3], block[4], block[5]]);
+    Command {
+        code: block[0],
+        x: block[1],
+        y: 0,
+        z: 0,
+        word: 0,
+        value: value,
+    }
+}
+
+fn pair_value(block: [u8; 8]) -> Command
+    ensures { λ r. ⌜ r ≡ pairValueOf block ⌝ }
+{
+    let value = le::read_i32([block[3], block[4], block[5], block[6]]);
+    Command {
+        code: block[0],
+        x: block[1],
+        y: block[2],
+        z: 0,
+        word: 0,
+        value: value,
+    }
+}
+
+// 81: the condition and the upper four bits of the address share D6.
+fn value_jump(block: [u8; 8]) -> Command
+    ensures { λ r. ⌜ r ≡ valueJumpOf block ⌝ }
+{
+    let value = le::read_i32([block[2], block[3], block[4], block[5]]);
+    let word = le::read_u16([block[7], block[6] % 16]);
+    Command {
+        code: block[0],
+        x: block[1],
+        y: block[6] / 16,
+        z: 0,
+        word: word,
+        value: value,
+    }
+}
+
+// Whether the bytes that this layout does not use are 0.
+pub fn unused_zero(layout: u8, block: [u8; 8]) -> bool
+    ensures { λ r. ⌜ r ≡ unusedZero layout block ⌝ }
+{
+    let mut k = 1 + used_bytes(layout);
+    while k < 8 {
+        if block[k] != 0 {
+            return false;
+        }
+        k += 1;
+    }
+    true
+}
+
+// How many of D1 to D7 a layout uses.
+fn used_bytes(layout: u8) -> usize
+    ensures { λ r. ⌜ r ≡ usedBytes layout ⌝ }
+{
+    match layout {
+        rows::BYTE => 1,
+        rows::WORD => 2,
+        rows::PAIR => 2,
+        rows::TRIPLE => 3,
+        rows::TRIPLE_WORD => 5,
+        rows::BYTE_WORD => 3,
+        rows::VALUE => 4,
+        rows::BYTE_VALUE => 5,
+        rows::PAIR_VALUE => 6,
+        rows::VALUE_JUMP => 7,
+        _ => 0,
+    }
+}

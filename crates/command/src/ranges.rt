@@ -1,0 +1,103 @@
+// The ranges of the operands (document 01, refusal 7), by the ranges of a code's row: one small test for each.
+use crate::Command;
+ghost use mathlib.Core.Path.{_≡_};
+ghost use Rattle.command.specs.Judged.{upTo, levelJump, bitJump, conditionJump, flagRun, axis, stop, rampStop, inRange};
+
+pub const MOST_LEVEL: u8 = 1;
+
+pub const MOST_MODE: u8 = 3;
+
+pub const MOST_BIT: u8 = 31;
+
+pub const MOST_CONDITION: u8 = 7;
+
+pub const MOST_RUN: u16 = 32;
+
+pub const FLAG_COUNT: u16 = 256;
+
+pub const MOST_SPEED: u16 = 12000;
+
+pub const MOST_RAMP: u16 = 64000;
+
+// Whether the operands of a command are in range, in an image of this many blocks.
+pub fn in_range(ranges: u8, count: u16, c: Command) -> bool
+    ensures { λ r. ⌜ r ≡ inRange ranges count c ⌝ }
+{
+    let x = c.x;
+    let y = c.y;
+    let z = c.z;
+    let word = c.word;
+    let value = c.value;
+    match ranges {
+        rows::ADDRESS => word < count,
+        rows::MODE => x <= MOST_MODE,
+        rows::LEVEL => y <= MOST_LEVEL,
+        rows::LEVEL_JUMP => level_jump(count, y, z, word),
+        rows::BIT_JUMP => bit_jump(count, y, z, word),
+        rows::CONDITION_JUMP => condition_jump(count, y, word),
+        rows::DIVISOR => value != 0,
+        rows::FLAG_RUN => flag_run(y, z),
+        rows::AXIS => axis(x, y),
+        rows::STOP => stop(x, y),
+        rows::RAMP_STOP => ramp_stop(x, word),
+        rows::SPEED => up_to(MOST_SPEED, word),
+        rows::RAMP => up_to(MOST_RAMP, word),
+        _ => true,
+    }
+}
+
+fn level_jump(count: u16, y: u8, z: u8, word: u16) -> bool
+    ensures { λ r. ⌜ r ≡ levelJump count y z word ⌝ }
+{
+    if y > MOST_LEVEL {
+        return false;
+    }
+    z <= MOST_LEVEL && word < count
+}
+
+fn bit_jump(count: u16, y: u8, z: u8, word: u16) -> bool
+    ensures { λ r. ⌜ r ≡ bitJump count y z word ⌝ }
+{
+    if y > MOST_BIT {
+        return false;
+    }
+    z <= MOST_LEVEL && word < count
+}
+
+fn condition_jump(count: u16, y: u8, word: u16) -> bool
+    ensures { λ r. ⌜ r ≡ conditionJump count y word ⌝ }
+{
+    y <= MOST_CONDITION && word < count
+}
+
+// The flags that 86 reads: z of them from flag y on.
+fn flag_run(y: u8, z: u8) -> bool
+    ensures { λ r. ⌜ r ≡ flagRun y z ⌝ }
+{
+    up_to(MOST_RUN, z as u16) && y as u16 + z as u16 <= FLAG_COUNT
+}
+
+fn axis(x: u8, y: u8) -> bool
+    ensures { λ r. ⌜ r ≡ axis x y ⌝ }
+{
+    x == 0 && y == 0
+}
+
+fn stop(x: u8, y: u8) -> bool
+    ensures { λ r. ⌜ r ≡ stop x y ⌝ }
+{
+    x <= MOST_LEVEL && y == 0
+}
+
+fn ramp_stop(x: u8, word: u16) -> bool
+    ensures { λ r. ⌜ r ≡ rampStop x word ⌝ }
+{
+    x <= MOST_LEVEL && up_to(MOST_RAMP, word)
+}
+
+// 1 to the most.
+fn up_to(most: u16, v: u16) -> bool
+    ensures { λ r. ⌜ r ≡ upTo most v ⌝ }
+{
+    0 < v && v <= most
+}

@@ -1,0 +1,243 @@
+-- The search's laws: what a touch, a done point and a step of the cursor keep of `Going`, and that all that is reached is marked at its end.
+-- Assumes nothing.
+use Prim.Native.Nat.{ℕ, zero, suc, _+_, _-_, _*_, _/_, _<_, _≤_}
+use mathlib.Core.Path.{_≡_, refl, sym, ap, _∙_}
+use mathlib.Core.Bool.{cond}
+use mathlib.Core.Logic.{inl, inr, ⊎-elim}
+use mathlib.Core.List.{List, [], _∷_, _++_}
+use native.Mathlib.Nat.{not-suc-le-zero, le-of-suc-le-suc}
+use native.Mathlib.Decide.{ℕ-discrete, decLt}
+use native.Mathlib.Omega.{arith}
+use lib.ListN.{length, getD, set, length-set, List·getD-eq-default, replicate, getD-replicate}
+use lib.Seq.{getD-set-same, getD-set-other}
+use lib.Dec.{eqb}
+use borrow.Author.Count.{below-more}
+use Rattle.image.specs.declared.Header.{Header}
+use Rattle.point.specs.declared.Point.{Point}
+use Rattle.program.specs.Numbers.{numbers}
+use Rattle.program.specs.declared.Following.{Following}
+use Rattle.walk.specs.Index.{marksLength, pointAt}
+use Rattle.walk.specs.Successors.{successors, indices, nextOf}
+use Rattle.walk.specs.Graph.{In, Reach}
+use Rattle.loader.specs.Search.{pageLength, pageCount, Paged, Touched, Touches, Going, Visited, Fresh, undone}
+
+-- what holds at every place of a list after a store
+at-set : (P : ℕ → ℕ → Type 0) (l : List ℕ) (q v : ℕ) → q < length l → P q v → ((p : ℕ) → (p ≡ q → ⊥) → P p (getD l p 0)) → (p : ℕ) → P p (getD (set l q v) p 0)
+at-set P l q v h same other p = go (ℕ-discrete p q)
+  where
+    go : Dec (p ≡ q) → P p (getD (set l q v) p 0)
+    go (yes e) = rw (e, getD-set-same l q v 0 h) same
+    go (no n) = rw (getD-set-other l q p v 0 n) (other p n)
+
+-- what a mark counts
+weight : ℕ → ℕ
+weight x = cond (eqb x 2) 0 1
+
+undone-set : (l : List ℕ) (i v : ℕ) → i < length l → undone (set l i v) + weight (getD l i 0) ≡ undone l + weight v
+unfolding undone weight
+undone-set [] i v h = absurd (not-suc-le-zero h)
+undone-set (x ∷ l) zero v h = omega arith
+undone-set (x ∷ l) (suc i) v h = omega (arith, undone-set l i v (le-of-suc-le-suc h))
+
+undone-touch : (l : List ℕ) (q : ℕ) → q < length l → getD l q 0 ≡ 0 → undone (set l q 1) ≡ undone l
+unfolding weight
+undone-touch l q h e = let k = rw e at (undone-set l q 1 h) in omega (arith, k)
+
+pub undone-done : (l : List ℕ) (p : ℕ) → p < length l → getD l p 0 ≡ 1 → undone (set l p 2) < undone l
+unfolding weight
+undone-done l p h e = let k = rw e at (undone-set l p 2 h) in omega (arith, k)
+
+-- what a touch of a reached point gives
+pub record Grown (next : ℕ → List ℕ) (root : ℕ) (l l′ d′ : List ℕ) (q cur r : ℕ) : Type 0 where
+  pub going : Going next root l′ r
+  pub marked : getD l′ q 0 ≡ 0 → ⊥
+  pub kept : (p : ℕ) → (getD l p 0 ≡ 0 → ⊥) → getD l′ p 0 ≡ getD l p 0
+  pub same : undone l′ ≡ undone l
+  pub low : r ≤ cur
+  pub paged : Paged l′ d′
+
+module _ (next : ℕ → List ℕ) (root : ℕ) (l : List ℕ) (cur : ℕ) (g : Going next root l cur) where
+  module _ (q r : ℕ) (h : q < length l) (w : Reach next root q) (d : List ℕ) (k : Paged l d) where
+    paged-touch : Paged (set l q 1) (set d (q / pageLength) 1)
+    paged-touch =
+        let g : q / pageLength < length d = omega (arith, k .pages, g .long) in
+        record {
+          known = at-set (λ p v. v ≡ 1 → getD (set d (q / pageLength) 1) (p / pageLength) 0 ≡ 1) l q 1 h
+              (λ _. getD-set-same d (q / pageLength) 1 0 g)
+              (λ p n e. at-set (λ j v. p / pageLength ≡ j → v ≡ 1) d (q / pageLength) 1 g (λ _. refl) (λ j m i. rw (← i) (k .known p e)) (p / pageLength) refl);
+          pages = length-set d (q / pageLength) 1 ∙ k .pages;
+        }
+
+    fresh-grown : getD l q 0 ≡ 0 → r ≤ cur → r ≤ q → Grown next root l (set l q 1) (set d (q / pageLength) 1) q cur r
+    fresh-grown e a b = record {
+      going = record {
+        long = length-set l q 1 ∙ g .long;
+        first = at-set (λ p v. p ≡ root → v ≡ 0 → ⊥) l q 1 h (λ i z. omega arith) (λ p n i z. g .first (rw i at z)) (root) refl;
+        sound = at-set (λ p v. (v ≡ 0 → ⊥) → Reach next root p) l q 1 h (λ m. w) (λ p n m. g .sound p m);
+        closed = λ p s. at-set (λ p v. (v ≡ 0 → ⊥) → (v ≡ 1 → ⊥) → In s (next p) → getD (set l q 1) s 0 ≡ 0 → ⊥) l q 1 h
+            (λ m n. absurd (n refl))
+            (λ p n m k to. at-set (λ s v. In s (next p) → v ≡ 0 → ⊥) l q 1 h (λ t z. omega arith) (λ s n t z. g .closed p s m k t z) s to)
+            p;
+        past = at-set (λ p v. p < r → v ≡ 1 → ⊥) l q 1 h (λ i z. omega arith) (λ p n i z. g .past p (omega arith) z);
+      };
+      marked = at-set (λ p v. p ≡ q → v ≡ 0 → ⊥) l q 1 h (λ i z. omega arith) (λ p n i z. n i) q refl;
+      kept = at-set (λ p v. (getD l p 0 ≡ 0 → ⊥) → v ≡ getD l p 0) l q 1 h (λ m. absurd (m e)) (λ p n m. refl);
+      same = undone-touch l q h e;
+      low = a;
+      paged = paged-touch;
+    }
+
+    pub grown : (l′ d′ : List ℕ) → Touched l l′ d d′ q cur r → Grown next root l l′ d′ q cur r
+    grown l′ d′ (Touched.fresh e s t a b) = rw (s, t) (fresh-grown e a b)
+    grown l′ d′ (Touched.seen m s t e) =
+        rw (s, t, e) (record { going = g; marked = m; kept = λ p n. refl; same = refl; low = omega arith; paged = k })
+
+  -- a point whose followers are all marked is done
+  pub done : (p : ℕ) → p < length l → (getD l p 0 ≡ 0 → ⊥) → ((q : ℕ) → In q (next p) → getD l q 0 ≡ 0 → ⊥) → Going next root (set l p 2) cur
+  done o h m all = record {
+    long = length-set l o 2 ∙ g .long;
+    first = at-set (λ p v. p ≡ root → v ≡ 0 → ⊥) l o 2 h (λ i z. omega arith) (λ p n i z. g .first (rw i at z)) (root) refl;
+    sound = at-set (λ p v. (v ≡ 0 → ⊥) → Reach next root p) l o 2 h (λ k. g .sound o m) (λ p n k. g .sound p k);
+    closed = λ p s k j to. at-set (λ s v. (getD l s 0 ≡ 0 → ⊥) → v ≡ 0 → ⊥) l o 2 h (λ t z. omega arith) (λ s n t z. t z) s
+        (at-set (λ p v. (v ≡ 0 → ⊥) → (v ≡ 1 → ⊥) → In s (next p) → getD l s 0 ≡ 0 → ⊥) l o 2 h (λ k j to. all s to) (λ p n k j to. g .closed p s k j to) p k j to);
+    past = at-set (λ p v. p < cur → v ≡ 1 → ⊥) l o 2 h (λ i z. omega arith) (λ p n i z. g .past p i z);
+  }
+
+  pub onward : (getD l cur 0 ≡ 1 → ⊥) → Going next root l (cur + 1)
+  onward n = record { long = g .long; first = g .first; sound = g .sound; closed = g .closed; past = below-more _ _ (g .past) n }
+
+-- at the end of the search all that is reached is marked
+module _ (next : ℕ → List ℕ) (root : ℕ) (l : List ℕ) (g : Going next root l marksLength) where
+  beyond : (p : ℕ) → getD l p 0 ≡ 1 → ⊥
+  beyond p e = go (decLt p marksLength)
+    where
+      go : Dec (p < marksLength) → ⊥
+      go (yes h) = g .past p h e
+      go (no h) = omega (arith, List·getD-eq-default l 0 (out h))
+        where
+          out : ¬ (p < marksLength) → length l ≤ p
+          out k = omega (arith, g .long)
+
+  pub all-marked : (p : ℕ) → Reach next root p → getD l p 0 ≡ 0 → ⊥
+  all-marked p Reach.begin = g .first
+  all-marked p (Reach.step o q w to) = g .closed o p (all-marked o w) (beyond o) to
+
+-- a point that is done is not pending
+paged-done : (l d : List ℕ) (o : ℕ) → o < length l → Paged l d → Paged (set l o 2) d
+paged-done l d o h k = record {
+  known = at-set (λ p v. v ≡ 1 → getD d (p / pageLength) 0 ≡ 1) l o 2 h (λ e. omega arith) (λ p n e. k .known p e);
+  pages = k .pages;
+}
+
+-- what the touches of reached points give
+pub record Grew (next : ℕ → List ℕ) (root : ℕ) (l l′ d′ qs : List ℕ) (cur r : ℕ) : Type 0 where
+  pub going : Going next root l′ r
+  pub marked : (q : ℕ) → In q qs → getD l′ q 0 ≡ 0 → ⊥
+  pub kept : (p : ℕ) → (getD l p 0 ≡ 0 → ⊥) → getD l′ p 0 ≡ getD l p 0
+  pub same : undone l′ ≡ undone l
+  pub low : r ≤ cur
+  pub paged : Paged l′ d′
+
+grew : (next : ℕ → List ℕ) (root : ℕ) {l d l′ d′ qs : List ℕ} {cur r : ℕ} → Touches l d cur qs l′ d′ r → Going next root l cur → Paged l d
+    → ((q : ℕ) → In q qs → Reach next root q × (q < marksLength)) → Grew next root l l′ d′ qs cur r
+grew next root Touches.none g k to = record { going = g; marked = λ q m. absurd m; kept = λ p n. refl; same = refl; low = omega arith; paged = k }
+grew next root (Touches.more {l = l} {d = d} {l₁ = l₁} {d₁ = d₁} {q = q} {cur = cur} {r = r} t ts) g k to =
+    let w = to q (inl refl) in
+    let u = grown next root l cur g q r (omega (arith, g .long, w .1)) (w .0) d k l₁ d₁ t in
+    let v = grew next root ts (u .going) (u .paged) (λ o m. to o (inr m)) in
+    record {
+      going = v .going;
+      marked = λ o m z. ⊎-elim (λ i. u .marked (sym (v .kept q (u .marked)) ∙ (rw i at z))) (λ n. v .marked o n z) m;
+      kept = λ p n. v .kept p (λ z. n (sym (u .kept p n) ∙ z)) ∙ u .kept p n;
+      same = v .same ∙ u .same;
+      low = omega (arith, u .low, v .low);
+      paged = v .paged;
+    }
+
+-- a visit: the points that follow are touched, and the point is done
+pub visited : (next : ℕ → List ℕ) (root : ℕ) → ((q : ℕ) → Reach next root q → q < marksLength) → (l : List ℕ) (p : ℕ) → Going next root l p → getD l p 0 ≡ 1
+    → (d : List ℕ) → Paged l d → (qs : List ℕ) → qs ≡ next p → {l₁ d₁ : List ℕ} {r : ℕ} → Touches l d p qs l₁ d₁ r → Visited next root l (set l₁ p 2) d₁ p r
+visited next root inside l p g e d k qs s {l₁} {d₁} {r} ts =
+    let m : getD l p 0 ≡ 0 → ⊥ = λ z. omega arith in
+    let u = grew next root ts g k (λ q t. let w = Reach.step p q (g .sound p m) (rw s at t) in (w, inside q w)) in
+    let e₁ : getD l₁ p 0 ≡ 1 = u .kept p m ∙ e in
+    let long : p < length l₁ = omega (arith, u .going .long, inside p (g .sound p m)) in
+    record {
+      going = done next root l₁ r (u .going) p long (λ z. omega arith) (λ q t z. u .marked q (rw (← s) at t) z);
+      less = omega (arith, undone-done l₁ p long e₁, u .same);
+      low = u .low;
+      paged = paged-done l₁ d₁ p long (u .paged);
+    }
+
+-- the cursor skips a clean page
+pub skipped : (next : ℕ → List ℕ) (root : ℕ) (l d : List ℕ) (cur r : ℕ) → Going next root l cur → Paged l d → getD d (cur / pageLength) 0 ≡ 0 → r ≤ cur / pageLength * pageLength + pageLength → Going next root l r
+skipped next root l d cur r g k e h = record { long = g .long; first = g .first; sound = g .sound; closed = g .closed; past = past }
+  where
+    past : (p : ℕ) → p < r → getD l p 0 ≡ 1 → ⊥
+    past p i z = go (decLt p cur)
+      where
+        go : Dec (p < cur) → ⊥
+        go (yes j) = g .past p j z
+        go (no j) = let s : p / pageLength ≡ cur / pageLength = omega arith in omega (arith, rw s at (k .known p z))
+
+-- a page that is passed is clean
+pub passed : (next : ℕ → List ℕ) (root : ℕ) (l d : List ℕ) (cur j : ℕ) → Going next root l cur → Paged l d → j * pageLength + pageLength ≤ cur → Paged l (set d j 0)
+passed next root l d cur j g k h = record {
+  known = λ p z. getD-set-other d j (p / pageLength) 0 0 (λ e. g .past p (omega arith) z) ∙ k .known p z;
+  pages = length-set d j 0 ∙ k .pages;
+}
+
+-- a marked number is that of a point
+pub point-of : (l : List ℕ) {n : ℕ} → length l ≡ n → (p : ℕ) → (getD l p 0 ≡ 0 → ⊥) → p < n
+point-of l {n} e p m = go (decLt p n)
+  where
+    go : Dec (p < n) → p < n
+    go (yes h) = h
+    go (no h) = absurd (m (List·getD-eq-default l 0 (omega arith)))
+
+-- the marks are cleared, and the first is pending
+pub cleared : (l : List ℕ) (first : ℕ) → length l ≡ marksLength → first < marksLength → ((k : ℕ) → k < marksLength → getD l k 0 ≡ 0) → Fresh first (set l first 1)
+cleared l first e h none =
+    let h′ : first < length l = omega arith in
+    record {
+      long = length-set l first 1 ∙ e;
+      pending = getD-set-same l first 1 0 h′;
+      others = λ p n. getD-set-other l first p 1 0 n ∙ go p (decLt p marksLength);
+    }
+  where
+    go : (p : ℕ) → Dec (p < marksLength) → getD l p 0 ≡ 0
+    go p (yes i) = none p i
+    go p (no i) = List·getD-eq-default l 0 (omega arith)
+
+pub begun : (next : ℕ → List ℕ) (root : ℕ) (l : List ℕ) → Fresh root l → Going next root l 0
+begun next root l f = record {
+  long = f .long;
+  first = λ z. omega arith;
+  sound = λ p m. only p (λ k. m (f .others p k));
+  closed = λ p q m n. absurd (m (f .others p (λ k. n (ap (λ (k : ℕ). getD l k 0) k ∙ f .pending))));
+  past = λ p h. omega arith;
+}
+  where
+    only : (p : ℕ) → ¬ ¬ (p ≡ root) → Reach next root p
+    only p n = go (ℕ-discrete p (root))
+      where
+        go : Dec (p ≡ root) → Reach next root p
+        go (yes e) = rw e Reach.begin
+        go (no m) = absurd (n m)
+
+-- at first every page is dirty
+pub all-dirty : (l : List ℕ) → length l ≡ marksLength → Paged l (replicate pageCount 1)
+all-dirty l e = record {
+  known = λ p z. getD-replicate pageCount (p / pageLength) 1 0 (let h = point-of l e p (λ y. omega arith) in omega arith);
+  pages = refl;
+}
+
+-- a point that follows a pending point has a mark
+pub touch-inside : (next : ℕ → List ℕ) (root : ℕ) → ((q : ℕ) → Reach next root q → q < marksLength) → (l : List ℕ) (p : ℕ) → Going next root l p → getD l p 0 ≡ 1
+    → (qs : List ℕ) → qs ≡ next p → (q : ℕ) → In q qs → q < marksLength
+touch-inside next root inside l p g e qs s q t = inside q (Reach.step p q (g .sound p (λ z. omega arith)) (rw s at t))
+
+-- the numbers that were found to follow a point are the next ones
+pub follow-next : (h : Header) (bs : List ℕ) (i : ℕ) (p : Point) (f : Following) → p ≡ pointAt i → numbers f ≡ indices (successors h bs p) → numbers f ≡ nextOf h bs i
+unfolding nextOf
+follow-next h bs i p f e k = k ∙ ap (λ (q : Point). indices (successors h bs q)) e

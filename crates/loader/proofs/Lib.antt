@@ -1,0 +1,5 @@
+mod Laws
+mod Front
+mod Minima
+mod Upwards
+mod Whole

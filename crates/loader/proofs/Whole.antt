@@ -1,0 +1,31 @@
+-- The verdict on an image, part by part: a header that is refused, and one that leads to the blocks. Assumes nothing.
+use Prim.Native.Nat.{ℕ, _<_, _≤_}
+use mathlib.Core.Path.{_≡_, refl, sym, ap, _∙_}
+use mathlib.Core.Bool.{true, false}
+use mathlib.Core.List.{List}
+use borrow.Author.Tests.{le-ltb}
+use Rattle.image.specs.Outcome.{done}
+use Rattle.image.specs.Scan.{headerOf, blocksOf}
+use Rattle.image.specs.declared.reader.HeaderRead.{HeaderRead}
+use Rattle.image.proofs.HeaderLaws.{header-good}
+use Rattle.walk.specs.Index.{marksLength}
+use Rattle.walk.specs.Verdict.{blocksVerdict, readVerdict, verdictOf}
+use Rattle.walk.specs.declared.Verdict.{Verdict}
+use Rattle.walk.specs.declared.Verdict.the-variants.{Image}
+use Rattle.walk.proofs.Judged.{is-done}
+use Rattle.loader.specs.Search.{Ready}
+
+module _ (image : List ℕ) where
+  pub refused-image : (n : ℕ) (r : HeaderRead) → r ≡ headerOf image → done (r .outcome) ≡ false → marksLength ≤ n → Image (r .outcome) ≡ verdictOf image n
+  unfolding verdictOf readVerdict
+  refused-image n r e f l = rw (le-ltb n marksLength l, ← e, f)
+
+  pub ready : (r : HeaderRead) → r ≡ headerOf image → done (r .outcome) ≡ true → Ready (r .header)
+  ready r e f =
+      let g = header-good image (sym (ap (λ (q : HeaderRead). q .outcome) e) ∙ is-done (r .outcome) f) in
+      rw e (record { most = g .count .1; begins = g .start })
+
+  pub judged-image : (n : ℕ) (r : HeaderRead) (bs : List ℕ) (v : Verdict) → r ≡ headerOf image → bs ≡ blocksOf image → done (r .outcome) ≡ true → marksLength ≤ n
+      → v ≡ blocksVerdict (r .header) bs 0 (r .header .count) → v ≡ verdictOf image n
+  unfolding verdictOf readVerdict
+  judged-image n r bs v e k f l j = rw (le-ltb n marksLength l, ← e, ← k, f) j

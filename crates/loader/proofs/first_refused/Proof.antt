@@ -1,0 +1,55 @@
+-- `first_refused` meets its contract: the blocks before b pass at each turn. Assumes nothing.
+use Prim.Native.Nat.{ℕ, _-_, _<_, _≤_}
+use mathlib.Core.Path.{_≡_, sym, _∙_}
+use native.Mathlib.Omega.{arith}
+use borrow.Author.Count.{below-more}
+use Rattle.walk.specs.Verdict.{blockNumber}
+use Rattle.loader.proofs.first_refused.Statement.{statement}
+use Rattle.loader.proofs.first_refused.Tie as tie
+
+abbrev Inv-loop : tie.InvT-loop
+Inv-loop header blocks b₀ b = (b ≤ header .count) × ((a : ℕ) → a < b → blockNumber header blocks a ≡ 0)
+
+abbrev μ-loop : tie.MeasureT-loop
+μ-loop header blocks b₀ b = header .count - b
+
+loop-holds : tie.Need-loop-holds Inv-loop μ-loop
+loop-holds c = (omega arith, λ a h. omega arith)
+
+block-number-requires : tie.Need-block-number-requires Inv-loop μ-loop
+block-number-requires c κs = tt
+
+returns : tie.Need-returns Inv-loop μ-loop
+returns c =
+    let v = c .before .before .before .before .loop in
+    record { most = v .inv .0; before = v .inv .1; refused = λ l z. c .if2 .taken (c .before .block-number .ensures ∙ z) }
+
+add-b : tie.Need-add-b Inv-loop μ-loop
+add-b c = omega arith
+
+loop-less : tie.Need-loop-less Inv-loop μ-loop
+loop-less c = omega arith
+
+loop-again : tie.Need-loop-again Inv-loop μ-loop
+loop-again c =
+    let v = c .before .before .before .before .loop in
+    (omega arith, below-more _ _ (v .inv .1) (sym (c .before .block-number .ensures) ∙ c .if2 .left))
+
+returns-2 : tie.Need-returns-2 Inv-loop μ-loop
+returns-2 c =
+    let v = c .before .before .loop in
+    record { most = v .inv .0; before = v .inv .1; refused = λ l. absurd (omega arith) }
+
+pub first-refused-spec : {M : Type 1} → statement M
+first-refused-spec =
+    tie.close
+    (tie.spec
+    Inv-loop
+    μ-loop
+    loop-holds
+    block-number-requires
+    returns
+    add-b
+    loop-less
+    loop-again
+    returns-2)

@@ -1,0 +1,55 @@
+-- `judge` meets its contract: 13, the header, then the blocks and the walks. Assumes nothing.
+use mathlib.Core.Path.{refl, sym, _∙_}
+use borrow.Author.Tests.{lt-ltb, not-true, not-false}
+use denote.Ref.{now}
+use borrow.Author.Needs.{needs}
+use Rattle.walk.specs.Verdict.{verdictOf}
+use Rattle.loader.proofs.Whole.{refused-image, ready, judged-image}
+use Rattle.loader.proofs.judge.Statement.{statement}
+use Rattle.loader.proofs.judge.Tie as tie
+
+returns : tie.Need-returns
+unfolding verdictOf
+returns c = (rw (lt-ltb _ _ (c .if1 .taken)), record { long = refl; rest = λ k i. refl })
+
+read-requires : tie.Need-read-requires
+read-requires c κs = search needs
+
+is-done-requires : tie.Need-is-done-requires
+is-done-requires c κs = search needs
+
+returns-2 : tie.Need-returns-2
+returns-2 c =
+    let a = c .before .before .before .before .before .before .args in
+    (refused-image (now (a .image)) _ _ (c .before .before .read .ensures) (sym (c .before .is-done .ensures) ∙ not-true _ (c .if2 .taken)) (c .before .before .before .if1 .left),
+      record { long = refl; rest = λ k i. refl })
+
+block-part-requires : tie.Need-block-part-requires
+block-part-requires c κs = search needs
+
+judge-blocks-requires : tie.Need-judge-blocks-requires
+judge-blocks-requires c κs =
+    let a = c .before .before .before .before .before .before .before .before .args in
+    (ready (now (a .image)) _ (c .before .before .before .before .read .ensures) (sym (c .before .before .before .is-done .ensures) ∙ not-false _ (c .before .before .if2 .left)), c .before .before .before .before .before .if1 .left)
+
+same-length : tie.Need-same-length
+same-length c = search needs
+
+returns-3 : tie.Need-returns-3
+returns-3 c =
+    let a = c .before .before .before .before .before .before .before .before .before .before .before .args in
+    let r = c .before .before .judge-blocks .ensures in
+    (judged-image (now (a .image)) _ _ _ _ (c .before .before .before .before .before .before .before .read .ensures) (c .before .before .before .before .block-part .ensures) (sym (c .before .before .before .before .before .before .is-done .ensures) ∙ not-false _ (c .before .before .before .before .before .if2 .left)) (c .before .before .before .before .before .before .before .before .if1 .left) (r .0), r .1)
+
+pub judge-spec : {M : Type 1} → statement M
+judge-spec =
+    tie.close
+    (tie.spec
+    returns
+    read-requires
+    is-done-requires
+    returns-2
+    block-part-requires
+    judge-blocks-requires
+    same-length
+    returns-3)

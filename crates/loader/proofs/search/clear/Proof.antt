@@ -1,0 +1,64 @@
+-- `clear` meets its contract: the marks before i are 0 at each turn. Assumes nothing.
+use Prim.Native.Nat.{ℕ, _-_, _<_, _≤_}
+use mathlib.Core.Path.{_≡_, _∙_}
+use native.Mathlib.Omega.{arith}
+use borrow.Author.Count.{below-more}
+use lib.ListN.{length, getD, length-set}
+use lib.Seq.{getD-set-same, getD-set-other}
+use Rattle.walk.specs.Index.{marksLength}
+use Rattle.loader.proofs.Laws.{cleared}
+use Rattle.loader.proofs.search.clear.Statement.{statement}
+use Rattle.loader.proofs.search.clear.Tie as tie
+
+abbrev Inv-loop : tie.InvT-loop
+Inv-loop marks₀ first i₀ marks i = (length marks ≡ marksLength) × (i ≤ marksLength) × ((k : ℕ) → k < i → getD marks k 0 ≡ 0)
+
+abbrev μ-loop : tie.MeasureT-loop
+μ-loop marks₀ first i₀ marks i = marksLength - i
+
+loop-holds : tie.Need-loop-holds Inv-loop μ-loop
+loop-holds c = (c .pre .0, omega arith, λ k h. omega arith)
+
+slice-write-marks : tie.Need-slice-write-marks Inv-loop μ-loop
+slice-write-marks c = omega arith
+
+add-i : tie.Need-add-i Inv-loop μ-loop
+add-i c = omega arith
+
+loop-less : tie.Need-loop-less Inv-loop μ-loop
+loop-less c = omega arith
+
+loop-again : tie.Need-loop-again Inv-loop μ-loop
+loop-again c =
+    let v = c .before .loop in
+    let w : v .i < length (v .marks) = omega arith in (
+      length-set (v .marks) (v .i) 0 ∙ v .inv .0,
+      omega arith,
+      below-more _ _ (λ k h. getD-set-other (v .marks) (v .i) k 0 0 (λ e. omega arith) ∙ v .inv .2 k h) (getD-set-same (v .marks) (v .i) 0 0 w),
+    )
+
+slice-write-marks-2 : tie.Need-slice-write-marks-2 Inv-loop μ-loop
+slice-write-marks-2 c = omega arith
+
+same-length : tie.Need-same-length Inv-loop μ-loop
+same-length c = simp length-set (omega arith)
+
+returns : tie.Need-returns Inv-loop μ-loop
+returns c =
+    let v = c .before .loop in
+    cleared (v .marks) _ (v .inv .0) (c .before .before .pre .1) (λ k h. v .inv .2 k (omega arith))
+
+pub clear-spec : {M : Type 1} → statement M
+clear-spec =
+    tie.close
+    (tie.spec
+    Inv-loop
+    μ-loop
+    loop-holds
+    slice-write-marks
+    add-i
+    loop-less
+    loop-again
+    slice-write-marks-2
+    same-length
+    returns)

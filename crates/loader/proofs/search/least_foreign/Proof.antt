@@ -1,0 +1,68 @@
+-- `least_foreign` meets its contract: found is the least of the marked points before i at each turn. Assumes nothing.
+use Prim.Native.Nat.{_-_, _≤_}
+use mathlib.Core.Path.{_≡_, _∙_}
+use mathlib.Core.Logic.{⊎-elim}
+use native.Mathlib.Omega.{arith}
+use denote.Ref.{now}
+use Rattle.image.specs.Rows.{mostBlocks}
+use Rattle.walk.specs.Index.{marksLength}
+use Rattle.loader.proofs.Minima.{LeastSo, blockOf, foreignAt, least-begun, least-kept, lowered-next, foreign-is}
+use borrow.Author.Needs.{needs}
+use mathlib.Core.Path.{_≡_}
+use Rattle.loader.proofs.Minima.{LeastSo, blockOf, foreignAt, least-begun, lowered-next, foreign-is}
+use Rattle.loader.proofs.search.least_foreign.Statement.{statement}
+use Rattle.loader.proofs.search.least_foreign.Tie as tie
+
+abbrev Inv-loop : tie.InvT-loop
+Inv-loop header blocks marks found₀ i₀ found i = (i ≤ marksLength) × LeastSo marks (foreignAt header blocks) blockOf mostBlocks i found
+
+abbrev μ-loop : tie.MeasureT-loop
+μ-loop header blocks marks found₀ i₀ found i = marksLength - i
+
+cast-found : tie.Need-cast-found Inv-loop μ-loop
+cast-found c = search needs
+
+loop-holds : tie.Need-loop-holds Inv-loop μ-loop
+loop-holds c = (omega arith, least-begun _ _ _ _)
+
+shared-slice-read-if1 : tie.Need-shared-slice-read-if1 Inv-loop μ-loop
+shared-slice-read-if1 c = omega (arith, c .before .before .before .before .before .pre .1 .long)
+
+lower-requires : tie.Need-lower-requires Inv-loop μ-loop
+lower-requires c κs = search needs
+
+add-i : tie.Need-add-i Inv-loop μ-loop
+add-i c = omega arith
+
+loop-less : tie.Need-loop-less Inv-loop μ-loop
+loop-less c = omega arith
+
+loop-again : tie.Need-loop-again Inv-loop μ-loop
+loop-again c =
+    let v = c .before .before .before .loop in
+    let a = c .before .before .before .before .before .before .args in
+    (omega arith,
+      ⊎-elim (λ w. rw (w .2 ∙ w .1 .ensures) (lowered-next (a .header) (now (a .blocks)) _ (v .i) (v .found) (v .inv .1) (w .0 .taken)))
+      (λ w. rw (w .1) (least-kept _ _ _ _ (v .i) (v .found) (v .inv .1) (λ m t. m (w .0 .left)))) (c .if1 .came))
+
+returns : tie.Need-returns Inv-loop μ-loop
+returns c =
+    let v = c .before .loop in
+    let s = c .before .before .before .before in
+    let e : v .i ≡ marksLength = omega arith in
+    foreign-is (s .args .header) (now (s .args .blocks)) (s .pre .0) (now (s .args .marks)) (s .pre .1) (v .found) (rw e at (v .inv .1))
+
+pub least-foreign-spec : {M : Type 1} → statement M
+least-foreign-spec =
+    tie.close
+    (tie.spec
+    Inv-loop
+    μ-loop
+    cast-found
+    loop-holds
+    shared-slice-read-if1
+    lower-requires
+    add-i
+    loop-less
+    loop-again
+    returns)

@@ -1,0 +1,124 @@
+-- `walk` meets its contract: at each turn the search is under way with this cursor; each visit leaves one point fewer to do, and else the cursor goes up. Assumes nothing.
+use Prim.Native.Nat.{_+_, _-_, _*_, _≤_}
+use mathlib.Core.Path.{_≡_}
+use native.Mathlib.Omega.{arith}
+use Rattle.walk.specs.Index.{marksLength}
+use Rattle.walk.specs.Successors.{nextOf}
+use Rattle.walk.specs.Verdict.{rootOf}
+use Rattle.loader.specs.Search.{Going, Paged, undone}
+use Rattle.loader.proofs.Laws.{onward, skipped, passed}
+use Rattle.loader.proofs.search.walk.Statement.{statement}
+use Rattle.loader.proofs.search.walk.Tie as tie
+
+abbrev Inv-loop : tie.InvT-loop
+Inv-loop header blocks marks₀ dirty₀ cursor₀ marks dirty cursor = Going (nextOf header blocks) (rootOf header) marks cursor × (cursor ≤ marksLength) × Paged marks dirty
+
+abbrev μ-loop : tie.MeasureT-loop
+μ-loop header blocks marks₀ dirty₀ cursor₀ marks dirty cursor = (marksLength + 1) * undone marks + (marksLength - cursor)
+
+loop-holds : tie.Need-loop-holds Inv-loop μ-loop
+loop-holds c = (c .before .before .pre .1 .1, omega arith, c .before .before .pre .1 .0)
+
+element-copy-out-if1 : tie.Need-element-copy-out-if1 Inv-loop μ-loop
+element-copy-out-if1 c = omega arith
+
+sub-if2 : tie.Need-sub-if2 Inv-loop μ-loop
+sub-if2 c = omega arith
+
+mul-cursor : tie.Need-mul-cursor Inv-loop μ-loop
+mul-cursor c = omega arith
+
+add-cursor : tie.Need-add-cursor Inv-loop μ-loop
+add-cursor c = omega arith
+
+loop-less : tie.Need-loop-less Inv-loop μ-loop
+loop-less c = omega arith
+
+loop-again : tie.Need-loop-again Inv-loop μ-loop
+loop-again c =
+    let v = c .before .before .before .before .loop in
+    (skipped _ _ _ _ _ _ (v .inv .0) (v .inv .2) (c .before .if1 .taken) (omega arith), omega arith, v .inv .2)
+
+loop-less-2 : tie.Need-loop-less-2 Inv-loop μ-loop
+loop-less-2 c = omega arith
+
+loop-again-2 : tie.Need-loop-again-2 Inv-loop μ-loop
+loop-again-2 c =
+    let v = c .before .before .before .before .loop in
+    (skipped _ _ _ _ _ _ (v .inv .0) (v .inv .2) (c .before .if1 .taken) (omega arith), omega arith, v .inv .2)
+
+slice-read-if3 : tie.Need-slice-read-if3 Inv-loop μ-loop
+slice-read-if3 c = omega (arith, c .before .before .before .before .loop .inv .0 .long)
+
+visit-requires : tie.Need-visit-requires Inv-loop μ-loop
+visit-requires c κs =
+    let v = c .before .before .before .before .before .before .before .loop in
+    (c .before .before .before .before .before .before .before .before .before .before .pre .0, (v .inv .0, (c .before .before .before .before .before .before .loop-test .taken, (c .before .before .if3 .taken, v .inv .2))))
+
+loop-less-3 : tie.Need-loop-less-3 Inv-loop μ-loop
+loop-less-3 c = omega (arith, c .before .before .visit .ensures .less, c .before .before .visit .ensures .low)
+
+loop-again-3 : tie.Need-loop-again-3 Inv-loop μ-loop
+loop-again-3 c =
+    let v = c .before .before .visit .ensures in
+    (v .going, omega (arith, v .low, c .before .before .before .before .before .before .before .before .before .before .loop .inv .1), v .paged)
+
+add-cursor-2 : tie.Need-add-cursor-2 Inv-loop μ-loop
+add-cursor-2 c = omega arith
+
+element-write-dirty : tie.Need-element-write-dirty Inv-loop μ-loop
+element-write-dirty c = omega arith
+
+loop-less-4 : tie.Need-loop-less-4 Inv-loop μ-loop
+loop-less-4 c = omega arith
+
+loop-again-4 : tie.Need-loop-again-4 Inv-loop μ-loop
+loop-again-4 c =
+    let v = c .before .before .before .before .before .before .loop in
+    let g = onward _ _ _ _ (v .inv .0) (c .before .if3 .left) in
+    (g, omega arith, passed _ _ _ _ _ _ g (v .inv .2) (omega arith))
+
+loop-less-5 : tie.Need-loop-less-5 Inv-loop μ-loop
+loop-less-5 c = omega arith
+
+loop-again-5 : tie.Need-loop-again-5 Inv-loop μ-loop
+loop-again-5 c =
+    let v = c .before .before .before .before .before .before .loop in
+    (onward _ _ _ _ (v .inv .0) (c .before .if3 .left), omega arith, v .inv .2)
+
+same-length : tie.Need-same-length Inv-loop μ-loop
+same-length c = omega (arith, c .before .loop .inv .0 .long, c .before .before .before .before .pre .1 .1 .long)
+
+returns : tie.Need-returns Inv-loop μ-loop
+returns c =
+    let l = c .before .loop in
+    let e : l .cursor ≡ marksLength = omega arith in
+    rw e at (l .inv .0)
+
+pub walk-spec : {M : Type 1} → statement M
+walk-spec =
+    tie.close
+    (tie.spec
+    Inv-loop
+    μ-loop
+    loop-holds
+    element-copy-out-if1
+    sub-if2
+    mul-cursor
+    add-cursor
+    loop-less
+    loop-again
+    loop-less-2
+    loop-again-2
+    slice-read-if3
+    visit-requires
+    loop-less-3
+    loop-again-3
+    add-cursor-2
+    element-write-dirty
+    loop-less-4
+    loop-again-4
+    loop-less-5
+    loop-again-5
+    same-length
+    returns)

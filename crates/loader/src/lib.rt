@@ -1,0 +1,92 @@
+// The loader (document 01, "Refused because of the input"): which images are accepted, and which refusal with which place all else gets.
+use image::Header;
+use image::reader;
+use program::MARKS_LENGTH;
+use walk::Verdict;
+ghost use mathlib.Core.Path.{_≡_};
+ghost use Prim.Native.Nat.{_≤_};
+ghost use lib.ListN.{length};
+ghost use Rattle.walk.specs.Index.{marksLength};
+ghost use Rattle.walk.specs.Verdict.{blockNumber, blocksVerdict, verdictOf, acceptedBlocks, isAccepted};
+ghost use Rattle.loader.specs.After.{After};
+ghost use Rattle.loader.specs.Search.{Ready, FirstRefused};
+
+mod search;
+
+// The verdict on an image: 13, then 1 to 8, then the least 51 that ends another task (7), then the least bad point (9 to 12). The search works in
+// the first MARKS_LENGTH bytes of marks, which may hold anything; no byte behind them is touched.
+pub fn judge(image: &[u8], marks: &mut [u8]) -> Verdict
+    ensures { λ r. ⌜ r ≡ verdictOf (now (image .entry)) (length (now (marks .entry))) ⌝ }
+    ensures { λ _. ⌜ After marksLength (now (marks .entry)) (now (marks .exit)) ⌝ }
+{
+    if marks.len() < MARKS_LENGTH {
+        return Verdict::MarksShort(marks.len());
+    }
+    let read = reader::read(image);
+    let outcome = read.outcome;
+    if !outcome.is_done() {
+        return Verdict::Image(outcome);
+    }
+    judge_blocks(read.header, reader::block_part(image), marks)
+}
+
+// The part of the image that holds its blocks, the empty part when the image is refused by any number.
+pub fn blocks<'a>(image: &'a [u8], marks: &mut [u8]) -> &'a [u8]
+    ensures { λ r. ⌜ now r ≡ acceptedBlocks (now (image .entry)) (length (now (marks .entry))) ⌝ }
+    ensures { λ _. ⌜ After marksLength (now (marks .entry)) (now (marks .exit)) ⌝ }
+{
+    let verdict = judge(image, marks);
+    if !is_accepted(verdict) {
+        return &image[..0];
+    }
+    reader::block_part(image)
+}
+
+fn is_accepted(verdict: Verdict) -> bool
+    ensures { λ r. ⌜ r ≡ isAccepted verdict ⌝ }
+{
+    match verdict {
+        Verdict::Accepted => true,
+        Verdict::MarksShort(_) => false,
+        Verdict::Image(_) => false,
+        Verdict::Block(_, _) => false,
+        Verdict::Foreign(_) => false,
+        Verdict::Bad(_, _) => false,
+    }
+}
+
+// The blocks of an image with this header, judged upwards by 5 to 8, then the walks.
+fn judge_blocks(header: Header, blocks: &[u8], marks: &mut [u8]) -> Verdict
+    requires { ⌜ Ready header ⌝ }
+    requires { ⌜ marksLength ≤ length (now marks) ⌝ }
+    ensures { λ r. ⌜ r ≡ blocksVerdict header (now (blocks .entry)) 0 (header .count) ⌝ }
+    ensures { λ _. ⌜ After marksLength (now (marks .entry)) (now (marks .exit)) ⌝ }
+{
+    let b = first_refused(header, blocks);
+    if b < header.count {
+        return Verdict::Block(block_number(header, blocks, b), b as usize);
+    }
+    search::judge_walks(header, blocks, marks, MARKS_LENGTH)
+}
+
+// The first block that 5 to 8 refuse, the count where there is none.
+fn first_refused(header: Header, blocks: &[u8]) -> u16
+    ensures { λ r. ⌜ FirstRefused header (now (blocks .entry)) r ⌝ }
+{
+    let mut b: u16 = 0;
+    while b < header.count {
+        if block_number(header, blocks, b) != 0 {
+            return b;
+        }
+        b += 1;
+    }
+    b
+}
+
+// The refusal of a block by 5 to 8, 0 for none.
+fn block_number(header: Header, blocks: &[u8], b: u16) -> u32
+    ensures { λ r. ⌜ r ≡ blockNumber header (now (blocks .entry)) b ⌝ }
+{
+    let decoded = command::decode(header, program::block_at(blocks, b));
+    decoded.number()
+}

@@ -1,0 +1,263 @@
+// The search over points in the lent marks: what walks reach, and the least of it that is refused. A mark is 0 for a point not seen, 1 for one that
+// is pending, 2 for one that is done. The cursor goes up over the marks, over dirty pages only, and back to the least point that has newly
+// become pending.
+use image::Header;
+use image::reader;
+use point::Fault;
+use point::Point;
+use program::Following;
+use program::MARKS_LENGTH;
+use walk::Verdict;
+ghost use mathlib.Core.Path.{_≡_};
+ghost use Prim.Native.Nat.{ℕ, _<_, _≤_};
+ghost use lib.ListN.{length, getD};
+ghost use Rattle.image.specs.Rows.{mostBlocks};
+ghost use Rattle.walk.specs.Program.{faultAt};
+ghost use Rattle.walk.specs.Index.{marksLength, pointAt};
+ghost use Rattle.walk.specs.Successors.{nextOf};
+ghost use Rattle.walk.specs.Verdict.{isForeign, isBad, rootOf, reached, leastForeign, leastBad, verdictBy, walksVerdict};
+ghost use Rattle.loader.specs.After.{After};
+ghost use Rattle.loader.specs.Search.{Ready, Paged, Touched, Going, Visited, Fresh, lowered};
+
+// Marks to a page, and pages.
+const PAGE_LENGTH: usize = 256;
+
+const PAGE_COUNT: usize = 159;
+
+const NOT_SEEN: u8 = 0;
+
+const PENDING: u8 = 1;
+
+const DONE: u8 = 2;
+
+// What the walks of an image with this header and these blocks come to, found in the first n bytes of marks. (n is MARKS_LENGTH; it is no
+// literal here, so that no proof counts it out.)
+pub fn judge_walks(header: Header, blocks: &[u8], marks: &mut [u8], n: usize) -> Verdict
+    requires { ⌜ Ready header ⌝ }
+    requires { ⌜ n ≡ marksLength ⌝ }
+    requires { ⌜ n ≤ length (now marks) ⌝ }
+    ensures { λ r. ⌜ r ≡ walksVerdict header (now (blocks .entry)) ⌝ }
+    ensures { λ _. ⌜ After n (now (marks .entry)) (now (marks .exit)) ⌝ }
+{
+    search(header, blocks, &mut marks[..n])
+}
+
+fn search(header: Header, blocks: &[u8], marks: &mut [u8]) -> Verdict
+    requires { ⌜ Ready header ⌝ }
+    requires { ⌜ length (now marks) ≡ marksLength ⌝ }
+    ensures { λ r. ⌜ r ≡ walksVerdict header (now (blocks .entry)) ⌝ }
+{
+    clear(marks, root(header));
+    let mut dirty = [1u8; 159];
+    walk(header, blocks, marks, &mut dirty);
+    least(header, blocks, marks)
+}
+
+// The number of the first point.
+fn root(header: Header) -> usize
+    ensures { λ r. ⌜ r ≡ rootOf header ⌝ }
+{
+    program::number(point::BIAS, header.start as u32, 0)
+}
+
+// Clears the marks and marks the first point as pending.
+fn clear(marks: &mut [u8], first: usize)
+    requires { ⌜ length (now marks) ≡ marksLength ⌝ }
+    requires { ⌜ first < marksLength ⌝ }
+    ensures { λ _. ⌜ Fresh first (now (marks .exit)) ⌝ }
+{
+    let mut i = 0;
+    while i < MARKS_LENGTH {
+        marks[i] = NOT_SEEN;
+        i += 1;
+    }
+    marks[first] = PENDING;
+}
+
+// From the first point to all that is reached.
+fn walk(header: Header, blocks: &[u8], marks: &mut [u8], dirty: &mut [u8; 159])
+    requires { ⌜ Ready header ⌝ }
+    requires { ⌜ Paged (now marks) (now dirty) ⌝ }
+    requires { ⌜ Going (nextOf header (now blocks)) (rootOf header) (now marks) 0 ⌝ }
+    ensures { λ _. ⌜ Going (nextOf header (now (blocks .entry))) (rootOf header) (now (marks .exit)) marksLength ⌝ }
+{
+    let mut cursor = 0;
+    while cursor < MARKS_LENGTH {
+        let page = cursor / PAGE_LENGTH;
+        if dirty[page] == 0 {
+            if page < PAGE_COUNT - 1 {
+                cursor = page * PAGE_LENGTH + PAGE_LENGTH;
+            } else {
+                cursor = MARKS_LENGTH;
+            }
+        } else {
+            if marks[cursor] == PENDING {
+                cursor = visit(header, blocks, marks, dirty, cursor);
+            } else {
+                cursor += 1;
+                if cursor % PAGE_LENGTH == 0 {
+                    dirty[page] = 0;
+                }
+            }
+        }
+    }
+}
+
+// Handles the pending point p: the points that follow it are touched, and p is done. Returns the cursor to go on from.
+fn visit(header: Header, blocks: &[u8], marks: &mut [u8], dirty: &mut [u8; 159], p: usize) -> usize
+    requires { ⌜ Ready header ⌝ }
+    requires { ⌜ Going (nextOf header (now blocks)) (rootOf header) (now marks) p ⌝ }
+    requires { ⌜ p < marksLength ⌝ }
+    requires { ⌜ getD (now marks) p 0 ≡ 1 ⌝ }
+    requires { ⌜ Paged (now marks) (now dirty) ⌝ }
+    ensures { λ r. ⌜ Visited (nextOf header (now (blocks .entry))) (rootOf header) (now (marks .entry)) (now (marks .exit)) (now (dirty .exit)) p r ⌝ }
+{
+    match program::follow(header, blocks, point_at(p)) {
+        Following::Nothing => {
+            marks[p] = DONE;
+            p
+        }
+        Following::One(a) => {
+            let c = touch(marks, dirty, a, p);
+            marks[p] = DONE;
+            c
+        }
+        Following::Two(a, b) => {
+            let c = touch(marks, dirty, a, p);
+            let d = touch(marks, dirty, b, c);
+            marks[p] = DONE;
+            d
+        }
+    }
+}
+
+// Marks q as pending where it was not seen, and its page as dirty. Returns the cursor, at most q then.
+fn touch(marks: &mut [u8], dirty: &mut [u8; 159], q: usize, cursor: usize) -> usize
+    requires { ⌜ q < length (now marks) ⌝ }
+    requires { ⌜ q < marksLength ⌝ }
+    ensures { λ r. ⌜ Touched (now (marks .entry)) (now (marks .exit)) (now (dirty .entry)) (now (dirty .exit)) q cursor r ⌝ }
+{
+    if marks[q] == NOT_SEEN {
+        marks[q] = PENDING;
+        dirty[q / PAGE_LENGTH] = 1;
+        if q < cursor {
+            return q;
+        }
+        return cursor;
+    }
+    cursor
+}
+
+// The point of a number.
+fn point_at(i: usize) -> Point
+    requires { ⌜ i < marksLength ⌝ }
+    ensures { λ r. ⌜ r ≡ pointAt i ⌝ }
+{
+    let line = i / program::DEPTHS;
+    Point {
+        task: (line / program::BLOCKS) as u8,
+        block: (line % program::BLOCKS) as u16,
+        depth: (i % program::DEPTHS) as u8,
+    }
+}
+
+// The least of what is marked: the least foreign block, or else the least bad point.
+fn least(header: Header, blocks: &[u8], marks: &[u8]) -> Verdict
+    requires { ⌜ Ready header ⌝ }
+    requires { ⌜ Going (nextOf header (now blocks)) (rootOf header) (now marks) marksLength ⌝ }
+    ensures { λ r. ⌜ r ≡ walksVerdict header (now (blocks .entry)) ⌝ }
+{
+    let foreign = least_foreign(header, blocks, marks);
+    let bad = least_bad(header, blocks, marks);
+    verdict_by(header, blocks, foreign, bad)
+}
+
+// The least block of a marked point with a 51 that ends another task; MOST_BLOCKS where there is none.
+fn least_foreign(header: Header, blocks: &[u8], marks: &[u8]) -> usize
+    requires { ⌜ Ready header ⌝ }
+    requires { ⌜ Going (nextOf header (now blocks)) (rootOf header) (now marks) marksLength ⌝ }
+    ensures { λ r. ⌜ r ≡ leastForeign header (now (blocks .entry)) (reached header (now (blocks .entry))) ⌝ }
+{
+    let mut found = reader::MOST_BLOCKS as usize;
+    let mut i = 0;
+    while i < MARKS_LENGTH {
+        if marks[i] != NOT_SEEN {
+            found = lower(header, blocks, i, found);
+        }
+        i += 1;
+    }
+    found
+}
+
+// The lesser of a block and that of point i, if a 51 there ends another task.
+fn lower(header: Header, blocks: &[u8], i: usize, found: usize) -> usize
+    requires { ⌜ i < marksLength ⌝ }
+    ensures { λ r. ⌜ r ≡ lowered header (now (blocks .entry)) i found ⌝ }
+{
+    let p = point_at(i);
+    let block = p.block as usize;
+    if !is_foreign(program::fault_at(header, blocks, p)) {
+        return found;
+    }
+    if block < found {
+        return block;
+    }
+    found
+}
+
+// The least marked point that is bad; MARKS_LENGTH where there is none.
+fn least_bad(header: Header, blocks: &[u8], marks: &[u8]) -> usize
+    requires { ⌜ Ready header ⌝ }
+    requires { ⌜ Going (nextOf header (now blocks)) (rootOf header) (now marks) marksLength ⌝ }
+    ensures { λ r. ⌜ r ≡ leastBad header (now (blocks .entry)) (reached header (now (blocks .entry))) ⌝ }
+{
+    let mut i = 0;
+    while i < MARKS_LENGTH {
+        if marks[i] != NOT_SEEN {
+            if is_bad(program::fault_at(header, blocks, point_at(i))) {
+                return i;
+            }
+        }
+        i += 1;
+    }
+    i
+}
+
+fn verdict_by(header: Header, blocks: &[u8], foreign: usize, bad: usize) -> Verdict
+    ensures { λ r. ⌜ r ≡ verdictBy header (now (blocks .entry)) foreign bad ⌝ }
+{
+    if foreign < reader::MOST_BLOCKS as usize {
+        return Verdict::Foreign(foreign);
+    }
+    if bad < MARKS_LENGTH {
+        let p = point_at(bad);
+        return Verdict::Bad(program::fault_at(header, blocks, p), p);
+    }
+    Verdict::Accepted
+}
+
+fn is_foreign(fault: Fault) -> bool
+    ensures { λ r. ⌜ r ≡ isForeign fault ⌝ }
+{
+    match fault {
+        Fault::Foreign => true,
+        Fault::Fine => false,
+        Fault::Forbidden => false,
+        Fault::TooDeep => false,
+        Fault::NoCall => false,
+        Fault::PastEnd => false,
+    }
+}
+
+fn is_bad(fault: Fault) -> bool
+    ensures { λ r. ⌜ r ≡ isBad fault ⌝ }
+{
+    match fault {
+        Fault::Fine => false,
+        Fault::Foreign => false,
+        Fault::Forbidden => true,
+        Fault::TooDeep => true,
+        Fault::NoCall => true,
+        Fault::PastEnd => true,
+    }
+}

@@ -1,0 +1,86 @@
+-- What a command breaks at a point (document 01: place) of a walk: 7 for a 51 that ends another task, then 9, 10, 11, 12 (document 01, "Refused
+-- because of the input"). Assumes nothing.
+use Prim.Native.Nat.{ℕ, _+_, _/_, _%_}
+use mathlib.Core.Bool.{Bool, true, false, _&&_, _||_, not, cond}
+use mathlib.Core.List.{List, [], _∷_}
+use lib.Dec.{eqb, leb}
+use lib.ListN.{getD}
+use Rattle.rows.specs.Rows.{rowOf, ending}
+use Rattle.image.specs.declared.Header.{Header}
+use Rattle.command.specs.declared.Command.{Command}
+use Rattle.point.specs.Flow.{flowOf, continues}
+use Rattle.point.specs.declared.Point.{Point}
+use Rattle.point.specs.declared.Flow.{Flow}
+use Rattle.point.specs.declared.Flow.the-variants.{Next, Wait, Jump, Branch, Call, Return, Start, Restart, End}
+use Rattle.point.specs.declared.Fault.{Fault}
+use Rattle.point.specs.declared.Fault.the-variants.{Fine, Foreign, Forbidden, TooDeep, NoCall, PastEnd}
+
+-- the limit on depth: the most calls that a task may be inside of
+abbrev pub mostDepth : ℕ
+mostDepth = 8
+
+-- a point of a walk
+abbrev pub point : ℕ → ℕ → ℕ → Point
+point task block depth = record { task = task; block = block; depth = depth }
+
+-- 7: a 51 whose mode names another task than the one that executes it; modes 1, 2 and 3 name BIAS, the PLC and mathematics, mode 0 none
+unfoldable pub foreign : ℕ → Command → Bool
+foreign task c = eqb (rowOf (c .code) .flow) ending && (not (eqb (c .x) 0) && not (eqb (c .x) (task + 1)))
+
+-- 9: the boxes of chapter 3, by task, from the number in the row; there is no task above mathematics
+abbrev pub boxes : ℕ → List Bool
+boxes tasks = eqb (tasks % 2) 1 ∷ eqb (tasks / 2 % 2) 1 ∷ eqb (tasks / 4 % 2) 1 ∷ []
+
+unfoldable pub permitted : ℕ → ℕ → Bool
+permitted code task = getD (boxes (rowOf code .tasks)) task false
+
+-- 10: a call at the greatest depth
+abbrev pub tooDeep : Flow → ℕ → Bool
+tooDeep (Call a) depth = leb mostDepth depth
+tooDeep Next depth = false
+tooDeep Wait depth = false
+tooDeep (Jump a) depth = false
+tooDeep (Branch a) depth = false
+tooDeep Return depth = false
+tooDeep (Start u a) depth = false
+tooDeep Restart depth = false
+tooDeep End depth = false
+
+-- 11: a return at depth 0
+abbrev pub noCall : Flow → ℕ → Bool
+noCall Return depth = eqb depth 0
+noCall Next depth = false
+noCall Wait depth = false
+noCall (Jump a) depth = false
+noCall (Branch a) depth = false
+noCall (Call a) depth = false
+noCall (Start u a) depth = false
+noCall Restart depth = false
+noCall End depth = false
+
+-- 12: one of these blocks is past the end of an image of `count` blocks
+abbrev pub anyPast : ℕ → List ℕ → Bool
+anyPast count [] = false
+anyPast count (b ∷ bs) = leb count b || anyPast count bs
+
+-- 10, 11 and 12 of a flow
+unfoldable pub flowFault : ℕ → Point → Flow → Fault
+flowFault count p f =
+    cond (tooDeep f (p .depth)) TooDeep
+    (cond (noCall f (p .depth)) NoCall
+    (cond (anyPast count (continues (p .task) (p .block) f)) PastEnd Fine))
+
+-- the first that the command c breaks at a point
+unfoldable pub faultOf : Header → Command → Point → Fault
+faultOf h c p =
+    cond (foreign (p .task) c) Foreign
+    (cond (permitted (c .code) (p .task)) (flowFault (h .count) p (flowOf c)) Forbidden)
+
+-- document 01's number
+abbrev pub faultNumber : Fault → ℕ
+faultNumber Fine = 0
+faultNumber Foreign = 7
+faultNumber Forbidden = 9
+faultNumber TooDeep = 10
+faultNumber NoCall = 11
+faultNumber PastEnd = 12

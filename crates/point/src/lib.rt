@@ -1,0 +1,253 @@
+// Points of a walk and what one point breaks (document 01, "Walks"; refusals 7 of a foreign 51, then 9, 10, 11, 12), and what a command may
+// continue with.
+use command::Command;
+use image::Header;
+ghost use mathlib.Core.Path.{_≡_};
+ghost use mathlib.Core.Bool.{cond};
+ghost use mathlib.Core.List.{List, [], _∷_};
+ghost use Rattle.point.specs.Flow.{flowBy, endingBy, flowOf, continues};
+ghost use Rattle.point.specs.Fault.{foreign, permitted, tooDeep, noCall, anyPast, flowFault, faultOf, faultNumber};
+
+// The tasks: BIAS, the PLC, mathematics; and how many there are.
+pub const BIAS: u8 = 0;
+
+pub const PLC: u8 = 1;
+
+pub const MATHEMATICS: u8 = 2;
+
+pub const TASK_COUNT: u8 = 3;
+
+// The limit on depth: the most calls that a task may be inside of.
+pub const MOST_DEPTH: u8 = 8;
+
+// A point of a walk (document 01: place): a task at a block, inside this many calls.
+pub struct Point {
+    pub task: u8,
+    pub block: u16,
+    pub depth: u8,
+}
+
+// What a command may continue with; the blocks named are those of its operands.
+pub enum Flow {
+    // the next block
+    Next,
+    // the next block, or the same again
+    Wait,
+    // the named block
+    Jump(u16),
+    // the named block, or the next
+    Branch(u16),
+    // the named block, one call deeper; the next block at the return
+    Call(u16),
+    // the block behind the latest call
+    Return,
+    // the next block; the task of this number starts at the named block
+    Start(u8, u16),
+    // the start of its own task
+    Restart,
+    // nothing
+    End,
+}
+
+// What a command breaks at a point, the first in this order.
+pub enum Fault {
+    Fine,
+    Foreign,
+    Forbidden,
+    TooDeep,
+    NoCall,
+    PastEnd,
+}
+
+impl Flow {
+    // All that a command may continue with.
+    pub fn of(c: Command) -> Flow
+        ensures { λ r. ⌜ r ≡ flowOf c ⌝ }
+    {
+        let row = rows::find(c.code);
+        flow_by(row.flow, c.x, c.word)
+    }
+}
+
+impl Fault {
+    // Document 01's number, 0 for none.
+    pub fn number(self) -> u32
+        ensures { λ r. ⌜ r ≡ faultNumber self ⌝ }
+    {
+        match self {
+            Fault::Fine => 0,
+            Fault::Foreign => 7,
+            Fault::Forbidden => 9,
+            Fault::TooDeep => 10,
+            Fault::NoCall => 11,
+            Fault::PastEnd => 12,
+        }
+    }
+}
+
+impl Point {
+    // What a command breaks at this point of an image with this header.
+    pub fn fault(self, header: Header, c: Command) -> Fault
+        ensures { λ r. ⌜ r ≡ faultOf header c self ⌝ }
+    {
+        let task = self.task;
+        if foreign(task, c) {
+            return Fault::Foreign;
+        }
+        if !permitted(c.code, task) {
+            return Fault::Forbidden;
+        }
+        flow_fault(header.count, self, Flow::of(c))
+    }
+}
+
+// Whether a 51 ends another task than the one that executes it.
+pub fn foreign(task: u8, c: Command) -> bool
+    ensures { λ r. ⌜ r ≡ foreign task c ⌝ }
+{
+    let mode = c.x;
+    let row = rows::find(c.code);
+    if row.flow != rows::ENDING {
+        return false;
+    }
+    if mode == 0 {
+        return false;
+    }
+    mode as u16 != task as u16 + 1
+}
+
+// Whether the boxes of the manual let a task use a code.
+pub fn permitted(code: u8, task: u8) -> bool
+    ensures { λ r. ⌜ r ≡ permitted code task ⌝ }
+{
+    let row = rows::find(code);
+    let tasks = row.tasks;
+    match task {
+        BIAS => tasks % 2 == 1,
+        PLC => tasks / 2 % 2 == 1,
+        MATHEMATICS => tasks / 4 % 2 == 1,
+        _ => false,
+    }
+}
+
+fn flow_by(flow: u8, x: u8, word: u16) -> Flow
+    ensures { λ r. ⌜ r ≡ flowBy flow x word ⌝ }
+{
+    match flow {
+        rows::NEXT => Flow::Next,
+        rows::WAIT => Flow::Wait,
+        rows::JUMP => Flow::Jump(word),
+        rows::BRANCH => Flow::Branch(word),
+        rows::CALL => Flow::Call(word),
+        rows::RETURN => Flow::Return,
+        rows::START_BIAS => Flow::Start(BIAS, word),
+        rows::START_PLC => Flow::Start(PLC, word),
+        rows::START_MATHEMATICS => Flow::Start(MATHEMATICS, word),
+        rows::ENDING => ending(x),
+        _ => Flow::End,
+    }
+}
+
+// The flow of 51, by its mode.
+fn ending(mode: u8) -> Flow
+    ensures { λ r. ⌜ r ≡ endingBy mode ⌝ }
+{
+    if mode == 0 {
+        return Flow::Restart;
+    }
+    Flow::End
+}
+
+// What a flow breaks at a point of an image of this many blocks: 10, 11 or 12.
+fn flow_fault(count: u16, p: Point, f: Flow) -> Fault
+    ensures { λ r. ⌜ r ≡ flowFault count p f ⌝ }
+{
+    if too_deep(f, p.depth) {
+        return Fault::TooDeep;
+    }
+    if no_call(f, p.depth) {
+        return Fault::NoCall;
+    }
+    if past_end(count, p.task, p.block, f) {
+        return Fault::PastEnd;
+    }
+    Fault::Fine
+}
+
+// A call at the greatest depth.
+fn too_deep(f: Flow, depth: u8) -> bool
+    ensures { λ r. ⌜ r ≡ tooDeep f depth ⌝ }
+{
+    match f {
+        Flow::Call(_) => depth >= MOST_DEPTH,
+        Flow::Next => false,
+        Flow::Wait => false,
+        Flow::Jump(_) => false,
+        Flow::Branch(_) => false,
+        Flow::Return => false,
+        Flow::Start(_, _) => false,
+        Flow::Restart => false,
+        Flow::End => false,
+    }
+}
+
+// A return at depth 0.
+fn no_call(f: Flow, depth: u8) -> bool
+    ensures { λ r. ⌜ r ≡ noCall f depth ⌝ }
+{
+    match f {
+        Flow::Return => depth == 0,
+        Flow::Next => false,
+        Flow::Wait => false,
+        Flow::Jump(_) => false,
+        Flow::Branch(_) => false,
+        Flow::Call(_) => false,
+        Flow::Start(_, _) => false,
+        Flow::Restart => false,
+        Flow::End => false,
+    }
+}
+
+// Whether a block that the command at this block of this task may continue with is past the end of an image of this many blocks.
+fn past_end(count: u16, task: u8, block: u16, f: Flow) -> bool
+    ensures { λ r. ⌜ r ≡ anyPast count (continues task block f) ⌝ }
+{
+    let here = block as u32;
+    let next = here + 1;
+    match f {
+        Flow::Next => past(count, next),
+        Flow::Wait => either_past(count, next, here),
+        Flow::Jump(a) => past(count, a as u32),
+        Flow::Branch(a) => either_past(count, a as u32, next),
+        Flow::Call(a) => either_past(count, a as u32, next),
+        Flow::Return => false,
+        Flow::Start(u, a) => start_past(count, u == task, a as u32, next),
+        Flow::Restart => false,
+        Flow::End => false,
+    }
+}
+
+// A command that starts its own task leads only to the named block.
+fn start_past(count: u16, own: bool, named: u32, next: u32) -> bool
+    ensures { λ r. ⌜ r ≡ anyPast count (cond own (named ∷ []) (named ∷ next ∷ [])) ⌝ }
+{
+    if own {
+        return past(count, named);
+    }
+    either_past(count, named, next)
+}
+
+fn either_past(count: u16, a: u32, b: u32) -> bool
+    ensures { λ r. ⌜ r ≡ anyPast count (a ∷ b ∷ []) ⌝ }
+{
+    if past(count, a) {
+        return true;
+    }
+    past(count, b)
+}
+
+fn past(count: u16, a: u32) -> bool
+    ensures { λ r. ⌜ r ≡ anyPast count (a ∷ []) ⌝ }
+{
+    count as u32 <= a
+}

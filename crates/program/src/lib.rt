@@ -1,0 +1,122 @@
+// The blocks of an image as a graph of points: the command at a block, what a point breaks, and the points that follow it. Blocks are any bytes:
+// a byte past their end is read as 0.
+use command::Command;
+use command::operands;
+use image::Header;
+use image::reader;
+use point::Fault;
+use point::Flow;
+use point::Point;
+ghost use mathlib.Core.Path.{_≡_};
+ghost use mathlib.Core.Bool.{cond};
+ghost use mathlib.Core.List.{List, [], _∷_};
+ghost use lib.ListN.{getD};
+ghost use Rattle.point.specs.Fault.{point};
+ghost use Rattle.walk.specs.Program.{bytesFrom, blockAt, commandAt, faultAt};
+ghost use Rattle.walk.specs.Index.{indexOf};
+ghost use Rattle.walk.specs.Successors.{goes, unless, successors, indices};
+ghost use Rattle.program.specs.Numbers.{numbers};
+
+// Blocks and depths that a task may have: the factors of a point's number.
+pub const BLOCKS: usize = reader::MOST_BLOCKS as usize;
+
+pub const DEPTHS: usize = point::MOST_DEPTH as usize + 1;
+
+// The marks that a search needs, one for each point.
+pub const MARKS_LENGTH: usize = point::TASK_COUNT as usize * BLOCKS * DEPTHS;
+
+// The points that follow a point, by their numbers in the marks: at most two.
+pub enum Following {
+    Nothing,
+    One(usize),
+    Two(usize, usize),
+}
+
+// The points that follow a point.
+pub fn follow(header: Header, blocks: &[u8], p: Point) -> Following
+    ensures { λ r. ⌜ numbers r ≡ indices (successors header (now (blocks .entry)) p) ⌝ }
+{
+    let c = command_at(blocks, p.block);
+    let fault = p.fault(header, c);
+    if fault.number() != 0 {
+        return Following::Nothing;
+    }
+    follow_flow(p, Flow::of(c))
+}
+
+// What the command at a point breaks there.
+pub fn fault_at(header: Header, blocks: &[u8], p: Point) -> Fault
+    ensures { λ r. ⌜ r ≡ faultAt header (now (blocks .entry)) p ⌝ }
+{
+    p.fault(header, command_at(blocks, p.block))
+}
+
+// The command at a block, without judging it.
+pub fn command_at(blocks: &[u8], b: u16) -> Command
+    ensures { λ r. ⌜ r ≡ commandAt (now (blocks .entry)) b ⌝ }
+{
+    operands::read(block_at(blocks, b))
+}
+
+// The eight bytes of a block.
+pub fn block_at(blocks: &[u8], b: u16) -> [u8; 8]
+    ensures { λ r. ⌜ r ≡ blockAt (now (blocks .entry)) b ⌝ }
+{
+    let at = reader::BLOCK_LENGTH * (b as usize);
+    [
+        byte_at(blocks, at),
+        byte_at(blocks, at + 1),
+        byte_at(blocks, at + 2),
+        byte_at(blocks, at + 3),
+        byte_at(blocks, at + 4),
+        byte_at(blocks, at + 5),
+        byte_at(blocks, at + 6),
+        byte_at(blocks, at + 7),
+    ]
+}
+
+fn byte_at(bytes: &[u8], at: usize) -> u8
+    ensures { λ r. ⌜ r ≡ getD (now (bytes .entry)) at 0 ⌝ }
+{
+    if at < bytes.len() {
+        return bytes[at];
+    }
+    0
+}
+
+// The number of a point in the marks.
+pub fn number(task: u8, block: u32, depth: u32) -> usize
+    ensures { λ r. ⌜ r ≡ indexOf (point task block depth) ⌝ }
+{
+    ((task as usize) * BLOCKS + block as usize) * DEPTHS + depth as usize
+}
+
+// The points that a flow leads to.
+fn follow_flow(p: Point, f: Flow) -> Following
+    ensures { λ r. ⌜ numbers r ≡ indices (goes p f) ⌝ }
+{
+    let task = p.task;
+    let depth = p.depth as u32;
+    let next = number(task, p.block as u32 + 1, depth);
+    match f {
+        Flow::Next => Following::One(next),
+        Flow::Wait => Following::One(next),
+        Flow::Jump(a) => Following::One(number(task, a as u32, depth)),
+        Flow::Branch(a) => Following::Two(number(task, a as u32, depth), next),
+        Flow::Call(a) => Following::Two(number(task, a as u32, depth + 1), next),
+        Flow::Return => Following::Nothing,
+        Flow::Start(u, a) => follow_start(u == task, number(u, a as u32, 0), next),
+        Flow::Restart => Following::Nothing,
+        Flow::End => Following::Nothing,
+    }
+}
+
+// A command that starts its own task leads only to the named block.
+fn follow_start(own: bool, named: usize, next: usize) -> Following
+    ensures { λ r. ⌜ numbers r ≡ cond own (named ∷ []) (named ∷ next ∷ []) ⌝ }
+{
+    if own {
+        return Following::One(named);
+    }
+    Following::Two(named, next)
+}

@@ -1,0 +1,2 @@
+mod Missed
+pub mod Laws

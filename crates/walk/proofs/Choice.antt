@@ -1,0 +1,54 @@
+-- Tests that are true or false, and memberships. Assumes nothing.
+use Prim.Native.Nat.{ℕ}
+use mathlib.Core.Path.{_≡_, refl, sym, _∙_}
+use mathlib.Core.Bool.{Bool, true, false, _&&_, _||_}
+use mathlib.Core.Logic.{_⊎_, inl, inr, ⊎-elim}
+use mathlib.Core.List.{List, [], _∷_, _++_}
+use borrow.Author.Tests.{eqb-true, eq-eqb}
+use lib.Dec.{eqb}
+use Rattle.image.proofs.Choice.{clash}
+use Rattle.walk.specs.Graph.{In, has}
+
+-- one of two
+pub or-is : (a b : Bool) → (a || b) ≡ true → (a ≡ true) ⊎ (b ≡ true)
+or-is true b e = inl refl
+or-is false b e = inr e
+
+-- none of two
+pub neither : (a b : Bool) → (a || b) ≡ false → (a ≡ false) × (b ≡ false)
+neither true b e = clash e
+neither false b e = (refl, e)
+
+-- not both of two
+pub not-both : (a b : Bool) → (a && b) ≡ false → (a ≡ false) ⊎ (b ≡ false)
+not-both true b e = inr e
+not-both false b e = inl refl
+
+-- a test that is not true is false
+pub not-is : (a : Bool) → (a ≡ true → ⊥) → a ≡ false
+not-is true n = absurd (n refl)
+not-is false n = refl
+
+-- by cases on a test
+pub test : {P : Type 0} (a : Bool) → (a ≡ true → P) → (a ≡ false → P) → P
+test true f g = f refl
+test false f g = g refl
+
+pub has-in : (xs : List ℕ) (q : ℕ) → has xs q ≡ true → In q xs
+has-in [] q e = clash (sym e)
+has-in (x ∷ xs) q e = ⊎-elim (λ i. inl (eqb-true q x i)) (λ m. inr (has-in xs q m)) (or-is (eqb q x) (has xs q) e)
+
+module _ {A : Type 0} where
+  pub in-left : (xs ys : List A) (q : A) → In q xs → In q (xs ++ ys)
+  in-left [] ys q m = absurd m
+  in-left (x ∷ xs) ys q (inl i) = inl i
+  in-left (x ∷ xs) ys q (inr m) = inr (in-left xs ys q m)
+
+  pub in-right : (xs ys : List A) (q : A) → In q ys → In q (xs ++ ys)
+  in-right [] ys q m = m
+  in-right (x ∷ xs) ys q m = inr (in-right xs ys q m)
+
+  pub in-either : (xs ys : List A) (q : A) → In q (xs ++ ys) → In q xs ⊎ In q ys
+  in-either [] ys q m = inr m
+  in-either (x ∷ xs) ys q (inl i) = inl (inl i)
+  in-either (x ∷ xs) ys q (inr m) = ⊎-elim (λ l. inl (inr l)) (λ r. inr r) (in-either xs ys q m)

@@ -1,0 +1,11 @@
+pub mod Choice
+pub mod GraphLaws
+pub mod Least
+pub mod IndexLaws
+pub mod Within
+pub mod Moves
+pub mod Steps
+pub mod History
+pub mod Exactly
+pub mod Judged
+pub mod Fast

@@ -1,0 +1,318 @@
+-- A step of a walk is a move by its command's flow: the codes that the walks' sentences name are those that the rows give these flows, by one
+-- computation over all rows; and the moves of a flow are the points that follow. Assumes nothing.
+use Prim.Native.Nat.{ℕ, zero, suc, _+_, _<_}
+use mathlib.Core.Path.{_≡_, refl, sym, ap, _∙_}
+use mathlib.Core.Bool.{Bool, true, false, _&&_, _||_, not, cond, or-false}
+use mathlib.Core.Logic.{_⊎_, inl, inr, ⊎-elim}
+use mathlib.Core.List.{List, [], _∷_}
+use native.Mathlib.Omega.{arith}
+use lib.ListN.{getD}
+use lib.Dec.{T, eqb, ltb}
+use borrow.Author.Tests.{eqb-true, eqb-false, eq-eqb, ne-eqb, ltb-true, not-true}
+use Rattle.image.proofs.Choice.{clash, both}
+use Rattle.rows.specs.Rows.{hex, noRow, rows, rowIn, rowOf, branch, return, startBias, startPlc, startMathematics, ending}
+use Rattle.rows.specs.Rows.{jump as jumped, call as called}
+use Rattle.rows.specs.declared.Row.{Row}
+use Rattle.rows.proofs.Laws.{every, every-row}
+use Rattle.command.specs.declared.Command.{Command}
+use Rattle.point.specs.Flow.{bias, plc, mathematics, flows, flowBy, flowOf}
+use Rattle.point.specs.Fault.{point, boxes, permitted}
+use Rattle.point.specs.declared.Point.{Point}
+use Rattle.point.specs.declared.Flow.{Flow}
+use Rattle.point.specs.declared.Flow.the-variants.{Next, Wait, Jump, Branch, Call, Return, Start, Restart, End}
+use Rattle.walk.specs.Graph.{In}
+use Rattle.walk.specs.Walk.{oneOf, jumps, starts, goesOn}
+use Rattle.walk.specs.Successors.{goes}
+use Rattle.walk.proofs.Choice.{test, or-is}
+
+-- ---- flows by their numbers
+
+abbrev pub jumpsBy : ℕ → Bool
+jumpsBy n = eqb n jumped || eqb n branch
+
+abbrev pub startsBy : ℕ → ℕ → Bool
+startsBy n u = (eqb n startBias && eqb u bias) || ((eqb n startPlc && eqb u plc) || (eqb n startMathematics && eqb u mathematics))
+
+abbrev pub onBy : ℕ → ℕ → Bool
+onBy n task = not (oneOf (ending ∷ called ∷ return ∷ jumped ∷ []) n || startsBy n task)
+
+same : Bool → Bool → Bool
+same true b = b
+same false b = not b
+
+same-is : (a b : Bool) → same a b ≡ true → a ≡ b
+unfolding same
+same-is true true e = refl
+same-is true false e = clash (sym e)
+same-is false true e = clash (sym e)
+same-is false false e = refl
+
+-- a code and its flow: each code that walks name has a flow of its own, and jumps are jumps
+agrees : ℕ → Row → Bool
+agrees code r =
+    same (eqb code (hex 5 1)) (eqb (r .flow) ending) &&
+    (same (eqb code (hex 5 2)) (eqb (r .flow) called) &&
+    (same (eqb code (hex 5 3)) (eqb (r .flow) return) &&
+    (same (eqb code (hex 5 5)) (eqb (r .flow) jumped) &&
+    (same (eqb code (hex 5 7)) (eqb (r .flow) startBias) &&
+    (same (eqb code (hex 5 4)) (eqb (r .flow) startPlc) &&
+    (same (eqb code (hex 9 0)) (eqb (r .flow) startMathematics) &&
+    (same (jumps code) (jumpsBy (r .flow)) &&
+    (ltb 0 (r .flow) && ltb (r .flow) 11))))))))
+
+all-agree : T (every agrees rows)
+unfolding agrees same rows
+all-agree = tt
+
+-- what a code that some task may use has to do with its flow n
+pub record Flows (code n : ℕ) : Type 0 where
+  pub ends : eqb code (hex 5 1) ≡ eqb n ending
+  pub calls : eqb code (hex 5 2) ≡ eqb n called
+  pub returns : eqb code (hex 5 3) ≡ eqb n return
+  pub goes-to : eqb code (hex 5 5) ≡ eqb n jumped
+  pub begins-bias : eqb code (hex 5 7) ≡ eqb n startBias
+  pub begins-plc : eqb code (hex 5 4) ≡ eqb n startPlc
+  pub begins-mathematics : eqb code (hex 9 0) ≡ eqb n startMathematics
+  pub jumping : jumps code ≡ jumpsBy n
+  pub some : 0 < n
+  pub known : n < 11
+
+flows-of : (code : ℕ) (r : Row) → agrees code r ≡ true → Flows code (r .flow)
+unfolding agrees
+flows-of code r e =
+    let a = both _ _ e in
+    let b = both _ _ (a .1) in
+    let c = both _ _ (b .1) in
+    let d = both _ _ (c .1) in
+    let f = both _ _ (d .1) in
+    let g = both _ _ (f .1) in
+    let h = both _ _ (g .1) in
+    let i = both _ _ (h .1) in
+    let j = both _ _ (i .1) in
+    record {
+      ends = same-is _ _ (a .0);
+      calls = same-is _ _ (b .0);
+      returns = same-is _ _ (c .0);
+      goes-to = same-is _ _ (d .0);
+      begins-bias = same-is _ _ (f .0);
+      begins-plc = same-is _ _ (g .0);
+      begins-mathematics = same-is _ _ (h .0);
+      jumping = same-is _ _ (i .0);
+      some = ltb-true _ _ (j .0);
+      known = ltb-true _ _ (j .1);
+    }
+
+-- no task may use a code that has no row
+no-boxes : (task : ℕ) → getD (boxes 0) task false ≡ false
+no-boxes zero = refl
+no-boxes (suc zero) = refl
+no-boxes (suc (suc zero)) = refl
+no-boxes (suc (suc (suc task))) = refl
+
+pub carried : (code task : ℕ) → permitted code task ≡ true → Flows code (rowOf code .flow)
+unfolding permitted rowOf
+carried code task e =
+    ⊎-elim (λ (n : rowIn rows code ≡ noRow). clash (sym e ∙ ap (λ (r : Row). getD (boxes (r .tasks)) task false) n ∙ no-boxes task)) (λ a. flows-of code (rowIn rows code) a)
+    (every-row agrees rows all-agree code)
+
+-- ---- flows as such: what each lets a walk do
+
+abbrev pub onF : Flow → ℕ → Bool
+onF Next t = true
+onF Wait t = true
+onF (Jump a) t = false
+onF (Branch a) t = true
+onF (Call a) t = false
+onF Return t = false
+onF (Start u a) t = not (eqb t u)
+onF Restart t = false
+onF End t = false
+
+abbrev pub jumpF : Flow → Bool
+jumpF Next = false
+jumpF Wait = false
+jumpF (Jump a) = true
+jumpF (Branch a) = true
+jumpF (Call a) = false
+jumpF Return = false
+jumpF (Start u a) = false
+jumpF Restart = false
+jumpF End = false
+
+abbrev pub callF : Flow → Bool
+callF Next = false
+callF Wait = false
+callF (Jump a) = false
+callF (Branch a) = false
+callF (Call a) = true
+callF Return = false
+callF (Start u a) = false
+callF Restart = false
+callF End = false
+
+abbrev pub startF : Flow → ℕ → Bool
+startF Next v = false
+startF Wait v = false
+startF (Jump a) v = false
+startF (Branch a) v = false
+startF (Call a) v = false
+startF Return v = false
+startF (Start u a) v = eqb v u
+startF Restart v = false
+startF End v = false
+
+-- the block that a flow names is the operand
+abbrev pub Names : ℕ → Flow → Type 0
+Names word Next = Unit {0}
+Names word Wait = Unit {0}
+Names word (Jump a) = a ≡ word
+Names word (Branch a) = a ≡ word
+Names word (Call a) = a ≡ word
+Names word Return = Unit {0}
+Names word (Start u a) = a ≡ word
+Names word Restart = Unit {0}
+Names word End = Unit {0}
+
+pub record Flowing (n word : ℕ) (f : Flow) : Type 0 where
+  pub on : (t : ℕ) → onBy n t ≡ onF f t
+  pub jump : jumpsBy n ≡ jumpF f
+  pub call : eqb n called ≡ callF f
+  pub start : (v : ℕ) → startsBy n v ≡ startF f v
+  pub names : Names word f
+
+-- a flow by its number lets a walk do what its number says
+module _ (x word : ℕ) where
+  ends : (t : Bool) → Flowing ending word (cond t Restart End)
+  ends true = record { on = λ t. refl; jump = refl; call = refl; start = λ v. refl; names = tt }
+  ends false = record { on = λ t. refl; jump = refl; call = refl; start = λ v. refl; names = tt }
+
+  pub flowing : (n : ℕ) → 0 < n → n < 11 → Flowing n word (flowBy n x word)
+  unfolding flowBy
+  flowing zero l m = absurd (omega arith)
+  flowing (suc zero) l m = record { on = λ t. refl; jump = refl; call = refl; start = λ v. refl; names = tt }
+  flowing (suc (suc zero)) l m = record { on = λ t. refl; jump = refl; call = refl; start = λ v. refl; names = tt }
+  flowing (suc (suc (suc zero))) l m = record { on = λ t. refl; jump = refl; call = refl; start = λ v. refl; names = refl }
+  flowing (suc (suc (suc (suc zero)))) l m = record { on = λ t. refl; jump = refl; call = refl; start = λ v. refl; names = refl }
+  flowing (suc (suc (suc (suc (suc zero))))) l m = record { on = λ t. refl; jump = refl; call = refl; start = λ v. refl; names = refl }
+  flowing (suc (suc (suc (suc (suc (suc zero)))))) l m = record { on = λ t. refl; jump = refl; call = refl; start = λ v. refl; names = tt }
+  flowing (suc (suc (suc (suc (suc (suc (suc zero))))))) l m =
+      record { on = λ t. ap not (or-false (eqb t bias)); jump = refl; call = refl; start = λ v. or-false _; names = refl }
+  flowing (suc (suc (suc (suc (suc (suc (suc (suc zero)))))))) l m =
+      record { on = λ t. ap not (or-false (eqb t plc)); jump = refl; call = refl; start = λ v. or-false _; names = refl }
+  flowing (suc (suc (suc (suc (suc (suc (suc (suc (suc zero))))))))) l m =
+      record { on = λ t. refl; jump = refl; call = refl; start = λ v. refl; names = refl }
+  flowing (suc (suc (suc (suc (suc (suc (suc (suc (suc (suc zero)))))))))) l m = ends (eqb x 0)
+  flowing (suc (suc (suc (suc (suc (suc (suc (suc (suc (suc (suc n))))))))))) l m = absurd (omega arith)
+
+-- ---- moves
+
+-- a move from p by the flow f, with the operand word
+pub data Move (f : Flow) (word : ℕ) (p : Point) : Point → Type 0 where
+  on : onF f (p .task) ≡ true → Move f word p (point (p .task) (p .block + 1) (p .depth))
+  jump : jumpF f ≡ true → Move f word p (point (p .task) word (p .depth))
+  call : callF f ≡ true → Move f word p (point (p .task) word (p .depth + 1))
+  behind : callF f ≡ true → Move f word p (point (p .task) (p .block + 1) (p .depth))
+  start : (u : ℕ) → startF f u ≡ true → Move f word p (point u word 0)
+
+-- a move by the flow leads to a point that follows
+module _ (word : ℕ) (p : Point) where
+  abbrev beyond : Point
+  beyond = point (p .task) (p .block + 1) (p .depth)
+
+  on-in : (f : Flow) → onF f (p .task) ≡ true → In beyond (goes p f)
+  on-in Next e = inl refl
+  on-in Wait e = inl refl
+  on-in (Jump a) e = clash (sym e)
+  on-in (Branch a) e = inr (inl refl)
+  on-in (Call a) e = clash (sym e)
+  on-in Return e = clash (sym e)
+  on-in (Start u a) e = beside u a (not-true (eqb (p .task) u) e)
+    where
+      beside : (u a : ℕ) → eqb (p .task) u ≡ false → In beyond (cond (eqb u (p .task)) (point u a 0 ∷ []) (point u a 0 ∷ beyond ∷ []))
+      beside u a i = rw (ne-eqb u (p .task) (λ j. eqb-false (p .task) u i (sym j))) (inr (inl refl))
+  on-in Restart e = clash (sym e)
+  on-in End e = clash (sym e)
+
+  jump-in : (f : Flow) → Names word f → jumpF f ≡ true → In (point (p .task) word (p .depth)) (goes p f)
+  jump-in Next n e = clash (sym e)
+  jump-in Wait n e = clash (sym e)
+  jump-in (Jump a) n e = rw n (inl refl)
+  jump-in (Branch a) n e = rw n (inl refl)
+  jump-in (Call a) n e = clash (sym e)
+  jump-in Return n e = clash (sym e)
+  jump-in (Start u a) n e = clash (sym e)
+  jump-in Restart n e = clash (sym e)
+  jump-in End n e = clash (sym e)
+
+  call-in : (f : Flow) → Names word f → callF f ≡ true → In (point (p .task) word (p .depth + 1)) (goes p f)
+  call-in Next n e = clash (sym e)
+  call-in Wait n e = clash (sym e)
+  call-in (Jump a) n e = clash (sym e)
+  call-in (Branch a) n e = clash (sym e)
+  call-in (Call a) n e = rw n (inl refl)
+  call-in Return n e = clash (sym e)
+  call-in (Start u a) n e = clash (sym e)
+  call-in Restart n e = clash (sym e)
+  call-in End n e = clash (sym e)
+
+  behind-in : (f : Flow) → callF f ≡ true → In beyond (goes p f)
+  behind-in Next e = clash (sym e)
+  behind-in Wait e = clash (sym e)
+  behind-in (Jump a) e = clash (sym e)
+  behind-in (Branch a) e = clash (sym e)
+  behind-in (Call a) e = inr (inl refl)
+  behind-in Return e = clash (sym e)
+  behind-in (Start u a) e = clash (sym e)
+  behind-in Restart e = clash (sym e)
+  behind-in End e = clash (sym e)
+
+  start-in : (f : Flow) → Names word f → (u : ℕ) → startF f u ≡ true → In (point u word 0) (goes p f)
+  start-in Next n v e = clash (sym e)
+  start-in Wait n v e = clash (sym e)
+  start-in (Jump a) n v e = clash (sym e)
+  start-in (Branch a) n v e = clash (sym e)
+  start-in (Call a) n v e = clash (sym e)
+  start-in Return n v e = clash (sym e)
+  start-in (Start u a) n v e = rw (eqb-true v u e, ← n) (first u a (eqb u (p .task)))
+    where
+      first : (u a : ℕ) (t : Bool) → In (point u a 0) (cond t (point u a 0 ∷ []) (point u a 0 ∷ beyond ∷ []))
+      first u a true = inl refl
+      first u a false = inl refl
+  start-in Restart n v e = clash (sym e)
+  start-in End n v e = clash (sym e)
+
+  pub moved : (f : Flow) → Names word f → (q : Point) → Move f word p q → In q (goes p f)
+  moved f n _ (Move.on e) = on-in f e
+  moved f n _ (Move.jump e) = jump-in f n e
+  moved f n _ (Move.call e) = call-in f n e
+  moved f n _ (Move.behind e) = behind-in f e
+  moved f n _ (Move.start u e) = start-in f n u e
+
+  -- and what follows is such a move
+  pub moves : (f : Flow) → Names word f → (q : Point) → In q (goes p f) → Move f word p q
+  moves Next n q (inl e) = rw e (Move.on refl)
+  moves Next n q (inr m) = absurd m
+  moves Wait n q (inl e) = rw e (Move.on refl)
+  moves Wait n q (inr m) = absurd m
+  moves (Jump a) n q (inl e) = rw (e, n) (Move.jump refl)
+  moves (Jump a) n q (inr m) = absurd m
+  moves (Branch a) n q (inl e) = rw (e, n) (Move.jump refl)
+  moves (Branch a) n q (inr (inl e)) = rw e (Move.on refl)
+  moves (Branch a) n q (inr (inr m)) = absurd m
+  moves (Call a) n q (inl e) = rw (e, n) (Move.call refl)
+  moves (Call a) n q (inr (inl e)) = rw e (Move.behind refl)
+  moves (Call a) n q (inr (inr m)) = absurd m
+  moves Return n q m = absurd m
+  moves (Start u a) n q m = begun (eqb u (p .task)) refl m
+    where
+      there : (q : Point) → q ≡ point u a 0 → Move (Start u a) word p q
+      there q e = rw (e, n) (Move.start u (eq-eqb u u refl))
+
+      begun : (t : Bool) → eqb u (p .task) ≡ t → In q (cond t (point u a 0 ∷ []) (point u a 0 ∷ beyond ∷ [])) → Move (Start u a) word p q
+      begun true i (inl e) = there q e
+      begun true i (inr m) = absurd m
+      begun false i (inl e) = there q e
+      begun false i (inr (inl e)) = rw e (Move.on (ap not (ne-eqb (p .task) u (λ j. eqb-false u (p .task) i (sym j)))))
+      begun false i (inr (inr m)) = absurd m
+  moves Restart n q m = absurd m
+  moves End n q m = absurd m

@@ -1,0 +1,77 @@
+-- A step of a walk from a point that breaks nothing is a move by the command's flow, a stay, or a return to a start; and each move is a step.
+-- Assumes nothing.
+use Prim.Native.Nat.{ℕ, _+_}
+use mathlib.Core.Path.{_≡_, refl, sym, ap, _∙_}
+use mathlib.Core.Bool.{Bool, true, false}
+use mathlib.Core.Logic.{_⊎_, inl, inr, ⊎-elim}
+use mathlib.Core.List.{List}
+use lib.Dec.{eqb}
+use borrow.Author.Tests.{eqb-true, eqb-false, eq-eqb}
+use Rattle.image.specs.declared.Header.{Header}
+use Rattle.rows.specs.Rows.{hex, rowOf}
+use Rattle.command.specs.declared.Command.{Command}
+use Rattle.point.specs.Flow.{flowOf}
+use Rattle.point.specs.Fault.{point, permitted}
+use Rattle.point.specs.declared.Point.{Point}
+use Rattle.walk.specs.Graph.{In}
+use Rattle.walk.specs.Walk.{Named, jumps, starts, goesOn, startOf, Step}
+use Rattle.walk.specs.Successors.{goes}
+use Rattle.walk.proofs.Choice.{test}
+use Rattle.walk.proofs.Moves.{Flows, carried, onBy, startsBy, callF, Flowing, flowing, Move, moved, moves}
+
+-- where a step leads that is no move
+pub data Special (h : Header) (bs : List ℕ) (path : List Point) (p : Point) (c : Command) (q : Point) : Type 0 where
+  stays : q ≡ p → Special h bs path p c q
+  restarts : (a : ℕ) → startOf h bs (p .task) path ≡ Named.block a → q ≡ point (p .task) a 0 → Special h bs path p c q
+
+module _ (h : Header) (bs : List ℕ) (path : List Point) (p : Point) (c : Command) (allowed : permitted (c .code) (p .task) ≡ true) where
+  codes : Flows (c .code) (rowOf (c .code) .flow)
+  codes = carried (c .code) (p .task) allowed
+
+  flow : Flowing (rowOf (c .code) .flow) (c .word) (flowOf c)
+  unfolding flowOf
+  flow = flowing (c .x) (c .word) (rowOf (c .code) .flow) (codes .some) (codes .known)
+
+  begins : (u : ℕ) → starts (c .code) u ≡ startsBy (rowOf (c .code) .flow) u
+  begins u = rw (codes .begins-bias, codes .begins-plc, codes .begins-mathematics)
+
+  on : (t : ℕ) → goesOn (c .code) t ≡ onBy (rowOf (c .code) .flow) t
+  on t =
+      rw (codes .ends, codes .calls, codes .returns, codes .goes-to, codes .begins-bias, codes .begins-plc, codes .begins-mathematics)
+
+  called : c .code ≡ hex 5 2 → callF (flowOf c) ≡ true
+  called e = sym (flow .call) ∙ sym (codes .calls) ∙ eq-eqb _ _ e
+
+  step-move : (q : Point) → Step h bs path p c q → Move (flowOf c) (c .word) p q ⊎ Special h bs path p c q
+  step-move _ (Step.next e) = inl (Move.on (sym (flow .on (p .task)) ∙ sym (on (p .task)) ∙ e))
+  step-move _ (Step.stay e) = inr (Special.stays refl)
+  step-move _ (Step.jump e) = inl (Move.jump (sym (flow .jump) ∙ sym (codes .jumping) ∙ e))
+  step-move _ (Step.call e) = inl (Move.call (called e))
+  step-move _ (Step.behind e) = inl (Move.behind (called e))
+  step-move _ (Step.start u e n) = inl (Move.start u (sym (flow .start u) ∙ sym (begins u) ∙ e))
+  step-move _ (Step.own e) = inl (Move.start (p .task) (sym (flow .start (p .task)) ∙ sym (begins (p .task)) ∙ e))
+  step-move _ (Step.restart a e x s) = inr (Special.restarts a s refl)
+
+  move-step : (q : Point) → Move (flowOf c) (c .word) p q → Step h bs path p c q
+  move-step _ (Move.on e) = Step.next (on (p .task) ∙ flow .on (p .task) ∙ e)
+  move-step _ (Move.jump e) = Step.jump (codes .jumping ∙ flow .jump ∙ e)
+  move-step _ (Move.call e) = Step.call (eqb-true _ _ (codes .calls ∙ flow .call ∙ e))
+  move-step _ (Move.behind e) = Step.behind (eqb-true _ _ (codes .calls ∙ flow .call ∙ e))
+  move-step _ (Move.start u e) = test (eqb u (p .task)) (λ i. own (eqb-true u (p .task) i)) (λ i. Step.start u there (eqb-false u (p .task) i))
+    where
+      there : starts (c .code) u ≡ true
+      there = begins u ∙ flow .start u ∙ e
+
+      own : u ≡ p .task → Step h bs path p c (point u (c .word) 0)
+      own i = rw i (Step.own (rw i at there))
+
+  -- a step leads to a point that follows, stays, or returns to a start
+  pub step-follows : (q : Point) → Step h bs path p c q → In q (goes p (flowOf c)) ⊎ Special h bs path p c q
+  step-follows q s = ⊎-elim (λ m. inl (moved (c .word) p (flowOf c) (flow .names) q m)) (λ k. inr k) (step-move q s)
+
+  pub follow-step : (q : Point) → In q (goes p (flowOf c)) → Step h bs path p c q
+  follow-step q m = move-step q (moves (c .word) p (flowOf c) (flow .names) q m)
+
+  -- the point that a start names follows
+  pub start-follows : (u : ℕ) → starts (c .code) u ≡ true → In (point u (c .word) 0) (goes p (flowOf c))
+  start-follows u e = moved (c .word) p (flowOf c) (flow .names) _ (Move.start u (sym (flow .start u) ∙ sym (begins u) ∙ e))

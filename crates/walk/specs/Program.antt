@@ -1,0 +1,28 @@
+-- The blocks of an image as commands, and what a command breaks at a point. Assumes nothing.
+use Prim.Native.Nat.{ℕ, _+_, _*_}
+use mathlib.Core.List.{List, [], _∷_}
+use lib.ListN.{getD}
+use Rattle.image.specs.Scan.{blockLength}
+use Rattle.image.specs.declared.Header.{Header}
+use Rattle.command.specs.Operands.{operands}
+use Rattle.command.specs.declared.Command.{Command}
+use Rattle.point.specs.Fault.{faultOf}
+use Rattle.point.specs.declared.Point.{Point}
+use Rattle.point.specs.declared.Fault.{Fault}
+
+-- the n bytes from `at` on
+abbrev pub bytesFrom : List ℕ → ℕ → List ℕ
+bytesFrom bs at =
+    getD bs at 0 ∷ getD bs (at + 1) 0 ∷ getD bs (at + 2) 0 ∷ getD bs (at + 3) 0 ∷
+    getD bs (at + 4) 0 ∷ getD bs (at + 5) 0 ∷ getD bs (at + 6) 0 ∷ getD bs (at + 7) 0 ∷ []
+
+-- the eight bytes of block b
+abbrev pub blockAt : List ℕ → ℕ → List ℕ
+blockAt bs b = bytesFrom bs (blockLength * b)
+
+unfoldable pub commandAt : List ℕ → ℕ → Command
+commandAt bs b = operands (blockAt bs b)
+
+-- what the command at a point breaks there
+unfoldable pub faultAt : Header → List ℕ → Point → Fault
+faultAt h bs p = faultOf h (commandAt bs (p .block)) p

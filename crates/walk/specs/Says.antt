@@ -1,0 +1,54 @@
+-- What a verdict says of the walks of an image whose lengths, header and blocks are well formed (document 01, "Refused because of the input"; a
+-- 51 that ends another task by our ruling). Assumes nothing.
+use Prim.Native.Nat.{ℕ, _<_, _≤_}
+use mathlib.Core.Path.{_≡_}
+use mathlib.Core.Bool.{true, false}
+use mathlib.Core.List.{List}
+use Rattle.image.specs.Outcome.{done}
+use Rattle.image.specs.Scan.{headerOf, blocksOf}
+use Rattle.image.specs.declared.Header.{Header}
+use Rattle.point.specs.declared.Point.{Point}
+use Rattle.point.specs.declared.Fault.{Fault}
+use Rattle.walk.specs.Program.{faultAt}
+use Rattle.walk.specs.Walk.{Reaches}
+use Rattle.walk.specs.Index.{marksLength, before}
+use Rattle.walk.specs.Verdict.{isForeign, isBad, blockNumber}
+use Rattle.walk.specs.declared.Verdict.{Verdict}
+use Rattle.walk.specs.declared.Verdict.the-variants as verdict
+
+-- some walk reaches a 51 of another task's mode there
+abbrev pub ForeignAt : Header → List ℕ → Point → Type 0
+ForeignAt h bs p = Reaches h bs p × (isForeign (faultAt h bs p) ≡ true)
+
+-- some walk reaches a point there that is bad by 9 to 12
+abbrev pub BadAt : Header → List ℕ → Point → Type 0
+BadAt h bs p = Reaches h bs p × (isBad (faultAt h bs p) ≡ true)
+
+-- no walk reaches a foreign 51
+abbrev pub NoForeign : Header → List ℕ → Type 0
+NoForeign h bs = (p : Point) → ForeignAt h bs p → ⊥
+
+pub data Says (h : Header) (bs : List ℕ) : Verdict → Type 0 where
+  -- accepted: no walk reaches anything wrong
+  accepted : NoForeign h bs → ((p : Point) → BadAt h bs p → ⊥) → Says h bs verdict.Accepted
+  -- 7: a walk reaches a foreign 51 at this block, and none at a block before it
+  foreign : (p : Point) → ForeignAt h bs p → ((q : Point) → ForeignAt h bs q → p .block ≤ q .block) → Says h bs (verdict.Foreign (p .block))
+  -- 9 to 12: no walk reaches a foreign 51; one reaches this bad point, and none a bad point before it
+  bad : NoForeign h bs → (p : Point) → BadAt h bs p → ((q : Point) → BadAt h bs q → before q p ≡ false) → Says h bs (verdict.Bad (faultAt h bs p) p)
+
+-- ---- the verdict on an image with marks of n bytes
+
+-- block b passes 5 to 8
+abbrev pub Passes : Header → List ℕ → ℕ → Type 0
+Passes h bs b = blockNumber h bs b ≡ 0
+
+-- what a verdict says of an image: 13, then the header and the length, then the first block that is refused, then the walks
+pub data Judges (image : List ℕ) (n : ℕ) : Verdict → Type 0 where
+  marks : n < marksLength → Judges image n (verdict.MarksShort n)
+  header : marksLength ≤ n → done (headerOf image .outcome) ≡ false → Judges image n (verdict.Image (headerOf image .outcome))
+  block : marksLength ≤ n → done (headerOf image .outcome) ≡ true → (b : ℕ) → b < headerOf image .header .count
+      → ((a : ℕ) → a < b → Passes (headerOf image .header) (blocksOf image) a) → (Passes (headerOf image .header) (blocksOf image) b → ⊥)
+      → Judges image n (verdict.Block (blockNumber (headerOf image .header) (blocksOf image) b) b)
+  walks : marksLength ≤ n → done (headerOf image .outcome) ≡ true
+      → ((b : ℕ) → b < headerOf image .header .count → Passes (headerOf image .header) (blocksOf image) b)
+      → (v : Verdict) → Says (headerOf image .header) (blocksOf image) v → Judges image n v

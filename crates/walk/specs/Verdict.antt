@@ -1,0 +1,136 @@
+-- The verdict on an image, computed: 13, then 1 to 8, then the least foreign 51 (7), then the least bad point (9 to 12). That it is what walks
+-- say is proved in proofs/Exactly.antt. Assumes nothing.
+use Prim.Native.Nat.{ℕ, zero, suc, _+_, _*_}
+use mathlib.Core.Bool.{Bool, true, false, cond}
+use mathlib.Core.List.{List, [], _∷_}
+use lib.Dec.{eqb, ltb}
+use lib.ListN.{length}
+use Rattle.image.specs.Outcome.{numberOf, placeOf, done}
+use Rattle.image.specs.Rows.{mostBlocks}
+use Rattle.image.specs.Scan.{headerOf, blocksOf}
+use Rattle.image.specs.declared.Header.{Header}
+use Rattle.image.specs.declared.reader.HeaderRead.{HeaderRead}
+use Rattle.command.specs.Judged.{decoded, blockRefusal}
+use Rattle.point.specs.Flow.{bias}
+use Rattle.point.specs.Fault.{point, faultNumber}
+use Rattle.point.specs.declared.Point.{Point}
+use Rattle.point.specs.declared.Fault.{Fault}
+use Rattle.point.specs.declared.Fault.the-variants.{Fine, Foreign, Forbidden, TooDeep, NoCall, PastEnd}
+use Rattle.walk.specs.Program.{blockAt, faultAt}
+use Rattle.walk.specs.Index.{indexOf, pointAt, marksLength}
+use Rattle.walk.specs.Successors.{nextOf}
+use Rattle.walk.specs.Graph.{closure, least}
+use Rattle.walk.specs.declared.Verdict.{Verdict}
+use Rattle.walk.specs.declared.Verdict.the-variants as verdict
+
+-- ---- the walks
+
+abbrev pub isForeign : Fault → Bool
+isForeign Foreign = true
+isForeign Fine = false
+isForeign Forbidden = false
+isForeign TooDeep = false
+isForeign NoCall = false
+isForeign PastEnd = false
+
+-- 9 to 12
+abbrev pub isBad : Fault → Bool
+isBad Fine = false
+isBad Foreign = false
+isBad Forbidden = true
+isBad TooDeep = true
+isBad NoCall = true
+isBad PastEnd = true
+
+-- the first point's number
+abbrev pub rootOf : Header → ℕ
+rootOf h = indexOf (point bias (h .start) 0)
+
+-- three steps for each point: it has at most two successors; and one for the first
+abbrev pub fuel : ℕ
+fuel = 3 * marksLength + 1
+
+unfoldable pub reached : Header → List ℕ → List ℕ
+reached h bs = closure (nextOf h bs) fuel (rootOf h ∷ []) []
+
+unfoldable pub leastForeign : Header → List ℕ → List ℕ → ℕ
+leastForeign h bs is = least (λ i. isForeign (faultAt h bs (pointAt i))) (λ i. pointAt i .block) mostBlocks is
+
+unfoldable pub leastBad : Header → List ℕ → List ℕ → ℕ
+leastBad h bs is = least (λ i. isBad (faultAt h bs (pointAt i))) (λ i. i) marksLength is
+
+-- by the least foreign block, or else the least bad point; a number past all blocks, or all points, is none
+unfoldable pub verdictBy : Header → List ℕ → ℕ → ℕ → Verdict
+verdictBy h bs foreign bad =
+    cond (ltb foreign mostBlocks) (verdict.Foreign foreign)
+    (cond (ltb bad marksLength) (verdict.Bad (faultAt h bs (pointAt bad)) (pointAt bad)) verdict.Accepted)
+
+unfoldable pub walksVerdict : Header → List ℕ → Verdict
+walksVerdict h bs = verdictBy h bs (leastForeign h bs (reached h bs)) (leastBad h bs (reached h bs))
+
+-- ---- the blocks
+
+-- the refusal of block b by 5 to 8, 0 for none
+abbrev pub blockNumber : Header → List ℕ → ℕ → ℕ
+blockNumber h bs b = blockRefusal (decoded h (blockAt bs b))
+
+-- n blocks judged upwards from block b, then the walks
+unfoldable pub blocksVerdict : Header → List ℕ → ℕ → ℕ → Verdict
+blocksVerdict h bs b zero = walksVerdict h bs
+blocksVerdict h bs b (suc n) = cond (eqb (blockNumber h bs b) 0) (blocksVerdict h bs (b + 1) n) (verdict.Block (blockNumber h bs b) b)
+
+-- ---- the image
+
+unfoldable pub readVerdict : HeaderRead → List ℕ → Verdict
+readVerdict r bs = cond (done (r .outcome)) (blocksVerdict (r .header) bs 0 (r .header .count)) (verdict.Image (r .outcome))
+
+-- the verdict on an image, with marks of n bytes
+unfoldable pub verdictOf : List ℕ → ℕ → Verdict
+verdictOf image n = cond (ltb n marksLength) (verdict.MarksShort n) (readVerdict (headerOf image) (blocksOf image))
+
+-- ---- document 01's number and place
+
+abbrev pub verdictNumber : Verdict → ℕ
+verdictNumber verdict.Accepted = 0
+verdictNumber (verdict.MarksShort n) = 13
+verdictNumber (verdict.Image o) = numberOf o
+verdictNumber (verdict.Block n b) = n
+verdictNumber (verdict.Foreign b) = 7
+verdictNumber (verdict.Bad f p) = faultNumber f
+
+-- the byte, length or block
+abbrev pub verdictPlace : Verdict → ℕ
+verdictPlace verdict.Accepted = 0
+verdictPlace (verdict.MarksShort n) = n
+verdictPlace (verdict.Image o) = placeOf o
+verdictPlace (verdict.Block n b) = b
+verdictPlace (verdict.Foreign b) = b
+verdictPlace (verdict.Bad f p) = p .block
+
+abbrev pub verdictTask : Verdict → ℕ
+verdictTask verdict.Accepted = 0
+verdictTask (verdict.MarksShort n) = 0
+verdictTask (verdict.Image o) = 0
+verdictTask (verdict.Block n b) = 0
+verdictTask (verdict.Foreign b) = 0
+verdictTask (verdict.Bad f p) = p .task
+
+abbrev pub verdictDepth : Verdict → ℕ
+verdictDepth verdict.Accepted = 0
+verdictDepth (verdict.MarksShort n) = 0
+verdictDepth (verdict.Image o) = 0
+verdictDepth (verdict.Block n b) = 0
+verdictDepth (verdict.Foreign b) = 0
+verdictDepth (verdict.Bad f p) = p .depth
+
+-- the blocks that are handed back: none of an image that is refused by any number
+abbrev pub isAccepted : Verdict → Bool
+isAccepted verdict.Accepted = true
+isAccepted (verdict.MarksShort n) = false
+isAccepted (verdict.Image o) = false
+isAccepted (verdict.Block n b) = false
+isAccepted (verdict.Foreign b) = false
+isAccepted (verdict.Bad f p) = false
+
+unfoldable pub acceptedBlocks : List ℕ → ℕ → List ℕ
+acceptedBlocks image n = cond (isAccepted (verdictOf image n)) (blocksOf image) []

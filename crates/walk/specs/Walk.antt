@@ -1,0 +1,84 @@
+-- Walks, as document 01 has them ("Walks"): one constructor for each of its sentences. A walk is a path, the points passed so far with the latest
+-- first; its own history, the latest 54 and 90 among them, tells where a return to a start leads. Assumes nothing.
+use Prim.Native.Nat.{ℕ, _+_}
+use mathlib.Core.Path.{_≡_}
+use mathlib.Core.Bool.{Bool, true, false, _&&_, _||_, not, cond}
+use mathlib.Core.List.{List, [], _∷_}
+use lib.Dec.{eqb}
+use Rattle.image.specs.declared.Header.{Header}
+use Rattle.rows.specs.Rows.{hex}
+use Rattle.command.specs.declared.Command.{Command}
+use Rattle.point.specs.Flow.{bias, plc, mathematics}
+use Rattle.point.specs.Fault.{point}
+use Rattle.point.specs.declared.Point.{Point}
+use Rattle.point.specs.declared.Fault.the-variants.{Fine}
+use Rattle.walk.specs.Program.{commandAt, faultAt}
+
+-- ---- which codes do what, by the manual
+
+abbrev pub oneOf : List ℕ → ℕ → Bool
+oneOf [] code = false
+oneOf (k ∷ ks) code = eqb code k || oneOf ks code
+
+-- jumps, and branches that may jump (55, 61, 6E, 70, 71, 81, 89)
+abbrev pub jumps : ℕ → Bool
+jumps = oneOf (hex 5 5 ∷ hex 6 1 ∷ hex 6 14 ∷ hex 7 0 ∷ hex 7 1 ∷ hex 8 1 ∷ hex 8 9 ∷ [])
+
+-- moves and waits, which may stay at their block (00, 01, 03, 04, 58, 59, 5A)
+abbrev pub stays : ℕ → Bool
+stays = oneOf (hex 0 0 ∷ hex 0 1 ∷ hex 0 3 ∷ hex 0 4 ∷ hex 5 8 ∷ hex 5 9 ∷ hex 5 10 ∷ [])
+
+-- 57, 54 and 90 start BIAS, the PLC and mathematics
+abbrev pub starts : ℕ → ℕ → Bool
+starts code task = (eqb code (hex 5 7) && eqb task bias) || ((eqb code (hex 5 4) && eqb task plc) || (eqb code (hex 9 0) && eqb task mathematics))
+
+-- all but 51, 52, 53 and 55 may go on with the next block, unless they start their own task
+abbrev pub goesOn : ℕ → ℕ → Bool
+goesOn code task = not (oneOf (hex 5 1 ∷ hex 5 2 ∷ hex 5 3 ∷ hex 5 5 ∷ []) code || starts code task)
+
+-- ---- the start of a task
+
+-- the block that a start named, if there was one
+pub data Named : Type 0 where
+  none : Named
+  block : ℕ → Named
+
+-- the block named by the latest command with this code among the points passed
+unfoldable pub latest : List ℕ → ℕ → List Point → Named
+latest bs code [] = none
+latest bs code (p ∷ path) = cond (eqb (commandAt bs (p .block) .code) code) (block (commandAt bs (p .block) .word)) (latest bs code path)
+
+-- where a task starts: BIAS at the program start, the PLC at its latest 54's block, mathematics at its latest 90's
+unfoldable pub startOf : Header → List ℕ → ℕ → List Point → Named
+startOf h bs task path =
+    cond (eqb task bias) (block (h .start))
+    (cond (eqb task plc) (latest bs (hex 5 4) path)
+    (cond (eqb task mathematics) (latest bs (hex 9 0) path) none))
+
+-- ---- steps and walks
+
+-- one step from the point p, where the command c is, of a walk that has passed `path`, p included
+pub data Step (h : Header) (bs : List ℕ) (path : List Point) (p : Point) (c : Command) : Point → Type 0 where
+  next : goesOn (c .code) (p .task) ≡ true → Step h bs path p c (point (p .task) (p .block + 1) (p .depth))
+  stay : stays (c .code) ≡ true → Step h bs path p c p
+  jump : jumps (c .code) ≡ true → Step h bs path p c (point (p .task) (c .word) (p .depth))
+  -- from 52 to the sub-program one deeper, and also to the block after the call at the same depth
+  call : c .code ≡ hex 5 2 → Step h bs path p c (point (p .task) (c .word) (p .depth + 1))
+  behind : c .code ≡ hex 5 2 → Step h bs path p c (point (p .task) (p .block + 1) (p .depth))
+  -- a start of another task leads to the named block of that task at depth 0, besides the next block
+  start : (u : ℕ) → starts (c .code) u ≡ true → (u ≡ p .task → ⊥) → Step h bs path p c (point u (c .word) 0)
+  -- a start of the own task leads only to the named block, at depth 0
+  own : starts (c .code) (p .task) ≡ true → Step h bs path p c (point (p .task) (c .word) 0)
+  -- mode 0 of 51 returns to the task's start at depth 0
+  restart : (a : ℕ) → c .code ≡ hex 5 1 → c .x ≡ 0 → startOf h bs (p .task) path ≡ block a → Step h bs path p c (point (p .task) a 0)
+
+-- a walk that has passed `path` and is now at a point; it begins at task 0, program start, depth 0, and goes on only from points that are not bad
+pub data Walk (h : Header) (bs : List ℕ) : List Point → Point → Type 0 where
+  begin : Walk h bs [] (point bias (h .start) 0)
+  onward : {path : List Point} {p : Point} (q : Point) → Walk h bs path p → faultAt h bs p ≡ Fine
+      → Step h bs (p ∷ path) p (commandAt bs (p .block)) q → Walk h bs (p ∷ path) q
+
+-- some walk ends there
+pub record Reaches (h : Header) (bs : List ℕ) (p : Point) : Type 0 where
+  pub path : List Point
+  pub walk : Walk h bs path p

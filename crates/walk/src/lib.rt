@@ -1,0 +1,20 @@
+// The verdict on an image (document 01, "Refused because of the input"). No code here: specs/ says what walks are and what a verdict says of
+// them, and computes the verdict; the crate loader finds it.
+use image::Outcome;
+use point::Fault;
+use point::Point;
+
+// What a load comes to: accepted, or the first refusal with its place.
+pub enum Verdict {
+    Accepted,
+    // marks of this length are too short
+    MarksShort(usize),
+    // what is wrong with the header or the length of the image
+    Image(Outcome),
+    // a block refused by this number, 5 to 8
+    Block(u32, usize),
+    // a 51 at this block that ends another task
+    Foreign(usize),
+    // the least bad point, and what it breaks
+    Bad(Fault, Point),
+}
