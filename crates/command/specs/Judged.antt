@@ -7,6 +7,7 @@ use lib.ListN.{getD}
 use lib.Dec.{eqb, ltb, leb}
 use lib.IntN.{pos}
 use Rattle.arith.specs.Ops.{eqZ}
+use Rattle.drive.specs.Types.{type637Plus}
 use Rattle.drive.specs.Pins.{pinOf, refusalOf}
 use Rattle.drive.specs.declared.Drive.{Drive}
 use Rattle.drive.specs.declared.PinKind.{PinKind}
@@ -25,20 +26,19 @@ use Rattle.command.specs.declared.Decoded.the-variants.{Sound, NotCarrie
 abbrev pub pinRefusal : Drive → PinKind → ℕ → ℕ
 pinRefusal d kind pin = refusalOf (pinOf d kind pin)
 
--- the 637+ is type 3
 abbrev pub notOn637Plus : Drive → ℕ
-notOn637Plus d = refusalOf (cond (eqb (d .model) 3) Never Present)
+notOn637Plus d = refusalOf (cond (eqb (d .model) type637Plus) Never Present)
 
 -- for the operands x and y
 abbrev pub devices : List (Drive → ℕ → ℕ → ℕ)
 devices =
-    (λ d x y. 0) ∷
-    (λ d x y. pinRefusal d Input x) ∷
-    (λ d x y. pinRefusal d Input y) ∷
-    (λ d x y. pinRefusal d OutputRead x) ∷
-    (λ d x y. pinRefusal d OutputRead y) ∷
-    (λ d x y. pinRefusal d OutputWritten x) ∷
-    (λ d x y. notOn637Plus d) ∷
+    (λ d x y. 0) ∷  -- 0, noDevice
+    (λ d x y. pinRefusal d Input x) ∷  -- 1, inputX
+    (λ d x y. pinRefusal d Input y) ∷  -- 2, inputY
+    (λ d x y. pinRefusal d OutputRead x) ∷  -- 3, outputReadX
+    (λ d x y. pinRefusal d OutputRead y) ∷  -- 4, outputReadY
+    (λ d x y. pinRefusal d OutputWritten x) ∷  -- 5, outputWrittenX
+    (λ d x y. notOn637Plus d) ∷  -- 6, not637Plus
     []
 
 -- document 01's number, 0 where the drive has it
@@ -47,28 +47,42 @@ deviceRefusal n = getD devices n (λ d x y. 0)
 
 -- ---- 7: the operands' ranges, by the row's ranges
 
--- limits: 0 or 1; modes of 51; bits of a variable; conditions of 81 and 89; flags that 86 reads; flags; speeds; ramps in 5 rpm/s
+-- levels of flags and pins
 abbrev pub mostLevel : ℕ
 mostLevel = 1
 
+-- 0 equal, 1 unequal: the conditions of 61, 6E, 70, 71
+abbrev pub mostEquality : ℕ
+mostEquality = 1
+
+-- modes of 51
 abbrev pub mostMode : ℕ
 mostMode = 3
 
+-- modes of 0F and 1F
+abbrev pub mostStop : ℕ
+mostStop = 1
+
+-- bits of a variable
 abbrev pub mostBit : ℕ
 mostBit = 31
 
+-- conditions of 81 and 89
 abbrev pub mostCondition : ℕ
 mostCondition = 7
 
+-- flags that 86 may read
 abbrev pub mostRun : ℕ
 mostRun = 32
 
 abbrev pub flagCount : ℕ
 flagCount = 256
 
+-- in rpm
 abbrev pub mostSpeed : ℕ
 mostSpeed = 12000
 
+-- in 5 rpm/s
 abbrev pub mostRamp : ℕ
 mostRamp = 64000
 
@@ -77,10 +91,10 @@ abbrev pub upTo : ℕ → ℕ → Bool
 upTo most v = ltb 0 v && leb v most
 
 abbrev pub levelJump : ℕ → ℕ → ℕ → ℕ → Bool
-levelJump count y z word = leb y mostLevel && (leb z mostLevel && ltb word count)
+levelJump count y z word = leb y mostEquality && (leb z mostLevel && ltb word count)
 
 abbrev pub bitJump : ℕ → ℕ → ℕ → ℕ → Bool
-bitJump count y z word = leb y mostBit && (leb z mostLevel && ltb word count)
+bitJump count y z word = leb y mostBit && (leb z mostEquality && ltb word count)
 
 abbrev pub conditionJump : ℕ → ℕ → ℕ → Bool
 conditionJump count y word = leb y mostCondition && ltb word count
@@ -92,28 +106,28 @@ abbrev pub axis : ℕ → ℕ → Bool
 axis x y = eqb x 0 && eqb y 0
 
 abbrev pub stop : ℕ → ℕ → Bool
-stop x y = leb x mostLevel && eqb y 0
+stop x y = leb x mostStop && eqb y 0
 
 abbrev pub rampStop : ℕ → ℕ → Bool
-rampStop x word = leb x mostLevel && upTo mostRamp word
+rampStop x word = leb x mostStop && upTo mostRamp word
 
 -- for the operands of a command, in an image of `count` blocks
 abbrev pub ranges : List (ℕ → Command → Bool)
 ranges =
-    (λ count c. true) ∷
-    (λ count c. ltb (c .word) count) ∷
-    (λ count c. leb (c .x) mostMode) ∷
-    (λ count c. leb (c .y) mostLevel) ∷
-    (λ count c. levelJump count (c .y) (c .z) (c .word)) ∷
-    (λ count c. bitJump count (c .y) (c .z) (c .word)) ∷
-    (λ count c. conditionJump count (c .y) (c .word)) ∷
-    (λ count c. not (eqZ (c .value) (pos 0))) ∷
-    (λ count c. flagRun (c .y) (c .z)) ∷
-    (λ count c. axis (c .x) (c .y)) ∷
-    (λ count c. stop (c .x) (c .y)) ∷
-    (λ count c. rampStop (c .x) (c .word)) ∷
-    (λ count c. upTo mostSpeed (c .word)) ∷
-    (λ count c. upTo mostRamp (c .word)) ∷
+    (λ count c. true) ∷  -- 0, any
+    (λ count c. ltb (c .word) count) ∷  -- 1, address
+    (λ count c. leb (c .x) mostMode) ∷  -- 2, mode
+    (λ count c. leb (c .y) mostLevel) ∷  -- 3, level
+    (λ count c. levelJump count (c .y) (c .z) (c .word)) ∷  -- 4, levelJump
+    (λ count c. bitJump count (c .y) (c .z) (c .word)) ∷  -- 5, bitJump
+    (λ count c. conditionJump count (c .y) (c .word)) ∷  -- 6, conditionJump
+    (λ count c. not (eqZ (c .value) (pos 0))) ∷  -- 7, divisor
+    (λ count c. flagRun (c .y) (c .z)) ∷  -- 8, flagRun
+    (λ count c. axis (c .x) (c .y)) ∷  -- 9, axis
+    (λ count c. stop (c .x) (c .y)) ∷  -- 10, stop
+    (λ count c. rampStop (c .x) (c .word)) ∷  -- 11, rampStop
+    (λ count c. upTo mostSpeed (c .word)) ∷  -- 12, speed
+    (λ count c. upTo mostRamp (c .word)) ∷  -- 13, ramp
     []
 
 -- whether they are in range

@@ -1,5 +1,5 @@
 -- A block's operands, as its code's layout has them: document 01, "The commands carried" (a code byte and D1 to D7, low byte first), and the
--- coding of each page of chapter 4 of 000. Nothing is judged here. Assumes nothing.
+-- coding of each page of chapter 4 of 000. Only the unused bytes are judged here (8). Assumes nothing.
 use Prim.Native.Nat.{ℕ, _+_, _*_, _/_, _%_}
 use mathlib.Core.Bool.{Bool, true, _&&_}
 use mathlib.Core.List.{List, [], _∷_}
@@ -59,7 +59,7 @@ byteValueOf b = command (byteAt b 0) (byteAt b 1) 0 0 0 (valueAt b 2)
 abbrev pub pairValueOf : List ℕ → Command
 pairValueOf b = command (byteAt b 0) (byteAt b 1) (byteAt b 2) 0 0 (valueAt b 3)
 
--- 81: the condition is the upper half of D6; the address has its upper four bits in the lower half of D6 and the others in D7
+-- 81 (DECISIONS R6): the condition is the upper half of D6; the address has its upper four bits in the lower half of D6 and the others in D7
 abbrev pub valueJumpOf : List ℕ → Command
 valueJumpOf b =
     command (byteAt b 0) (byteAt b 1) (byteAt b 6 / 16) 0 (256 * (byteAt b 6 % 16) + byteAt b 7) (valueAt b 2)
@@ -67,7 +67,19 @@ valueJumpOf b =
 -- by the layout's number; 0 is that of a code that is not carried
 abbrev pub layouts : List (List ℕ → Command)
 layouts =
-    bareOf ∷ bareOf ∷ byteOf ∷ wordOf ∷ pairOf ∷ tripleOf ∷ tripleWordOf ∷ byteWordOf ∷ valueOf ∷ byteValueOf ∷ pairValueOf ∷ valueJumpOf ∷ []
+    bareOf ∷  -- 0, not carried
+    bareOf ∷  -- 1, bare
+    byteOf ∷  -- 2, byte
+    wordOf ∷  -- 3, word
+    pairOf ∷  -- 4, pair
+    tripleOf ∷  -- 5, triple
+    tripleWordOf ∷  -- 6, tripleWord
+    byteWordOf ∷  -- 7, byteWord
+    valueOf ∷  -- 8, value
+    byteValueOf ∷  -- 9, byteValue
+    pairValueOf ∷  -- 10, pairValue
+    valueJumpOf ∷  -- 11, valueJump
+    []
 
 unfoldable pub laidOut : ℕ → List ℕ → Command
 laidOut n = getD layouts n bareOf
@@ -76,7 +88,7 @@ laidOut n = getD layouts n bareOf
 unfoldable pub operands : List ℕ → Command
 operands b = laidOut (rowOf (byteAt b 0) .layout) b
 
--- how many of D1 to D7 a layout uses: always the first ones
+-- how many of D1 to D7 a layout uses, by its number: always the first ones
 abbrev pub used : List ℕ
 used = 0 ∷ 0 ∷ 1 ∷ 2 ∷ 2 ∷ 3 ∷ 5 ∷ 3 ∷ 4 ∷ 5 ∷ 6 ∷ 7 ∷ []
 

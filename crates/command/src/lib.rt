@@ -1,5 +1,5 @@
 // A block decoded and judged (document 01, refusals 5 to 8): its operands, where its code's row has them, or why it is refused.
-// operands.rt reads the operands, ranges.rt judges them.
+// operands.rt reads the operands, devices.rt asks the drive, ranges.rt judges the operands.
 use image::Header;
 use rows::Row;
 ghost use mathlib.Core.Path.{_≡_};

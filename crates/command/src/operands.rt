@@ -1,6 +1,7 @@
 // The operands of a block, where its code's layout has them. Nothing is judged but that unused bytes are 0.
 use crate::Command;
 use arith::le;
+use image::reader;
 ghost use mathlib.Core.Path.{_≡_};
 ghost use Rattle.command.specs.Operands.{laidOut, operands, usedBytes, unusedZero};
 ghost use Rattle.command.specs.Operands.{byteOf, wordOf, pairOf, tripleOf, tripleWordOf, byteWordOf, valueOf, byteValueOf, pairValueOf, valueJumpOf, bareOf};
@@ -189,7 +190,7 @@ pub fn unused_zero(layout: u8, block: [u8; 8]) -> bool
     ensures { λ r. ⌜ r ≡ unusedZero layout block ⌝ }
 {
     let mut k = 1 + used_bytes(layout);
-    while k < 8 {
+    while k < reader::BLOCK_LENGTH {
         if block[k] != 0 {
             return false;
         }

@@ -3,20 +3,33 @@ use crate::Command;
 ghost use mathlib.Core.Path.{_≡_};
 ghost use Rattle.command.specs.Judged.{upTo, levelJump, bitJump, conditionJump, flagRun, axis, stop, rampStop, inRange};
 
+// Levels of flags and pins.
 pub const MOST_LEVEL: u8 = 1;
 
+// 0 equal, 1 unequal: the conditions of 61, 6E, 70, 71.
+pub const MOST_EQUALITY: u8 = 1;
+
+// Modes of 0F and 1F.
+pub const MOST_STOP: u8 = 1;
+
+// Modes of 51.
 pub const MOST_MODE: u8 = 3;
 
+// Bits of a variable.
 pub const MOST_BIT: u8 = 31;
 
+// Conditions of 81 and 89.
 pub const MOST_CONDITION: u8 = 7;
 
+// Flags that 86 may read.
 pub const MOST_RUN: u16 = 32;
 
 pub const FLAG_COUNT: u16 = 256;
 
+// In rpm.
 pub const MOST_SPEED: u16 = 12000;
 
+// In 5 rpm/s.
 pub const MOST_RAMP: u16 = 64000;
 
 // Whether the operands of a command are in range, in an image of this many blocks.
@@ -49,7 +62,7 @@ pub fn in_range(ranges: u8, count: u16, c: Command) -> bool
 fn level_jump(count: u16, y: u8, z: u8, word: u16) -> bool
     ensures { λ r. ⌜ r ≡ levelJump count y z word ⌝ }
 {
-    if y > MOST_LEVEL {
+    if y > MOST_EQUALITY {
         return false;
     }
     z <= MOST_LEVEL && word < count
@@ -61,7 +74,7 @@ fn bit_jump(count: u16, y: u8, z: u8, word: u16) -> bool
     if y > MOST_BIT {
         return false;
     }
-    z <= MOST_LEVEL && word < count
+    z <= MOST_EQUALITY && word < count
 }
 
 fn condition_jump(count: u16, y: u8, word: u16) -> bool
@@ -86,13 +99,13 @@ fn axis(x: u8, y: u8) -> bool
 fn stop(x: u8, y: u8) -> bool
     ensures { λ r. ⌜ r ≡ stop x y ⌝ }
 {
-    x <= MOST_LEVEL && y == 0
+    x <= MOST_STOP && y == 0
 }
 
 fn ramp_stop(x: u8, word: u16) -> bool
     ensures { λ r. ⌜ r ≡ rampStop x word ⌝ }
 {
-    x <= MOST_LEVEL && up_to(MOST_RAMP, word)
+    x <= MOST_STOP && up_to(MOST_RAMP, word)
 }
 
 // 1 to the most.

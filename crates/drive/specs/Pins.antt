@@ -5,7 +5,7 @@ use mathlib.Core.Bool.{Bool, _&&_, cond}
 use mathlib.Core.List.{List, [], _∷_}
 use lib.ListN.{getD}
 use lib.Dec.{eqb, ltb, leb}
-use Rattle.drive.specs.Types.{types, takesB, takesC}
+use Rattle.drive.specs.Types.{types, type631, takesB, takesC}
 use Rattle.drive.specs.declared.Drive.{Drive}
 use Rattle.drive.specs.declared.Home.{Home}
 use Rattle.drive.specs.declared.Home.the-variants.{Nowhere, Only631, Others, SlotB, SlotC}
@@ -78,8 +78,8 @@ onBoard could board slot = cond could (cond (eqb slot board) Present BoardMissin
 -- whether a drive has what is at a home
 unfoldable pub presence : Drive → Home → Presence
 presence d Nowhere = Never
-presence d Only631 = cond (eqb (d .model) 0) Present Never
-presence d Others = cond (eqb (d .model) 0) Never (cond (ltb (d .model) types) Present Never)
+presence d Only631 = cond (eqb (d .model) type631) Present Never
+presence d Others = cond (eqb (d .model) type631) Never (cond (ltb (d .model) types) Present Never)
 presence d (SlotB b) = onBoard (takesB (d .model) b) b (d .b)
 presence d (SlotC b) = onBoard (takesC (d .model) b) b (d .c)
 

@@ -10,6 +10,14 @@ use lib.Dec.{ltb, leb}
 abbrev pub types : ℕ
 types = 5
 
+-- the 631, which takes no board and has pins of its own
+abbrev pub type631 : ℕ
+type631 = 0
+
+-- the 637+
+abbrev pub type637Plus : ℕ
+type637Plus = 3
+
 -- cycle lengths in microseconds, by type
 abbrev pub cycles : List ℕ
 cycles = 1899 ∷ 1899 ∷ 1899 ∷ 844 ∷ 844 ∷ []

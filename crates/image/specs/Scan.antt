@@ -78,6 +78,6 @@ closed s n = readWith s (firstRefusal (s .outcome) (lengthOutcome (s .at) (s .he
 unfoldable pub headerOf : List ℕ → HeaderRead
 headerOf image = closed (scan (length image) (fromImage image) rowCount) (length image)
 
--- the blocks of an image: none where it is refused
+-- the blocks of an image: none where it is refused by 1 to 4
 unfoldable pub blocksOf : List ℕ → List ℕ
 blocksOf image = cond (done (headerOf image .outcome)) (drop (headerOf image .at) image) []

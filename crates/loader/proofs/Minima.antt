@@ -18,7 +18,8 @@ use Rattle.walk.specs.Program.{faultAt}
 use Rattle.walk.specs.Index.{marksLength, pointAt}
 use Rattle.walk.specs.Graph.{In, Reach, lesser, least}
 use Rattle.walk.specs.Successors.{nextOf}
-use Rattle.walk.specs.Verdict.{isForeign, isBad, rootOf, reached, leastForeign, leastBad, verdictBy, walksVerdict}
+use Rattle.point.specs.Fault.{isForeign, isBad}
+use Rattle.walk.specs.Verdict.{rootOf, reached, leastForeign, leastBad, verdictBy, walksVerdict}
 use Rattle.walk.proofs.IndexLaws.{has-point}
 use Rattle.walk.proofs.Least.{Member, least-only}
 use Rattle.walk.proofs.History.{number-inside}

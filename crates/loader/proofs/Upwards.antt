@@ -8,7 +8,8 @@ use lib.Dec.{eqb}
 use borrow.Author.Tests.{eq-eqb, ne-eqb}
 use Rattle.image.specs.declared.Header.{Header}
 use Rattle.image.proofs.Choice.{by}
-use Rattle.walk.specs.Verdict.{blockNumber, walksVerdict, blocksVerdict}
+use Rattle.walk.specs.Program.{blockNumber}
+use Rattle.walk.specs.Verdict.{walksVerdict, blocksVerdict}
 use Rattle.walk.specs.declared.Verdict.{Verdict}
 use Rattle.walk.specs.declared.Verdict.the-variants.{Block}
 use Rattle.loader.specs.Search.{FirstRefused}

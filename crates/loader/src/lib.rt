@@ -6,8 +6,9 @@ use walk::Verdict;
 ghost use mathlib.Core.Path.{_≡_};
 ghost use Prim.Native.Nat.{_≤_};
 ghost use lib.ListN.{length};
+ghost use Rattle.walk.specs.Program.{blockNumber};
 ghost use Rattle.walk.specs.Index.{marksLength};
-ghost use Rattle.walk.specs.Verdict.{blockNumber, blocksVerdict, verdictOf, acceptedBlocks, isAccepted};
+ghost use Rattle.walk.specs.Verdict.{blocksVerdict, verdictOf, acceptedBlocks, isAccepted};
 ghost use Rattle.loader.specs.After.{After};
 ghost use Rattle.loader.specs.Search.{Ready, FirstRefused};
 

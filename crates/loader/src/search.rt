@@ -3,7 +3,6 @@
 // become pending.
 use image::Header;
 use image::reader;
-use point::Fault;
 use point::Point;
 use program::Following;
 use program::MARKS_LENGTH;
@@ -12,10 +11,9 @@ ghost use mathlib.Core.Path.{_≡_};
 ghost use Prim.Native.Nat.{ℕ, _<_, _≤_};
 ghost use lib.ListN.{length, getD};
 ghost use Rattle.image.specs.Rows.{mostBlocks};
-ghost use Rattle.walk.specs.Program.{faultAt};
 ghost use Rattle.walk.specs.Index.{marksLength, pointAt};
 ghost use Rattle.walk.specs.Successors.{nextOf};
-ghost use Rattle.walk.specs.Verdict.{isForeign, isBad, rootOf, reached, leastForeign, leastBad, verdictBy, walksVerdict};
+ghost use Rattle.walk.specs.Verdict.{rootOf, reached, leastForeign, leastBad, verdictBy, walksVerdict};
 ghost use Rattle.loader.specs.After.{After};
 ghost use Rattle.loader.specs.Search.{Ready, Paged, Touched, Going, Visited, Fresh, lowered};
 
@@ -196,7 +194,8 @@ fn lower(header: Header, blocks: &[u8], i: usize, found: usize) -> usize
 {
     let p = point_at(i);
     let block = p.block as usize;
-    if !is_foreign(program::fault_at(header, blocks, p)) {
+    let fault = program::fault_at(header, blocks, p);
+    if !fault.is_foreign() {
         return found;
     }
     if block < found {
@@ -214,7 +213,8 @@ fn least_bad(header: Header, blocks: &[u8], marks: &[u8]) -> usize
     let mut i = 0;
     while i < MARKS_LENGTH {
         if marks[i] != NOT_SEEN {
-            if is_bad(program::fault_at(header, blocks, point_at(i))) {
+            let fault = program::fault_at(header, blocks, point_at(i));
+            if fault.is_bad() {
                 return i;
             }
         }
@@ -234,30 +234,4 @@ fn verdict_by(header: Header, blocks: &[u8], foreign: usize, bad: usize) -> Verd
         return Verdict::Bad(program::fault_at(header, blocks, p), p);
     }
     Verdict::Accepted
-}
-
-fn is_foreign(fault: Fault) -> bool
-    ensures { λ r. ⌜ r ≡ isForeign fault ⌝ }
-{
-    match fault {
-        Fault::Foreign => true,
-        Fault::Fine => false,
-        Fault::Forbidden => false,
-        Fault::TooDeep => false,
-        Fault::NoCall => false,
-        Fault::PastEnd => false,
-    }
-}
-
-fn is_bad(fault: Fault) -> bool
-    ensures { λ r. ⌜ r ≡ isBad fault ⌝ }
-{
-    match fault {
-        Fault::Fine => false,
-        Fault::Foreign => false,
-        Fault::Forbidden => true,
-        Fault::TooDeep => true,
-        Fault::NoCall => true,
-        Fault::PastEnd => true,
-    }
 }

@@ -5,7 +5,7 @@ use mathlib.Core.Bool.{Bool, true, false, _&&_, _||_, not, cond}
 use mathlib.Core.List.{List, [], _∷_}
 use lib.Dec.{eqb, leb}
 use lib.ListN.{getD}
-use Rattle.rows.specs.Rows.{rowOf, ending}
+use Rattle.rows.specs.Rows.{B, P, M, rowOf, ending}
 use Rattle.image.specs.declared.Header.{Header}
 use Rattle.command.specs.declared.Command.{Command}
 use Rattle.point.specs.Flow.{flowOf, continues}
@@ -29,7 +29,7 @@ foreign task c = eqb (rowOf (c .code) .flow) ending && (not (eqb (c .x) 0) && no
 
 -- 9: the boxes of chapter 3, by task, from the number in the row; there is no task above mathematics
 abbrev pub boxes : ℕ → List Bool
-boxes tasks = eqb (tasks % 2) 1 ∷ eqb (tasks / 2 % 2) 1 ∷ eqb (tasks / 4 % 2) 1 ∷ []
+boxes tasks = eqb (tasks / B % 2) 1 ∷ eqb (tasks / P % 2) 1 ∷ eqb (tasks / M % 2) 1 ∷ []
 
 unfoldable pub permitted : ℕ → ℕ → Bool
 permitted code task = getD (boxes (rowOf code .tasks)) task false
@@ -58,7 +58,7 @@ noCall (Start u a) depth = false
 noCall Restart depth = false
 noCall End depth = false
 
--- 12: one of these blocks is past the end of an image of `count` blocks
+-- 12: one of the blocks that it may go on with is not below the count
 abbrev pub anyPast : ℕ → List ℕ → Bool
 anyPast count [] = false
 anyPast count (b ∷ bs) = leb count b || anyPast count bs
@@ -75,6 +75,24 @@ unfoldable pub faultOf : Header → Command → Point → Fault
 faultOf h c p =
     cond (foreign (p .task) c) Foreign
     (cond (permitted (c .code) (p .task)) (flowFault (h .count) p (flowOf c)) Forbidden)
+
+-- a 51 that ends another task
+abbrev pub isForeign : Fault → Bool
+isForeign Foreign = true
+isForeign Fine = false
+isForeign Forbidden = false
+isForeign TooDeep = false
+isForeign NoCall = false
+isForeign PastEnd = false
+
+-- bad by 9 to 12
+abbrev pub isBad : Fault → Bool
+isBad Fine = false
+isBad Foreign = false
+isBad Forbidden = true
+isBad TooDeep = true
+isBad NoCall = true
+isBad PastEnd = true
 
 -- document 01's number
 abbrev pub faultNumber : Fault → ℕ

@@ -30,7 +30,18 @@ endingBy mode = cond (eqb mode 0) Restart End
 -- the flows by their numbers, with the operands x and word; a code that is not carried has none
 abbrev pub flows : ℕ → ℕ → List Flow
 flows x word =
-    End ∷ Next ∷ Wait ∷ Jump word ∷ Branch word ∷ Call word ∷ Return ∷ Start bias word ∷ Start plc word ∷ Start mathematics word ∷ endingBy x ∷ []
+    End ∷  -- 0, not carried
+    Next ∷  -- 1, next
+    Wait ∷  -- 2, wait
+    Jump word ∷  -- 3, jump
+    Branch word ∷  -- 4, branch
+    Call word ∷  -- 5, call
+    Return ∷  -- 6, return
+    Start bias word ∷  -- 7, startBias
+    Start plc word ∷  -- 8, startPlc
+    Start mathematics word ∷  -- 9, startMathematics
+    endingBy x ∷  -- 10, ending
+    []
 
 unfoldable pub flowBy : ℕ → ℕ → ℕ → Flow
 flowBy n x word = getD (flows x word) n End
@@ -39,7 +50,8 @@ unfoldable pub flowOf : Command → Flow
 flowOf c = flowBy (rowOf (c .code) .flow) (c .x) (c .word)
 
 -- The blocks that a command at block b of a task may continue with, each of which 12 judges. The block behind a call counts at the call, a start
--- block where it is named. A command that starts its own task leads only to the named block.
+-- block where it is named. Starting its own task, a command has nothing behind it: it goes on at the named block alone. (By the boxes no command
+-- may do that today.)
 abbrev pub continues : ℕ → ℕ → Flow → List ℕ
 continues task b Next = (b + 1) ∷ []
 continues task b Wait = (b + 1) ∷ b ∷ []

@@ -6,7 +6,7 @@ ghost use mathlib.Core.Path.{_≡_};
 ghost use mathlib.Core.Bool.{cond};
 ghost use mathlib.Core.List.{List, [], _∷_};
 ghost use Rattle.point.specs.Flow.{flowBy, endingBy, flowOf, continues};
-ghost use Rattle.point.specs.Fault.{foreign, permitted, tooDeep, noCall, anyPast, flowFault, faultOf, faultNumber};
+ghost use Rattle.point.specs.Fault.{foreign, permitted, tooDeep, noCall, anyPast, flowFault, faultOf, isForeign, isBad, faultNumber};
 
 // The tasks: BIAS, the PLC, mathematics; and how many there are.
 pub const BIAS: u8 = 0;
@@ -83,6 +83,34 @@ impl Fault {
             Fault::PastEnd => 12,
         }
     }
+
+    // Whether a 51 ends another task.
+    pub fn is_foreign(self) -> bool
+        ensures { λ r. ⌜ r ≡ isForeign self ⌝ }
+    {
+        match self {
+            Fault::Foreign => true,
+            Fault::Fine => false,
+            Fault::Forbidden => false,
+            Fault::TooDeep => false,
+            Fault::NoCall => false,
+            Fault::PastEnd => false,
+        }
+    }
+
+    // Whether the point is bad by 9 to 12.
+    pub fn is_bad(self) -> bool
+        ensures { λ r. ⌜ r ≡ isBad self ⌝ }
+    {
+        match self {
+            Fault::Fine => false,
+            Fault::Foreign => false,
+            Fault::Forbidden => true,
+            Fault::TooDeep => true,
+            Fault::NoCall => true,
+            Fault::PastEnd => true,
+        }
+    }
 }
 
 impl Point {
@@ -123,9 +151,9 @@ pub fn permitted(code: u8, task: u8) -> bool
     let row = rows::find(code);
     let tasks = row.tasks;
     match task {
-        BIAS => tasks % 2 == 1,
-        PLC => tasks / 2 % 2 == 1,
-        MATHEMATICS => tasks / 4 % 2 == 1,
+        BIAS => tasks / rows::B % 2 == 1,
+        PLC => tasks / rows::P % 2 == 1,
+        MATHEMATICS => tasks / rows::M % 2 == 1,
         _ => false,
     }
 }
@@ -208,7 +236,7 @@ fn no_call(f: Flow, depth: u8) -> bool
     }
 }
 
-// Whether a block that the command at this block of this task may continue with is past the end of an image of this many blocks.
+// Whether a command at this block of this task may go on with a block that is not below the count.
 fn past_end(count: u16, task: u8, block: u16, f: Flow) -> bool
     ensures { λ r. ⌜ r ≡ anyPast count (continues task block f) ⌝ }
 {
@@ -227,7 +255,7 @@ fn past_end(count: u16, task: u8, block: u16, f: Flow) -> bool
     }
 }
 
-// A command that starts its own task leads only to the named block.
+// Starting its own task, a command goes on at the named block alone.
 fn start_past(count: u16, own: bool, named: u32, next: u32) -> bool
     ensures { λ r. ⌜ r ≡ anyPast count (cond own (named ∷ []) (named ∷ next ∷ [])) ⌝ }
 {

@@ -111,7 +111,7 @@ fn follow_flow(p: Point, f: Flow) -> Following
     }
 }
 
-// A command that starts its own task leads only to the named block.
+// Starting its own task, a command goes on at the named block alone.
 fn follow_start(own: bool, named: usize, next: usize) -> Following
     ensures { λ r. ⌜ numbers r ≡ cond own (named ∷ []) (named ∷ next ∷ []) ⌝ }
 {

@@ -80,7 +80,7 @@ outputReadY = 4
 abbrev pub outputWrittenX : ℕ
 outputWrittenX = 5
 
--- not on the 637+ (ruling on 6E)
+-- the drive is no 637+ (DECISIONS R5b)
 abbrev pub not637Plus : ℕ
 not637Plus = 6
 
@@ -150,17 +150,20 @@ B = 1
 abbrev pub P : ℕ
 P = 2
 
+abbrev pub M : ℕ
+M = 4
+
 abbrev pub BP : ℕ
-BP = 3
+BP = B + P
 
 abbrev pub BM : ℕ
-BM = 5
+BM = B + M
 
 abbrev pub PM : ℕ
-PM = 6
+PM = P + M
 
 abbrev pub BPM : ℕ
-BPM = 7
+BPM = B + P + M
 
 -- ---- flows: what the command may continue with
 
@@ -168,7 +171,7 @@ BPM = 7
 abbrev pub next : ℕ
 next = 1
 
--- the next block, or the same again
+-- the next block, or the same again: waits, and moves until they start
 abbrev pub wait : ℕ
 wait = 2
 
@@ -232,7 +235,7 @@ rows =
     row (hex 0 4) pair noDevice axis B wait ∷  -- 04 endless backward
     row (hex 0 14) bare noDevice any B next ∷  -- 0E set the start mark
     row (hex 0 15) pair noDevice stop BP next ∷  -- 0F stop, mode x
-    row (hex 1 15) byteWord noDevice rampStop BP next ∷  -- 1F stop, mode x, with the deceleration in word
+    row (hex 1 15) byteWord noDevice rampStop BP next ∷  -- 1F stop, mode x, with the deceleration in word (boxes: DECISIONS R1)
     -- parameters
     row (hex 2 0) value noDevice any B next ∷  -- 20 position = value
     row (hex 2 1) word noDevice speed B next ∷  -- 21 speed = word
@@ -248,15 +251,15 @@ rows =
     row (hex 4 3) byte noDevice any BPM next ∷  -- 43 variable x = deceleration
     -- control
     row (hex 5 0) bare noDevice any BPM next ∷  -- 50 no operation
-    row (hex 5 1) byte noDevice mode BPM ending ∷  -- 51 end, mode x
+    row (hex 5 1) byte noDevice mode BPM ending ∷  -- 51 end, mode x (DECISIONS R2)
     row (hex 5 2) word noDevice address BPM call ∷  -- 52 call the sub-program at word
     row (hex 5 3) bare noDevice any BPM return ∷  -- 53 return from a sub-program
     row (hex 5 4) word noDevice address BM startPlc ∷  -- 54 start the PLC at word
     row (hex 5 5) word noDevice address BPM jump ∷  -- 55 jump to word
     row (hex 5 7) word noDevice address PM startBias ∷  -- 57 start BIAS at word
     row (hex 5 8) bare noDevice any B wait ∷  -- 58 wait for position reached
-    row (hex 5 9) word noDevice any B wait ∷  -- 59 wait for a time of word x 2 ms
-    row (hex 5 10) byte noDevice any B wait ∷  -- 5A wait for a time of variable x ms
+    row (hex 5 9) word noDevice any B wait ∷  -- 59 wait for a time of word x 2 ms (DECISIONS R3)
+    row (hex 5 10) byte noDevice any B wait ∷  -- 5A wait for a time of variable x ms (DECISIONS R4)
     -- flags
     row (hex 6 0) pair noDevice level BPM next ∷  -- 60 flag x = y
     row (hex 6 1) tripleWord noDevice levelJump BPM branch ∷  -- 61 jump to word if flag x compares by y with z
@@ -267,12 +270,12 @@ rows =
     row (hex 6 6) triple noDevice any BPM next ∷  -- 66 flag x = flag y or flag z
     row (hex 6 7) triple noDevice any BPM next ∷  -- 67 flag x = flag y exclusive or flag z
     row (hex 6 8) pair noDevice any BPM next ∷  -- 68 flag x = not flag y
-    row (hex 6 14) tripleWord not637Plus bitJump BPM branch ∷  -- 6E jump to word if bit y of variable x compares by z with 0
+    row (hex 6 14) tripleWord not637Plus bitJump BPM branch ∷  -- 6E jump to word if bit y of variable x compares by z with 0 (R5a, R5b)
     -- pins
     row (hex 7 0) tripleWord inputX levelJump BPM branch ∷  -- 70 jump to word if input x compares by y with z
     row (hex 7 1) tripleWord outputReadX levelJump BPM branch ∷  -- 71 jump to word if output x compares by y with z
     row (hex 7 2) pair outputWrittenX level BPM next ∷  -- 72 output x = y
-    row (hex 7 3) pair outputWrittenX any BPM next ∷  -- 73 output x = flag y
+    row (hex 7 3) pair outputWrittenX any BPM next ∷  -- 73 output x = flag y (pins of 72: DECISIONS R12)
     -- variables
     row (hex 8 0) byteValue noDevice any BPM next ∷  -- 80 variable x = value
     row (hex 8 1) valueJump noDevice conditionJump BPM branch ∷  -- 81 jump to word if variable x compares by y with value
@@ -280,7 +283,7 @@ rows =
     row (hex 8 3) pairValue noDevice any BPM next ∷  -- 83 variable x = variable y - value
     row (hex 8 4) pairValue noDevice any BPM next ∷  -- 84 variable x = variable y * value
     row (hex 8 5) pairValue noDevice divisor BPM next ∷  -- 85 variable x = variable y / value
-    row (hex 8 6) triple noDevice flagRun BP next ∷  -- 86 variable x = z flags from flag y on
+    row (hex 8 6) triple noDevice flagRun BP next ∷  -- 86 variable x = z flags from flag y on (DECISIONS R13)
     row (hex 8 8) pair noDevice any BPM next ∷  -- 88 variable x = variable y
     row (hex 8 9) tripleWord noDevice conditionJump BPM branch ∷  -- 89 jump to word if variable x compares by y with variable z
     row (hex 8 10) triple noDevice any BPM next ∷  -- 8A variable x = variable y + variable z

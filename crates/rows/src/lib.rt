@@ -67,10 +67,10 @@ pub const OUTPUT_READ_Y: u8 = 4;
 // x is an output that can be written
 pub const OUTPUT_WRITTEN_X: u8 = 5;
 
-// not on the 637+ (ruling on 6E)
+// the drive is no 637+ (docs/DECISIONS.md, R5b)
 pub const NOT_637_PLUS: u8 = 6;
 
-// Ranges: which values of the operands are refused by 7.
+// Ranges: the values that the operands may have; 7 refuses all others.
 
 // no operand has a range of its own
 pub const ANY: u8 = 0;
@@ -120,13 +120,15 @@ pub const B: u8 = 1;
 
 pub const P: u8 = 2;
 
-pub const BP: u8 = 3;
+pub const M: u8 = 4;
 
-pub const BM: u8 = 5;
+pub const BP: u8 = B + P;
 
-pub const PM: u8 = 6;
+pub const BM: u8 = B + M;
 
-pub const BPM: u8 = 7;
+pub const PM: u8 = P + M;
+
+pub const BPM: u8 = B + P + M;
 
 // Flows: what the command may continue with.
 

@@ -18,7 +18,8 @@ use Rattle.image.proofs.Choice.{clash}
 use Rattle.walk.specs.Graph.{has, closure}
 use Rattle.walk.specs.Index.{marksLength}
 use Rattle.walk.specs.Successors.{nextOf}
-use Rattle.walk.specs.Verdict.{rootOf, fuel, reached, leastForeign, leastBad, verdictBy, walksVerdict, blockNumber, blocksVerdict, readVerdict, verdictOf}
+use Rattle.walk.specs.Program.{blockNumber}
+use Rattle.walk.specs.Verdict.{rootOf, fuel, reached, leastForeign, leastBad, verdictBy, walksVerdict, blocksVerdict, readVerdict, verdictOf}
 use Rattle.walk.specs.declared.Verdict.{Verdict}
 use Rattle.walk.specs.declared.Verdict.the-variants as verdict
 

@@ -101,19 +101,19 @@ module _ (h : Header) (bs : List ℕ) (most : h .count ≤ mostBlocks) (begins :
       let m = goes-on o q (s .fine) f in
       (reached-next o q (s .within) (s .reach) m, successors-within h bs o q (s .within) m)
 
-  latest-reached : (code u : ℕ) → ((k : ℕ) → k ≡ code → starts k u ≡ true) → (path : List Point) → All Sound path → (a : ℕ) → latest bs code path ≡ Named.block a
+  latest-reached : (code u : ℕ) → ((k : ℕ) → k ≡ code → starts k u ≡ true) → (path : List Point) → All Sound path → (a : ℕ) → latest bs code path ≡ Named.at a
       → Reached (point u a 0) × Within h (point u a 0)
   unfolding latest
   latest-reached code u s [] all a e = absurd (unnamed e)
     where
-      unnamed : Named.none ≡ Named.block a → ⊥
+      unnamed : Named.none ≡ Named.at a → ⊥
       unnamed e = let z : _≡_ {A = ℕ} 0 1 = cc in omega arith
   latest-reached code u s (o ∷ path) all a e =
       choose (eqb (commandAt bs (o .block) .code) code) refl e (latest-reached code u s path (all .1) a)
     where
       choose : (t : Bool) → eqb (commandAt bs (o .block) .code) code ≡ t
-          → cond t (Named.block (commandAt bs (o .block) .word)) (latest bs code path) ≡ Named.block a
-          → (latest bs code path ≡ Named.block a → Reached (point u a 0) × Within h (point u a 0))
+          → cond t (Named.at (commandAt bs (o .block) .word)) (latest bs code path) ≡ Named.at a
+          → (latest bs code path ≡ Named.at a → Reached (point u a 0) × Within h (point u a 0))
           → Reached (point u a 0) × Within h (point u a 0)
       choose true i e later =
           let w : commandAt bs (o .block) .word ≡ a = cc in
@@ -127,24 +127,24 @@ module _ (h : Header) (bs : List ℕ) (most : h .count ≤ mostBlocks) (begins :
   begins-mathematics k e = rw e
 
   -- the start that a return leads to is reached
-  start-reached : (task : ℕ) (path : List Point) → All Sound path → (a : ℕ) → startOf h bs task path ≡ Named.block a
+  start-reached : (task : ℕ) (path : List Point) → All Sound path → (a : ℕ) → startOf h bs task path ≡ Named.at a
       → Reached (point task a 0) × Within h (point task a 0)
   unfolding startOf
   start-reached task path all a e = first (eqb task bias) refl e
     where
-      third : (t : Bool) → eqb task mathematics ≡ t → cond t (latest bs (hex 9 0) path) Named.none ≡ Named.block a
+      third : (t : Bool) → eqb task mathematics ≡ t → cond t (latest bs (hex 9 0) path) Named.none ≡ Named.at a
           → Reached (point task a 0) × Within h (point task a 0)
       third true i e = rw (eqb-true task mathematics i) (latest-reached (hex 9 0) mathematics begins-mathematics path all a e)
       third false i e = absurd (let z : _≡_ {A = ℕ} 0 1 = cc in omega arith)
 
       second : (t : Bool) → eqb task plc ≡ t
-          → cond t (latest bs (hex 5 4) path) (cond (eqb task mathematics) (latest bs (hex 9 0) path) Named.none) ≡ Named.block a
+          → cond t (latest bs (hex 5 4) path) (cond (eqb task mathematics) (latest bs (hex 9 0) path) Named.none) ≡ Named.at a
           → Reached (point task a 0) × Within h (point task a 0)
       second true i e = rw (eqb-true task plc i) (latest-reached (hex 5 4) plc begins-plc path all a e)
       second false i e = third (eqb task mathematics) refl e
 
       first : (t : Bool) → eqb task bias ≡ t
-          → cond t (Named.block (h .start)) (cond (eqb task plc) (latest bs (hex 5 4) path) (cond (eqb task mathematics) (latest bs (hex 9 0) path) Named.none)) ≡ Named.block a
+          → cond t (Named.at (h .start)) (cond (eqb task plc) (latest bs (hex 5 4) path) (cond (eqb task mathematics) (latest bs (hex 9 0) path) Named.none)) ≡ Named.at a
           → Reached (point task a 0) × Within h (point task a 0)
       first true i e = let w : h .start ≡ a = cc in rw (eqb-true task bias i, ← w) (Reach.begin, first-within)
       first false i e = second (eqb task plc) refl e

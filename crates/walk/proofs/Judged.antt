@@ -18,8 +18,9 @@ use Rattle.image.specs.declared.Outcome.the-variants.{Done, EndsEarly, NotShort
 use Rattle.image.proofs.Choice.{clash, by}
 use Rattle.image.proofs.HeaderLaws.{header-good}
 use Rattle.walk.specs.Index.{marksLength}
-use Rattle.walk.specs.Verdict.{blockNumber, walksVerdict, blocksVerdict, readVerdict, verdictOf}
-use Rattle.walk.specs.Says.{Passes, Says, Judges}
+use Rattle.walk.specs.Program.{blockNumber}
+use Rattle.walk.specs.Verdict.{walksVerdict, blocksVerdict, readVerdict, verdictOf}
+use Rattle.walk.specs.Says.{BlockPasses, Says, Judges}
 use Rattle.walk.specs.declared.Verdict.{Verdict}
 use Rattle.walk.specs.declared.Verdict.the-variants as verdict
 use Rattle.walk.proofs.Exactly.{verdict-says, one-verdict}
@@ -48,14 +49,14 @@ module _ (image : List ℕ) (n : ℕ) where
 
     module _ (room : marksLength ≤ n) where
       -- the blocks before b pass; k are left
-      blocks-judged : (k b : ℕ) → b + k ≡ h .count → ((a : ℕ) → a < b → Passes h bs a) → Judges image n (blocksVerdict h bs b k)
+      blocks-judged : (k b : ℕ) → b + k ≡ h .count → ((a : ℕ) → a < b → BlockPasses h bs a) → Judges image n (blocksVerdict h bs b k)
       unfolding blocksVerdict
       blocks-judged zero b e all =
           Judges.walks room read (λ a l. all a (omega arith)) (walksVerdict h bs) (verdict-says h bs most begins)
       blocks-judged (suc k) b e all =
           go (eqb (blockNumber h bs b) 0) refl (λ p. blocks-judged k (b + 1) (omega arith) (below-more _ _ all p))
         where
-          go : (t : Bool) → eqb (blockNumber h bs b) 0 ≡ t → (Passes h bs b → Judges image n (blocksVerdict h bs (b + 1) k))
+          go : (t : Bool) → eqb (blockNumber h bs b) 0 ≡ t → (BlockPasses h bs b → Judges image n (blocksVerdict h bs (b + 1) k))
               → Judges image n (cond t (blocksVerdict h bs (b + 1) k) (verdict.Block (blockNumber h bs b) b))
           go true i later = later (eqb-true (blockNumber h bs b) 0 i)
           go false i later = Judges.block room read b (omega arith) all (eqb-false (blockNumber h bs b) 0 i)
@@ -76,7 +77,7 @@ module _ (image : List ℕ) (n : ℕ) where
 
   -- ---- an image has one verdict
 
-  first-block : (b c : ℕ) → ((a : ℕ) → a < b → Passes h bs a) → (Passes h bs b → ⊥) → ((a : ℕ) → a < c → Passes h bs a) → (Passes h bs c → ⊥) → b ≡ c
+  first-block : (b c : ℕ) → ((a : ℕ) → a < b → BlockPasses h bs a) → (BlockPasses h bs b → ⊥) → ((a : ℕ) → a < c → BlockPasses h bs a) → (BlockPasses h bs c → ⊥) → b ≡ c
   first-block b c all bad also worse =
       by b c (λ l. absurd (bad (also b l))) (λ l. by c b (λ m. absurd (worse (all c m))) (λ m. omega arith))
 

@@ -22,7 +22,7 @@ use Rattle.walk.proofs.Moves.{Flows, carried, onBy, startsBy, callF, Fl
 -- where a step leads that is no move
 pub data Special (h : Header) (bs : List ℕ) (path : List Point) (p : Point) (c : Command) (q : Point) : Type 0 where
   stays : q ≡ p → Special h bs path p c q
-  restarts : (a : ℕ) → startOf h bs (p .task) path ≡ Named.block a → q ≡ point (p .task) a 0 → Special h bs path p c q
+  restarts : (a : ℕ) → startOf h bs (p .task) path ≡ Named.at a → q ≡ point (p .task) a 0 → Special h bs path p c q
 
 module _ (h : Header) (bs : List ℕ) (path : List Point) (p : Point) (c : Command) (allowed : permitted (c .code) (p .task) ≡ true) where
   codes : Flows (c .code) (rowOf (c .code) .flow)

@@ -26,7 +26,7 @@ use Rattle.walk.specs.Graph.{In}
 use Rattle.walk.specs.Successors.{goes, unless, successors}
 use Rattle.walk.proofs.Choice.{neither}
 
--- which fault it is, as a number: faults of different numbers differ
+-- whether a fault is none
 kind : Fault → Bool
 kind Fine = true
 kind Foreign = false

@@ -5,12 +5,13 @@ use lib.ListN.{getD}
 use Rattle.image.specs.Scan.{blockLength}
 use Rattle.image.specs.declared.Header.{Header}
 use Rattle.command.specs.Operands.{operands}
+use Rattle.command.specs.Judged.{decoded, blockRefusal}
 use Rattle.command.specs.declared.Command.{Command}
 use Rattle.point.specs.Fault.{faultOf}
 use Rattle.point.specs.declared.Point.{Point}
 use Rattle.point.specs.declared.Fault.{Fault}
 
--- the n bytes from `at` on
+-- the eight bytes from `at` on; 0 past the end
 abbrev pub bytesFrom : List ℕ → ℕ → List ℕ
 bytesFrom bs at =
     getD bs at 0 ∷ getD bs (at + 1) 0 ∷ getD bs (at + 2) 0 ∷ getD bs (at + 3) 0 ∷
@@ -22,6 +23,10 @@ blockAt bs b = bytesFrom bs (blockLength * b)
 
 unfoldable pub commandAt : List ℕ → ℕ → Command
 commandAt bs b = operands (blockAt bs b)
+
+-- the refusal of block b by 5 to 8, 0 for none
+abbrev pub blockNumber : Header → List ℕ → ℕ → ℕ
+blockNumber h bs b = blockRefusal (decoded h (blockAt bs b))
 
 -- what the command at a point breaks there
 unfoldable pub faultAt : Header → List ℕ → Point → Fault

@@ -1,5 +1,5 @@
 -- What a verdict says of the walks of an image whose lengths, header and blocks are well formed (document 01, "Refused because of the input"; a
--- 51 that ends another task by our ruling). Assumes nothing.
+-- 51 that ends another task by docs/DECISIONS.md, R2). Assumes nothing.
 use Prim.Native.Nat.{ℕ, _<_, _≤_}
 use mathlib.Core.Path.{_≡_}
 use mathlib.Core.Bool.{true, false}
@@ -9,10 +9,10 @@ use Rattle.image.specs.Scan.{headerOf, blocksOf}
 use Rattle.image.specs.declared.Header.{Header}
 use Rattle.point.specs.declared.Point.{Point}
 use Rattle.point.specs.declared.Fault.{Fault}
-use Rattle.walk.specs.Program.{faultAt}
+use Rattle.point.specs.Fault.{isForeign, isBad}
+use Rattle.walk.specs.Program.{blockNumber, faultAt}
 use Rattle.walk.specs.Walk.{Reaches}
 use Rattle.walk.specs.Index.{marksLength, before}
-use Rattle.walk.specs.Verdict.{isForeign, isBad, blockNumber}
 use Rattle.walk.specs.declared.Verdict.{Verdict}
 use Rattle.walk.specs.declared.Verdict.the-variants as verdict
 
@@ -39,16 +39,16 @@ pub data Says (h : Header) (bs : List ℕ) : Verdict → Type 0 where
 -- ---- the verdict on an image with marks of n bytes
 
 -- block b passes 5 to 8
-abbrev pub Passes : Header → List ℕ → ℕ → Type 0
-Passes h bs b = blockNumber h bs b ≡ 0
+abbrev pub BlockPasses : Header → List ℕ → ℕ → Type 0
+BlockPasses h bs b = blockNumber h bs b ≡ 0
 
 -- what a verdict says of an image: 13, then the header and the length, then the first block that is refused, then the walks
 pub data Judges (image : List ℕ) (n : ℕ) : Verdict → Type 0 where
   marks : n < marksLength → Judges image n (verdict.MarksShort n)
   header : marksLength ≤ n → done (headerOf image .outcome) ≡ false → Judges image n (verdict.Image (headerOf image .outcome))
   block : marksLength ≤ n → done (headerOf image .outcome) ≡ true → (b : ℕ) → b < headerOf image .header .count
-      → ((a : ℕ) → a < b → Passes (headerOf image .header) (blocksOf image) a) → (Passes (headerOf image .header) (blocksOf image) b → ⊥)
+      → ((a : ℕ) → a < b → BlockPasses (headerOf image .header) (blocksOf image) a) → (BlockPasses (headerOf image .header) (blocksOf image) b → ⊥)
       → Judges image n (verdict.Block (blockNumber (headerOf image .header) (blocksOf image) b) b)
   walks : marksLength ≤ n → done (headerOf image .outcome) ≡ true
-      → ((b : ℕ) → b < headerOf image .header .count → Passes (headerOf image .header) (blocksOf image) b)
+      → ((b : ℕ) → b < headerOf image .header .count → BlockPasses (headerOf image .header) (blocksOf image) b)
       → (v : Verdict) → Says (headerOf image .header) (blocksOf image) v → Judges image n v

@@ -1,4 +1,4 @@
--- The verdict on an image, computed: 13, then 1 to 8, then the least foreign 51 (7), then the least bad point (9 to 12). That it is what walks
+-- The verdict on an image with marks of some length, computed: 13, then 1 to 8, then the least foreign 51 (7), then the least bad point (9 to 12). That it is what walks
 -- say is proved in proofs/Exactly.antt. Assumes nothing.
 use Prim.Native.Nat.{ℕ, zero, suc, _+_, _*_}
 use mathlib.Core.Bool.{Bool, true, false, cond}
@@ -10,13 +10,11 @@ use Rattle.image.specs.Rows.{mostBlocks}
 use Rattle.image.specs.Scan.{headerOf, blocksOf}
 use Rattle.image.specs.declared.Header.{Header}
 use Rattle.image.specs.declared.reader.HeaderRead.{HeaderRead}
-use Rattle.command.specs.Judged.{decoded, blockRefusal}
 use Rattle.point.specs.Flow.{bias}
-use Rattle.point.specs.Fault.{point, faultNumber}
+use Rattle.point.specs.Fault.{point, isForeign, isBad, faultNumber}
 use Rattle.point.specs.declared.Point.{Point}
-use Rattle.point.specs.declared.Fault.{Fault}
-use Rattle.point.specs.declared.Fault.the-variants.{Fine, Foreign, Forbidden, TooDeep, NoCall, PastEnd}
-use Rattle.walk.specs.Program.{blockAt, faultAt}
+use Rattle.point.specs.declared.Fault.the-variants.{Foreign}
+use Rattle.walk.specs.Program.{blockNumber, faultAt}
 use Rattle.walk.specs.Index.{indexOf, pointAt, marksLength}
 use Rattle.walk.specs.Successors.{nextOf}
 use Rattle.walk.specs.Graph.{closure, least}
@@ -25,30 +23,17 @@ use Rattle.walk.specs.declared.Verdict.the-variants as verdict
 
 -- ---- the walks
 
-abbrev pub isForeign : Fault → Bool
-isForeign Foreign = true
-isForeign Fine = false
-isForeign Forbidden = false
-isForeign TooDeep = false
-isForeign NoCall = false
-isForeign PastEnd = false
-
--- 9 to 12
-abbrev pub isBad : Fault → Bool
-isBad Fine = false
-isBad Foreign = false
-isBad Forbidden = true
-isBad TooDeep = true
-isBad NoCall = true
-isBad PastEnd = true
-
 -- the first point's number
 abbrev pub rootOf : Header → ℕ
 rootOf h = indexOf (point bias (h .start) 0)
 
--- three steps for each point: it has at most two successors; and one for the first
+-- the most points that follow one
+abbrev pub mostFollowing : ℕ
+mostFollowing = 2
+
+-- a step for each point, one for each that may follow it, and one for the first
 abbrev pub fuel : ℕ
-fuel = 3 * marksLength + 1
+fuel = (mostFollowing + 1) * marksLength + 1
 
 unfoldable pub reached : Header → List ℕ → List ℕ
 reached h bs = closure (nextOf h bs) fuel (rootOf h ∷ []) []
@@ -69,10 +54,6 @@ unfoldable pub walksVerdict : Header → List ℕ → Verdict
 walksVerdict h bs = verdictBy h bs (leastForeign h bs (reached h bs)) (leastBad h bs (reached h bs))
 
 -- ---- the blocks
-
--- the refusal of block b by 5 to 8, 0 for none
-abbrev pub blockNumber : Header → List ℕ → ℕ → ℕ
-blockNumber h bs b = blockRefusal (decoded h (blockAt bs b))
 
 -- n blocks judged upwards from block b, then the walks
 unfoldable pub blocksVerdict : Header → List ℕ → ℕ → ℕ → Verdict
@@ -95,7 +76,7 @@ verdictNumber verdict.Accepted = 0
 verdictNumber (verdict.MarksShort n) = 13
 verdictNumber (verdict.Image o) = numberOf o
 verdictNumber (verdict.Block n b) = n
-verdictNumber (verdict.Foreign b) = 7
+verdictNumber (verdict.Foreign b) = faultNumber Foreign
 verdictNumber (verdict.Bad f p) = faultNumber f
 
 -- the byte, length or block
@@ -123,7 +104,6 @@ verdictDepth (verdict.Block n b) = 0
 verdictDepth (verdict.Foreign b) = 0
 verdictDepth (verdict.Bad f p) = p .depth
 
--- the blocks that are handed back: none of an image that is refused by any number
 abbrev pub isAccepted : Verdict → Bool
 isAccepted verdict.Accepted = true
 isAccepted (verdict.MarksShort n) = false
@@ -132,5 +112,6 @@ isAccepted (verdict.Block n b) = false
 isAccepted (verdict.Foreign b) = false
 isAccepted (verdict.Bad f p) = false
 
+-- the blocks that are handed back: none of an image that is refused by any number
 unfoldable pub acceptedBlocks : List ℕ → ℕ → List ℕ
 acceptedBlocks image n = cond (isAccepted (verdictOf image n)) (blocksOf image) []

@@ -1,5 +1,6 @@
--- Walks, as document 01 has them ("Walks"): one constructor for each of its sentences. A walk is a path, the points passed so far with the latest
--- first; its own history, the latest 54 and 90 among them, tells where a return to a start leads. Assumes nothing.
+-- Walks, as document 01 has them ("Walks"): one constructor for each way that its sentences name; 53, and 51 in the modes that end, have none. A
+-- walk is a path, the points passed so far with the latest first; its own history, the latest 54 and 90 among them, tells where a return to a
+-- start leads. Assumes nothing.
 use Prim.Native.Nat.{ℕ, _+_}
 use mathlib.Core.Path.{_≡_}
 use mathlib.Core.Bool.{Bool, true, false, _&&_, _||_, not, cond}
@@ -32,7 +33,7 @@ stays = oneOf (hex 0 0 ∷ hex 0 1 ∷ hex 0 3 ∷ hex 0 4 ∷ hex 5 8 ∷ hex 5
 abbrev pub starts : ℕ → ℕ → Bool
 starts code task = (eqb code (hex 5 7) && eqb task bias) || ((eqb code (hex 5 4) && eqb task plc) || (eqb code (hex 9 0) && eqb task mathematics))
 
--- all but 51, 52, 53 and 55 may go on with the next block, unless they start their own task
+-- what may go on with the next block at the same depth, 52 apart: all but 51, 53, 55 and a start of the own task
 abbrev pub goesOn : ℕ → ℕ → Bool
 goesOn code task = not (oneOf (hex 5 1 ∷ hex 5 2 ∷ hex 5 3 ∷ hex 5 5 ∷ []) code || starts code task)
 
@@ -41,17 +42,17 @@ goesOn code task = not (oneOf (hex 5 1 ∷ hex 5 2 ∷ hex 5 3 ∷ hex 5 5 ∷ [
 -- the block that a start named, if there was one
 pub data Named : Type 0 where
   none : Named
-  block : ℕ → Named
+  at : ℕ → Named
 
 -- the block named by the latest command with this code among the points passed
 unfoldable pub latest : List ℕ → ℕ → List Point → Named
 latest bs code [] = none
-latest bs code (p ∷ path) = cond (eqb (commandAt bs (p .block) .code) code) (block (commandAt bs (p .block) .word)) (latest bs code path)
+latest bs code (p ∷ path) = cond (eqb (commandAt bs (p .block) .code) code) (at (commandAt bs (p .block) .word)) (latest bs code path)
 
 -- where a task starts: BIAS at the program start, the PLC at its latest 54's block, mathematics at its latest 90's
 unfoldable pub startOf : Header → List ℕ → ℕ → List Point → Named
 startOf h bs task path =
-    cond (eqb task bias) (block (h .start))
+    cond (eqb task bias) (at (h .start))
     (cond (eqb task plc) (latest bs (hex 5 4) path)
     (cond (eqb task mathematics) (latest bs (hex 9 0) path) none))
 
@@ -62,17 +63,18 @@ pub data Step (h : Header) (bs : List ℕ) (path : List Point) (p : Point) (c : 
   next : goesOn (c .code) (p .task) ≡ true → Step h bs path p c (point (p .task) (p .block + 1) (p .depth))
   stay : stays (c .code) ≡ true → Step h bs path p c p
   jump : jumps (c .code) ≡ true → Step h bs path p c (point (p .task) (c .word) (p .depth))
-  -- from 52 to the sub-program one deeper, and also to the block after the call at the same depth
+  -- 52: into the sub-program, one deeper; and to the block behind the call, at its own depth
   call : c .code ≡ hex 5 2 → Step h bs path p c (point (p .task) (c .word) (p .depth + 1))
   behind : c .code ≡ hex 5 2 → Step h bs path p c (point (p .task) (p .block + 1) (p .depth))
-  -- a start of another task leads to the named block of that task at depth 0, besides the next block
+  -- 54, 57, 90 that start another task: to the named block of that task at depth 0 (and on, by `next`)
   start : (u : ℕ) → starts (c .code) u ≡ true → (u ≡ p .task → ⊥) → Step h bs path p c (point u (c .word) 0)
-  -- a start of the own task leads only to the named block, at depth 0
+  -- that start their own: to the named block at depth 0, and nowhere else. (Forbidden by 9 today, as the boxes stand.)
   own : starts (c .code) (p .task) ≡ true → Step h bs path p c (point (p .task) (c .word) 0)
   -- mode 0 of 51 returns to the task's start at depth 0
-  restart : (a : ℕ) → c .code ≡ hex 5 1 → c .x ≡ 0 → startOf h bs (p .task) path ≡ block a → Step h bs path p c (point (p .task) a 0)
+  restart : (a : ℕ) → c .code ≡ hex 5 1 → c .x ≡ 0 → startOf h bs (p .task) path ≡ at a → Step h bs path p c (point (p .task) a 0)
 
--- a walk that has passed `path` and is now at a point; it begins at task 0, program start, depth 0, and goes on only from points that are not bad
+-- a walk that has passed `path` and is now at a point. BIAS begins it at the program start, inside no call; it goes on only where nothing is broken:
+-- neither from a bad point nor from a foreign 51
 pub data Walk (h : Header) (bs : List ℕ) : List Point → Point → Type 0 where
   begin : Walk h bs [] (point bias (h .start) 0)
   onward : {path : List Point} {p : Point} (q : Point) → Walk h bs path p → faultAt h bs p ≡ Fine

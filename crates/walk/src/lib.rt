@@ -1,10 +1,11 @@
-// The verdict on an image (document 01, "Refused because of the input"). No code here: specs/ says what walks are and what a verdict says of
+// The verdict on an image with lent marks (document 01, "Refused because of the input"; 16, which comes second in a load, belongs to the
+// state buffer). No code here: specs/ says what walks are and what a verdict says of
 // them, and computes the verdict; the crate loader finds it.
 use image::Outcome;
 use point::Fault;
 use point::Point;
 
-// What a load comes to: accepted, or the first refusal with its place.
+// What an image and marks come to: accepted, or the first refusal with its place.
 pub enum Verdict {
     Accepted,
     // marks of this length are too short

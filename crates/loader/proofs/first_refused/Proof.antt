@@ -3,7 +3,7 @@ use Prim.Native.Nat.{ℕ, _-_, _<_, _≤_}
 use mathlib.Core.Path.{_≡_, sym, _∙_}
 use native.Mathlib.Omega.{arith}
 use borrow.Author.Count.{below-more}
-use Rattle.walk.specs.Verdict.{blockNumber}
+use Rattle.walk.specs.Program.{blockNumber}
 use Rattle.loader.proofs.first_refused.Statement.{statement}
 use Rattle.loader.proofs.first_refused.Tie as tie
 

@@ -20,9 +20,10 @@ is-done-requires c κs = search needs
 
 returns-2 : tie.Need-returns-2
 returns-2 c =
-    let a = c .before .before .before .before .before .before .args in
-    (refused-image (now (a .image)) _ _ (c .before .before .read .ensures) (sym (c .before .is-done .ensures) ∙ not-true _ (c .if2 .taken)) (c .before .before .before .if1 .left),
-      record { long = refl; rest = λ k i. refl })
+    let a = c .before .before .before .before .before .before .args in (
+      refused-image (now (a .image)) _ _ (c .before .before .read .ensures) (sym (c .before .is-done .ensures) ∙ not-true _ (c .if2 .taken)) (c .before .before .before .if1 .left),
+      record { long = refl; rest = λ k i. refl },
+    )
 
 block-part-requires : tie.Need-block-part-requires
 block-part-requires c κs = search needs

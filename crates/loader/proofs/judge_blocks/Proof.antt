@@ -19,9 +19,10 @@ cast-t7 c = search needs
 
 returns : tie.Need-returns
 returns c =
-    let s = c .before .before .before .before .before .before in
-    (ap (λ (n : ℕ). Block n (c .before .before .before .first-refused .result)) (c .block-number .ensures) ∙ first-refused-is (s .args .header) (now (s .args .blocks)) _ (c .before .before .before .first-refused .ensures) (c .before .if1 .taken),
-      record { long = refl; rest = λ k i. refl })
+    let s = c .before .before .before .before .before .before in (
+      ap (λ (n : ℕ). Block n (c .before .before .before .first-refused .result)) (c .block-number .ensures) ∙ first-refused-is (s .args .header) (now (s .args .blocks)) _ (c .before .before .before .first-refused .ensures) (c .before .if1 .taken),
+      record { long = refl; rest = λ k i. refl },
+    )
 
 judge-walks-requires : tie.Need-judge-walks-requires
 judge-walks-requires c κs = search needs

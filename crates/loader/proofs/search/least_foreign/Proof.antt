@@ -40,10 +40,11 @@ loop-less c = omega arith
 loop-again : tie.Need-loop-again Inv-loop μ-loop
 loop-again c =
     let v = c .before .before .before .loop in
-    let a = c .before .before .before .before .before .before .args in
-    (omega arith,
+    let a = c .before .before .before .before .before .before .args in (
+      omega arith,
       ⊎-elim (λ w. rw (w .2 ∙ w .1 .ensures) (lowered-next (a .header) (now (a .blocks)) _ (v .i) (v .found) (v .inv .1) (w .0 .taken)))
-      (λ w. rw (w .1) (least-kept _ _ _ _ (v .i) (v .found) (v .inv .1) (λ m t. m (w .0 .left)))) (c .if1 .came))
+          (λ w. rw (w .1) (least-kept _ _ _ _ (v .i) (v .found) (v .inv .1) (λ m t. m (w .0 .left)))) (c .if1 .came),
+    )
 
 returns : tie.Need-returns Inv-loop μ-loop
 returns c =

@@ -37,7 +37,7 @@ touch-requires c κs =
     let bs = now (s .args .blocks) in
     let a = c .before .before .before .a .given in
     let i = touch-inside (nextOf h bs) (rootOf h) (number-inside h bs (s .pre .0 .most) (s .pre .0 .begins)) _ _ (s .pre .1 .0) (s .pre .1 .1 .1 .0) _
-          (sym (ap numbers (a .1)) ∙ follow-next h bs (s .args .p) _ (c .before .before .before .before .before .follow .result) (c .before .before .before .before .before .before .point-at .ensures) (c .before .before .before .before .before .follow .ensures)) (a .0 .0) (inl refl) in
+    (sym (ap numbers (a .1)) ∙ follow-next h bs (s .args .p) _ (c .before .before .before .before .before .follow .result) (c .before .before .before .before .before .before .point-at .ensures) (c .before .before .before .before .before .follow .ensures)) (a .0 .0) (inl refl) in
     (omega (arith, s .pre .1 .0 .long), i)
 
 slice-write-marks-2 : tie.Need-slice-write-marks-2
@@ -53,7 +53,7 @@ touch-requires-2 c κs =
     let bs = now (s .args .blocks) in
     let a = c .before .before .before .a2 .given in
     let i = touch-inside (nextOf h bs) (rootOf h) (number-inside h bs (s .pre .0 .most) (s .pre .0 .begins)) _ _ (s .pre .1 .0) (s .pre .1 .1 .1 .0) _
-          (sym (ap numbers (a .1)) ∙ follow-next h bs (s .args .p) _ (c .before .before .before .before .before .follow .result) (c .before .before .before .before .before .before .point-at .ensures) (c .before .before .before .before .before .follow .ensures)) (a .0 .0) (inl refl) in
+    (sym (ap numbers (a .1)) ∙ follow-next h bs (s .args .p) _ (c .before .before .before .before .before .follow .result) (c .before .before .before .before .before .before .point-at .ensures) (c .before .before .before .before .before .follow .ensures)) (a .0 .0) (inl refl) in
     (omega (arith, s .pre .1 .0 .long), i)
 
 touch-requires-3 : tie.Need-touch-requires-3
@@ -63,7 +63,7 @@ touch-requires-3 c κs =
     let bs = now (s .args .blocks) in
     let a = c .before .before .before .before .before .before .before .before .a2 .given in
     let i = touch-inside (nextOf h bs) (rootOf h) (number-inside h bs (s .pre .0 .most) (s .pre .0 .begins)) _ _ (s .pre .1 .0) (s .pre .1 .1 .1 .0) _
-          (sym (ap numbers (a .1)) ∙ follow-next h bs (s .args .p) _ (c .before .before .before .before .before .before .before .before .before .before .follow .result) (c .before .before .before .before .before .before .before .before .before .before .before .point-at .ensures) (c .before .before .before .before .before .before .before .before .before .before .follow .ensures)) (a .0 .1 .0) (inr (inl refl)) in
+    (sym (ap numbers (a .1)) ∙ follow-next h bs (s .args .p) _ (c .before .before .before .before .before .before .before .before .before .before .follow .result) (c .before .before .before .before .before .before .before .before .before .before .before .point-at .ensures) (c .before .before .before .before .before .before .before .before .before .before .follow .ensures)) (a .0 .1 .0) (inr (inl refl)) in
     (omega (arith, s .pre .1 .0 .long, c .before .before .before .before .touch2 .kept .0), i)
 
 slice-write-marks-3 : tie.Need-slice-write-marks-3
