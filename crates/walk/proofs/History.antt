@@ -173,8 +173,8 @@ module _ (h : Header) (bs : List ℕ) (most : h .count ≤ mostBlocks) (begins :
           along (inl m) =
               let f = goes-on p q fine m in
               record { within = successors-within h bs p q (k .within) f; reach = reached-next p q (k .within) (k .reach) f; passed = all }
-          along (inr (Special.stays e)) = rw e (record { within = k .within; reach = k .reach; passed = all })
-          along (inr (Special.restarts a e i)) =
+          along (inr (Special.stays w e)) = rw e (record { within = k .within; reach = k .reach; passed = all })
+          along (inr (Special.restarts a k51 e i)) =
               let r = start-reached (p .task) (p ∷ path) all a e in
               rw i (record { within = r .1; reach = r .0; passed = all })
 

@@ -9,3 +9,5 @@ pub mod History
 pub mod Exactly
 pub mod Judged
 pub mod Fast
+pub mod Ahead
+pub mod Facts

@@ -10,7 +10,7 @@ use lib.ListN.{getD}
 use lib.Dec.{T, eqb, ltb}
 use borrow.Author.Tests.{eqb-true, eqb-false, eq-eqb, ne-eqb, ltb-true, not-true}
 use Rattle.image.proofs.Choice.{clash, both}
-use Rattle.rows.specs.Rows.{hex, noRow, rows, rowIn, rowOf, branch, return, startBias, startPlc, startMathematics, ending}
+use Rattle.rows.specs.Rows.{hex, noRow, rows, rowIn, rowOf, wait, branch, return, startBias, startPlc, startMathematics, ending}
 use Rattle.rows.specs.Rows.{jump as jumped, call as called}
 use Rattle.rows.specs.declared.Row.{Row}
 use Rattle.rows.proofs.Laws.{every, every-row}
@@ -21,7 +21,7 @@ use Rattle.point.specs.declared.Point.{Point}
 use Rattle.point.specs.declared.Flow.{Flow}
 use Rattle.point.specs.declared.Flow.the-variants.{Next, Wait, Jump, Branch, Call, Return, Start, Restart, End}
 use Rattle.walk.specs.Graph.{In}
-use Rattle.walk.specs.Walk.{oneOf, jumps, starts, goesOn}
+use Rattle.walk.specs.Walk.{oneOf, jumps, stays, starts, goesOn}
 use Rattle.walk.specs.Successors.{goes}
 use Rattle.walk.proofs.Choice.{test, or-is}
 
@@ -58,7 +58,8 @@ agrees code r =
     (same (eqb code (hex 5 4)) (eqb (r .flow) startPlc) &&
     (same (eqb code (hex 9 0)) (eqb (r .flow) startMathematics) &&
     (same (jumps code) (jumpsBy (r .flow)) &&
-    (ltb 0 (r .flow) && ltb (r .flow) 11))))))))
+    (same (stays code) (eqb (r .flow) wait) &&
+    (ltb 0 (r .flow) && ltb (r .flow) 11)))))))))
 
 all-agree : T (every agrees rows)
 unfolding agrees same rows
@@ -74,6 +75,7 @@ pub record Flows (code n : ℕ) : Type 0 where
   pub begins-plc : eqb code (hex 5 4) ≡ eqb n startPlc
   pub begins-mathematics : eqb code (hex 9 0) ≡ eqb n startMathematics
   pub jumping : jumps code ≡ jumpsBy n
+  pub staying : stays code ≡ eqb n wait
   pub some : 0 < n
   pub known : n < 11
 
@@ -88,7 +90,8 @@ flows-of code r e =
     let g = both _ _ (f .1) in
     let h = both _ _ (g .1) in
     let i = both _ _ (h .1) in
-    let j = both _ _ (i .1) in
+    let k = both _ _ (i .1) in
+    let j = both _ _ (k .1) in
     record {
       ends = same-is _ _ (a .0);
       calls = same-is _ _ (b .0);
@@ -98,6 +101,7 @@ flows-of code r e =
       begins-plc = same-is _ _ (g .0);
       begins-mathematics = same-is _ _ (h .0);
       jumping = same-is _ _ (i .0);
+      staying = same-is _ _ (k .0);
       some = ltb-true _ _ (j .0);
       known = ltb-true _ _ (j .1);
     }
@@ -150,6 +154,17 @@ callF (Start u a) = false
 callF Restart = false
 callF End = false
 
+abbrev pub waitF : Flow → Bool
+waitF Next = false
+waitF Wait = true
+waitF (Jump a) = false
+waitF (Branch a) = false
+waitF (Call a) = false
+waitF Return = false
+waitF (Start u a) = false
+waitF Restart = false
+waitF End = false
+
 abbrev pub startF : Flow → ℕ → Bool
 startF Next v = false
 startF Wait v = false
@@ -178,29 +193,30 @@ pub record Flowing (n word : ℕ) (f : Flow) : Type 0 where
   pub jump : jumpsBy n ≡ jumpF f
   pub call : eqb n called ≡ callF f
   pub start : (v : ℕ) → startsBy n v ≡ startF f v
+  pub stay : eqb n wait ≡ waitF f
   pub names : Names word f
 
 -- a flow by its number lets a walk do what its number says
 module _ (x word : ℕ) where
   ends : (t : Bool) → Flowing ending word (cond t Restart End)
-  ends true = record { on = λ t. refl; jump = refl; call = refl; start = λ v. refl; names = tt }
-  ends false = record { on = λ t. refl; jump = refl; call = refl; start = λ v. refl; names = tt }
+  ends true = record { on = λ t. refl; jump = refl; call = refl; start = λ v. refl; stay = refl; names = tt }
+  ends false = record { on = λ t. refl; jump = refl; call = refl; start = λ v. refl; stay = refl; names = tt }
 
   pub flowing : (n : ℕ) → 0 < n → n < 11 → Flowing n word (flowBy n x word)
   unfolding flowBy
   flowing zero l m = absurd (omega arith)
-  flowing (suc zero) l m = record { on = λ t. refl; jump = refl; call = refl; start = λ v. refl; names = tt }
-  flowing (suc (suc zero)) l m = record { on = λ t. refl; jump = refl; call = refl; start = λ v. refl; names = tt }
-  flowing (suc (suc (suc zero))) l m = record { on = λ t. refl; jump = refl; call = refl; start = λ v. refl; names = refl }
-  flowing (suc (suc (suc (suc zero)))) l m = record { on = λ t. refl; jump = refl; call = refl; start = λ v. refl; names = refl }
-  flowing (suc (suc (suc (suc (suc zero))))) l m = record { on = λ t. refl; jump = refl; call = refl; start = λ v. refl; names = refl }
-  flowing (suc (suc (suc (suc (suc (suc zero)))))) l m = record { on = λ t. refl; jump = refl; call = refl; start = λ v. refl; names = tt }
+  flowing (suc zero) l m = record { on = λ t. refl; jump = refl; call = refl; start = λ v. refl; stay = refl; names = tt }
+  flowing (suc (suc zero)) l m = record { on = λ t. refl; jump = refl; call = refl; start = λ v. refl; stay = refl; names = tt }
+  flowing (suc (suc (suc zero))) l m = record { on = λ t. refl; jump = refl; call = refl; start = λ v. refl; stay = refl; names = refl }
+  flowing (suc (suc (suc (suc zero)))) l m = record { on = λ t. refl; jump = refl; call = refl; start = λ v. refl; stay = refl; names = refl }
+  flowing (suc (suc (suc (suc (suc zero))))) l m = record { on = λ t. refl; jump = refl; call = refl; start = λ v. refl; stay = refl; names = refl }
+  flowing (suc (suc (suc (suc (suc (suc zero)))))) l m = record { on = λ t. refl; jump = refl; call = refl; start = λ v. refl; stay = refl; names = tt }
   flowing (suc (suc (suc (suc (suc (suc (suc zero))))))) l m =
-      record { on = λ t. ap not (or-false (eqb t bias)); jump = refl; call = refl; start = λ v. or-false _; names = refl }
+      record { on = λ t. ap not (or-false (eqb t bias)); jump = refl; call = refl; start = λ v. or-false _; stay = refl; names = refl }
   flowing (suc (suc (suc (suc (suc (suc (suc (suc zero)))))))) l m =
-      record { on = λ t. ap not (or-false (eqb t plc)); jump = refl; call = refl; start = λ v. or-false _; names = refl }
+      record { on = λ t. ap not (or-false (eqb t plc)); jump = refl; call = refl; start = λ v. or-false _; stay = refl; names = refl }
   flowing (suc (suc (suc (suc (suc (suc (suc (suc (suc zero))))))))) l m =
-      record { on = λ t. refl; jump = refl; call = refl; start = λ v. refl; names = refl }
+      record { on = λ t. refl; jump = refl; call = refl; start = λ v. refl; stay = refl; names = refl }
   flowing (suc (suc (suc (suc (suc (suc (suc (suc (suc (suc zero)))))))))) l m = ends (eqb x 0)
   flowing (suc (suc (suc (suc (suc (suc (suc (suc (suc (suc (suc n))))))))))) l m = absurd (omega arith)
 

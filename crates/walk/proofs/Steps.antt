@@ -15,14 +15,15 @@ use Rattle.point.specs.Fault.{point, permitted}
 use Rattle.point.specs.declared.Point.{Point}
 use Rattle.walk.specs.Graph.{In}
 use Rattle.walk.specs.Walk.{Named, jumps, starts, goesOn, startOf, Step}
+use Rattle.walk.specs.Walk.{stays as waits}
 use Rattle.walk.specs.Successors.{goes}
 use Rattle.walk.proofs.Choice.{test}
-use Rattle.walk.proofs.Moves.{Flows, carried, onBy, startsBy, callF, Flowing, flowing, Move, moved, moves}
+use Rattle.walk.proofs.Moves.{Flows, carried, onBy, startsBy, callF, waitF, Flowing, flowing, Move, moved, moves}
 
 -- where a step leads that is no move
 pub data Special (h : Header) (bs : List ℕ) (path : List Point) (p : Point) (c : Command) (q : Point) : Type 0 where
-  stays : q ≡ p → Special h bs path p c q
-  restarts : (a : ℕ) → startOf h bs (p .task) path ≡ Named.at a → q ≡ point (p .task) a 0 → Special h bs path p c q
+  stays : waits (c .code) ≡ true → q ≡ p → Special h bs path p c q
+  restarts : (a : ℕ) → c .code ≡ hex 5 1 → startOf h bs (p .task) path ≡ Named.at a → q ≡ point (p .task) a 0 → Special h bs path p c q
 
 module _ (h : Header) (bs : List ℕ) (path : List Point) (p : Point) (c : Command) (allowed : permitted (c .code) (p .task) ≡ true) where
   codes : Flows (c .code) (rowOf (c .code) .flow)
@@ -44,13 +45,13 @@ module _ (h : Header) (bs : List ℕ) (path : List Point) (p : Point) (c : Comma
 
   step-move : (q : Point) → Step h bs path p c q → Move (flowOf c) (c .word) p q ⊎ Special h bs path p c q
   step-move _ (Step.next e) = inl (Move.on (sym (flow .on (p .task)) ∙ sym (on (p .task)) ∙ e))
-  step-move _ (Step.stay e) = inr (Special.stays refl)
+  step-move _ (Step.stay e) = inr (Special.stays e refl)
   step-move _ (Step.jump e) = inl (Move.jump (sym (flow .jump) ∙ sym (codes .jumping) ∙ e))
   step-move _ (Step.call e) = inl (Move.call (called e))
   step-move _ (Step.behind e) = inl (Move.behind (called e))
   step-move _ (Step.start u e n) = inl (Move.start u (sym (flow .start u) ∙ sym (begins u) ∙ e))
   step-move _ (Step.own e) = inl (Move.start (p .task) (sym (flow .start (p .task)) ∙ sym (begins (p .task)) ∙ e))
-  step-move _ (Step.restart a e x s) = inr (Special.restarts a s refl)
+  step-move _ (Step.restart a e x s) = inr (Special.restarts a e s refl)
 
   move-step : (q : Point) → Move (flowOf c) (c .word) p q → Step h bs path p c q
   move-step _ (Move.on e) = Step.next (on (p .task) ∙ flow .on (p .task) ∙ e)
@@ -75,3 +76,7 @@ module _ (h : Header) (bs : List ℕ) (path : List Point) (p : Point) (c : Comma
   -- the point that a start names follows
   pub start-follows : (u : ℕ) → starts (c .code) u ≡ true → In (point u (c .word) 0) (goes p (flowOf c))
   start-follows u e = moved (c .word) p (flowOf c) (flow .names) _ (Move.start u (sym (flow .start u) ∙ sym (begins u) ∙ e))
+
+  -- a command may stay exactly when its flow is a wait
+  pub may-stay : waits (c .code) ≡ waitF (flowOf c)
+  may-stay = codes .staying ∙ flow .stay

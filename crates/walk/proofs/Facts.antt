@@ -1,0 +1,45 @@
+-- Closed facts of the history of a walk, since no verdict depends on it: of two starts the latest counts, and BIAS returns to the program start
+-- whatever a 57 named. Assumes nothing.
+use mathlib.Core.Path.{_≡_, refl}
+use mathlib.Core.List.{List, [], _∷_}
+use Prim.Native.Nat.{ℕ}
+use Rattle.image.specs.declared.Header.{Header}
+use Rattle.rows.specs.Rows.{hex, rowOf, rowIn, rows}
+use Rattle.command.specs.Operands.{operands, laidOut}
+use Rattle.point.specs.Flow.{bias, plc, mathematics}
+use Rattle.point.specs.Fault.{point}
+use Rattle.point.specs.declared.Point.{Point}
+use Rattle.walk.specs.Program.{commandAt}
+use Rattle.walk.specs.Walk.{Named, latest, startOf}
+
+-- a block that names another in D1 and D2, before others
+abbrev pub naming : ℕ → ℕ → List ℕ → List ℕ
+naming code word rest = code ∷ word ∷ 0 ∷ 0 ∷ 0 ∷ 0 ∷ 0 ∷ 0 ∷ rest
+
+-- blocks 0 and 1 start the PLC, 2 and 3 mathematics, 4 BIAS, at 10 to 14
+abbrev pub program : List ℕ
+program = naming (hex 5 4) 10 (naming (hex 5 4) 11 (naming (hex 9 0) 12 (naming (hex 9 0) 13 (naming (hex 5 7) 14 []))))
+
+abbrev pub header : Header
+header = record { format = 1; drive = record { model = 2; b = 0; c = 0 }; start = 7; count = 20 }
+
+-- the path passed blocks 0 to 4 in order: the latest stands first
+abbrev pub path : List Point
+path = point 0 4 0 ∷ point 0 3 0 ∷ point 0 2 0 ∷ point 0 1 0 ∷ point 0 0 0 ∷ []
+
+pub plc-latest : startOf header program plc path ≡ Named.at 11
+unfolding startOf latest commandAt operands laidOut rowOf rowIn rows
+plc-latest = refl
+
+pub mathematics-latest : startOf header program mathematics path ≡ Named.at 13
+unfolding startOf latest commandAt operands laidOut rowOf rowIn rows
+mathematics-latest = refl
+
+pub bias-start : startOf header program bias path ≡ Named.at 7
+unfolding startOf latest commandAt operands laidOut rowOf rowIn rows
+bias-start = refl
+
+-- a task that no command of the path started has no start
+pub no-start : startOf header program plc (point 0 3 0 ∷ point 0 2 0 ∷ []) ≡ Named.none
+unfolding startOf latest commandAt operands laidOut rowOf rowIn rows
+no-start = refl
