@@ -1,7 +1,7 @@
 -- A test that all rows pass, by one computation, is passed by the row of every code that is carried. Assumes nothing.
 use Prim.Native.Nat.{ℕ}
 use mathlib.Core.Path.{_≡_, refl, sym, _∙_}
-use mathlib.Core.Bool.{Bool, true, false, _&&_, cond}
+use mathlib.Core.Bool.{Bool, true, false, _&&_, not, cond}
 use mathlib.Core.Logic.{_⊎_, inl, inr}
 use mathlib.Core.List.{List, [], _∷_}
 use lib.Dec.{T, eqb}
@@ -16,6 +16,17 @@ every test (r ∷ rs) = test (r .code) (r .columns) && every test rs
 both : (a b : Bool) → T (a && b) → (a ≡ true) × T b
 both true b t = (refl, t)
 both false b t = absurd t
+
+-- two tests that agree
+abbrev pub same : Bool → Bool → Bool
+same true b = b
+same false b = not b
+
+pub same-is : (a b : Bool) → T (same a b) → a ≡ b
+same-is true true t = refl
+same-is true false t = absurd t
+same-is false true t = absurd t
+same-is false false t = refl
 
 -- a code has no row, or its row passes the test
 pub every-row : (test : ℕ → Row → Bool) (rs : List Coded) → T (every test rs) → (code : ℕ)

@@ -1,7 +1,7 @@
 -- A step of a walk is a move by its command's flow: the codes that the walks' sentences name are those that the rows give these flows, by one
 -- computation over all rows; and the moves of a flow are the points that follow. Assumes nothing.
 use Prim.Native.Nat.{ℕ, zero, suc, _+_, _<_}
-use mathlib.Core.Path.{_≡_, refl, sym, ap, _∙_}
+use mathlib.Core.Path.{_≡_, refl, sym, ap, subst, _∙_}
 use mathlib.Core.Bool.{Bool, true, false, _&&_, _||_, not, cond, or-false}
 use mathlib.Core.Logic.{_⊎_, inl, inr, ⊎-elim}
 use mathlib.Core.List.{List, [], _∷_}
@@ -13,7 +13,7 @@ use Rattle.image.proofs.Choice.{clash, both}
 use Rattle.rows.specs.Rows.{hex, noRow, rows, rowIn, rowOf, wait, branch, return, startBias, startPlc, startMathematics, ending}
 use Rattle.rows.specs.Rows.{jump as jumped, call as called}
 use Rattle.rows.specs.declared.Row.{Row}
-use Rattle.rows.proofs.Laws.{every, every-row}
+use Rattle.rows.proofs.Laws.{every, every-row, same, same-is}
 use Rattle.command.specs.declared.Command.{Command}
 use Rattle.point.specs.Flow.{bias, plc, mathematics, flows, flowBy, flowOf}
 use Rattle.point.specs.Fault.{point, boxes, permitted}
@@ -36,17 +36,6 @@ startsBy n u = (eqb n startBias && eqb u bias) || ((eqb n startPlc && eqb u plc)
 abbrev pub onBy : ℕ → ℕ → Bool
 onBy n task = not (oneOf (ending ∷ called ∷ return ∷ jumped ∷ []) n || startsBy n task)
 
-same : Bool → Bool → Bool
-same true b = b
-same false b = not b
-
-same-is : (a b : Bool) → same a b ≡ true → a ≡ b
-unfolding same
-same-is true true e = refl
-same-is true false e = clash (sym e)
-same-is false true e = clash (sym e)
-same-is false false e = refl
-
 -- a code and its flow: each code that walks name has a flow of its own, and jumps are jumps
 agrees : ℕ → Row → Bool
 agrees code r =
@@ -62,8 +51,11 @@ agrees code r =
     (ltb 0 (r .flow) && ltb (r .flow) 11)))))))))
 
 all-agree : T (every agrees rows)
-unfolding agrees same rows
+unfolding agrees rows
 all-agree = tt
+
+agree : {a b : Bool} → same a b ≡ true → a ≡ b
+agree e = same-is _ _ (subst T (sym e) tt)
 
 -- what a code that some task may use has to do with its flow n
 pub record Flows (code n : ℕ) : Type 0 where
@@ -93,15 +85,15 @@ flows-of code r e =
     let k = both _ _ (i .1) in
     let j = both _ _ (k .1) in
     record {
-      ends = same-is _ _ (a .0);
-      calls = same-is _ _ (b .0);
-      returns = same-is _ _ (c .0);
-      goes-to = same-is _ _ (d .0);
-      begins-bias = same-is _ _ (f .0);
-      begins-plc = same-is _ _ (g .0);
-      begins-mathematics = same-is _ _ (h .0);
-      jumping = same-is _ _ (i .0);
-      staying = same-is _ _ (k .0);
+      ends = agree (a .0);
+      calls = agree (b .0);
+      returns = agree (c .0);
+      goes-to = agree (d .0);
+      begins-bias = agree (f .0);
+      begins-plc = agree (g .0);
+      begins-mathematics = agree (h .0);
+      jumping = agree (i .0);
+      staying = agree (k .0);
       some = ltb-true _ _ (j .0);
       known = ltb-true _ _ (j .1);
     }
