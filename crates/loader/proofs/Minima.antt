@@ -5,7 +5,7 @@ use mathlib.Core.Bool.{Bool, true, false, cond}
 use mathlib.Core.Logic.{_⊎_, inl, inr, ⊎-elim}
 use mathlib.Core.List.{List}
 use native.Mathlib.Omega.{arith}
-use lib.ListN.{length, getD}
+use lib.ListN.{getD}
 use lib.Dec.{ltb}
 use borrow.Author.Tests.{ltb-true, ltb-false, lt-ltb, le-ltb}
 use borrow.Author.Count.{below-more}
@@ -16,16 +16,16 @@ use Rattle.point.specs.declared.Point.{Point}
 use Rattle.point.specs.declared.Fault.{Fault}
 use Rattle.walk.specs.Program.{faultAt}
 use Rattle.walk.specs.Index.{marksLength, pointAt}
-use Rattle.walk.specs.Graph.{In, Reach, lesser, least}
+use Rattle.walk.specs.Graph.{Reach, lesser, least}
 use Rattle.walk.specs.Successors.{nextOf}
 use Rattle.point.specs.Fault.{isForeign, isBad}
-use Rattle.walk.specs.Verdict.{rootOf, reached, leastForeign, leastBad, verdictBy, walksVerdict}
+use Rattle.walk.specs.Verdict.{rootOf, reached, leastForeign, leastBad}
 use Rattle.walk.proofs.IndexLaws.{has-point}
-use Rattle.walk.proofs.Least.{Member, least-only}
+use Rattle.walk.proofs.Least.{least-only}
 use Rattle.walk.proofs.History.{number-inside}
 use Rattle.walk.proofs.Exactly.{exact}
 use Rattle.loader.specs.Search.{Ready, Going, lowered}
-use Rattle.loader.proofs.Laws.{all-marked, point-of}
+use Rattle.loader.proofs.Laws.{all-marked}
 
 -- the keys: the block of a number's point, and the number itself
 abbrev pub blockOf : ℕ → ℕ

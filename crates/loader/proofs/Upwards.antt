@@ -4,13 +4,11 @@ use mathlib.Core.Path.{_≡_, refl, sym, ap, _∙_}
 use mathlib.Core.Bool.{Bool, cond}
 use mathlib.Core.List.{List}
 use native.Mathlib.Omega.{arith}
-use lib.Dec.{eqb}
 use borrow.Author.Tests.{eq-eqb, ne-eqb}
 use Rattle.image.specs.declared.Header.{Header}
 use Rattle.image.proofs.Choice.{by}
 use Rattle.walk.specs.Program.{blockNumber}
 use Rattle.walk.specs.Verdict.{walksVerdict, blocksVerdict}
-use Rattle.walk.specs.declared.Verdict.{Verdict}
 use Rattle.walk.specs.declared.Verdict.the-variants.{Block}
 use Rattle.loader.specs.Search.{FirstRefused}
 

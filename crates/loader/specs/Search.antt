@@ -1,6 +1,6 @@
 -- The search's own invariants. A mark is 0 for a point not seen, 1 for one that is pending, any other for one that is done; a page of marks is
 -- clean (0) or dirty, and a pending point is on a dirty page. Assumes nothing.
-use Prim.Native.Nat.{ℕ, _+_, _/_, _<_, _≤_}
+use Prim.Native.Nat.{ℕ, _+_, _-_, _/_, _<_, _≤_}
 use mathlib.Core.Path.{_≡_}
 use mathlib.Core.Bool.{cond}
 use mathlib.Core.List.{List, [], _∷_}
@@ -18,7 +18,7 @@ abbrev pub pageLength : ℕ
 pageLength = 256
 
 abbrev pub pageCount : ℕ
-pageCount = 159
+pageCount = (marksLength + pageLength - 1) / pageLength
 
 -- a header with which walks stay within the marks: what the header's own refusals leave
 pub record Ready (h : Header) : Type 0 where

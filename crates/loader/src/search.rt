@@ -20,7 +20,7 @@ ghost use Rattle.loader.specs.Search.{Ready, Paged, Touched, Going, Visi
 // Marks to a page, and pages.
 const PAGE_LENGTH: usize = 256;
 
-const PAGE_COUNT: usize = 159;
+const PAGE_COUNT: usize = (MARKS_LENGTH + PAGE_LENGTH - 1) / PAGE_LENGTH;
 
 const NOT_SEEN: u8 = 0;
 
@@ -46,7 +46,7 @@ fn search(header: Header, blocks: &[u8], marks: &mut [u8]) -> Verdict
     ensures { λ r. ⌜ r ≡ walksVerdict header (now (blocks .entry)) ⌝ }
 {
     clear(marks, root(header));
-    let mut dirty = [1u8; 159];
+    let mut dirty = [1u8; PAGE_COUNT];
     walk(header, blocks, marks, &mut dirty);
     least(header, blocks, marks)
 }
@@ -73,7 +73,7 @@ fn clear(marks: &mut [u8], first: usize)
 }
 
 // From the first point to all that is reached.
-fn walk(header: Header, blocks: &[u8], marks: &mut [u8], dirty: &mut [u8; 159])
+fn walk(header: Header, blocks: &[u8], marks: &mut [u8], dirty: &mut [u8; PAGE_COUNT])
     requires { ⌜ Ready header ⌝ }
     requires { ⌜ Paged (now marks) (now dirty) ⌝ }
     requires { ⌜ Going (nextOf header (now blocks)) (rootOf header) (now marks) 0 ⌝ }
@@ -102,7 +102,13 @@ fn walk(header: Header, blocks: &[u8], marks: &mut [u8], dirty: &mut [u8; 159])
 }
 
 // Handles the pending point p: the points that follow it are touched, and p is done. Returns the cursor to go on from.
-fn visit(header: Header, blocks: &[u8], marks: &mut [u8], dirty: &mut [u8; 159], p: usize) -> usize
+fn visit(
+    header: Header,
+    blocks: &[u8],
+    marks: &mut [u8],
+    dirty: &mut [u8; PAGE_COUNT],
+    p: usize,
+) -> usize
     requires { ⌜ Ready header ⌝ }
     requires { ⌜ Going (nextOf header (now blocks)) (rootOf header) (now marks) p ⌝ }
     requires { ⌜ p < marksLength ⌝ }
@@ -130,7 +136,7 @@ fn visit(header: Header, blocks: &[u8], marks: &mut [u8], dirty: &mut [u8; 159],
 }
 
 // Marks q as pending where it was not seen, and its page as dirty. Returns the cursor, at most q then.
-fn touch(marks: &mut [u8], dirty: &mut [u8; 159], q: usize, cursor: usize) -> usize
+fn touch(marks: &mut [u8], dirty: &mut [u8; PAGE_COUNT], q: usize, cursor: usize) -> usize
     requires { ⌜ q < length (now marks) ⌝ }
     requires { ⌜ q < marksLength ⌝ }
     ensures { λ r. ⌜ Touched (now (marks .entry)) (now (marks .exit)) (now (dirty .entry)) (now (dirty .exit)) q cursor r ⌝ }

@@ -2,12 +2,12 @@
 -- computation over the rows. Assumes nothing.
 use Prim.Native.Nat.{ℕ, _+_}
 use mathlib.Core.Path.{_≡_, refl, sym, ap, subst, _∙_}
-use mathlib.Core.Bool.{Bool, true, false, _&&_, not}
-use mathlib.Core.Logic.{_⊎_, ⊎-elim, _↔_}
+use mathlib.Core.Bool.{Bool, true, not}
+use mathlib.Core.Logic.{⊎-elim, _↔_}
 use native.Mathlib.Omega.{arith}
 use lib.Dec.{T, eqb}
 use borrow.Author.Tests.{eqb-true, eqb-false, eq-eqb, ne-eqb, not-true}
-use Rattle.image.proofs.Choice.{clash, both}
+use Rattle.image.proofs.Choice.{both}
 use Rattle.rows.specs.Rows.{hex, noRow, rows, rowIn, rowOf, ending}
 use Rattle.rows.specs.declared.Row.{Row}
 use Rattle.rows.proofs.Laws.{every, every-row, same, same-is}

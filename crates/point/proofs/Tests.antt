@@ -1,14 +1,13 @@
 -- The default arms: a number that is in no arm has no flow, and a task past mathematics has no box. Assumes nothing.
 use Prim.Native.Nat.{ℕ}
-use mathlib.Core.Path.{_≡_, refl, sym, ap, _∙_}
-use mathlib.Core.Bool.{Bool, true, false, _||_, or-false}
-use mathlib.Core.List.{List, [], _∷_}
+use mathlib.Core.Path.{_≡_, refl, sym, _∙_}
+use mathlib.Core.Bool.{true, false, or-false}
+use mathlib.Core.List.{[], _∷_}
 use lib.Dec.{leb}
 use Rattle.command.proofs.Tables.{NoneFrom, by-default}
 use Rattle.rows.specs.Rows.{rowOf}
 use Rattle.point.specs.Flow.{flows, flowBy}
 use Rattle.point.specs.Fault.{boxes, permitted, anyPast}
-use Rattle.point.specs.declared.Flow.{Flow}
 use Rattle.point.specs.declared.Flow.the-variants.{End}
 
 pub no-flow : (n x word : ℕ) → NoneFrom 1 10 n → flowBy n x word ≡ End

@@ -6,7 +6,7 @@ use mathlib.Core.Bool.{Bool, true, false, _||_, cond, or-true}
 use mathlib.Core.Logic.{_⊎_, inl, inr, ⊎-elim, _↔_}
 use mathlib.Core.List.{List, [], _∷_}
 use lib.Dec.{eqb, leb}
-use borrow.Author.Tests.{eqb-true, leb-true, le-leb}
+use borrow.Author.Tests.{leb-true, le-leb}
 use Rattle.image.specs.declared.Header.{Header}
 use Rattle.image.proofs.Choice.{clash}
 use Rattle.rows.specs.Rows.{hex}
@@ -17,7 +17,7 @@ use Rattle.point.specs.declared.Point.{Point}
 use Rattle.point.specs.declared.Flow.{Flow}
 use Rattle.point.specs.declared.Flow.the-variants.{Next, Wait, Jump, Branch, Call, Return, Start, Restart, End}
 use Rattle.walk.specs.Graph.{In}
-use Rattle.walk.specs.Walk.{Step, Walk}
+use Rattle.walk.specs.Walk.{Step}
 use Rattle.walk.specs.Successors.{goes}
 use Rattle.walk.proofs.Choice.{or-is}
 use Rattle.walk.proofs.Moves.{waitF}

@@ -1,23 +1,21 @@
 -- The computed verdict is what walks say: the closure has exactly what walks reach, so the least of it is the least that some walk reaches; and
 -- an image has one verdict. Assumes nothing.
-use Prim.Native.Nat.{ℕ, zero, suc, _+_, _*_, _<_, _≤_}
+use Prim.Native.Nat.{ℕ, _<_, _≤_}
 use mathlib.Core.Path.{_≡_, refl, sym, ap, subst, _∙_}
 use mathlib.Core.Bool.{Bool, true, false, cond}
-use mathlib.Core.Logic.{_⊎_, inl, inr, ⊎-elim, _↔_}
-use mathlib.Core.List.{List, [], _∷_}
+use mathlib.Core.Logic.{_⊎_, inl, inr, _↔_}
+use mathlib.Core.List.{List}
 use native.Mathlib.Omega.{arith}
-use lib.Dec.{eqb, ltb}
-use borrow.Author.Tests.{ltb-true, ltb-false, lt-ltb, le-ltb, eqb-true, eqb-false}
+use lib.Dec.{ltb}
+use borrow.Author.Tests.{ltb-true, ltb-false, le-ltb}
 use Rattle.image.specs.Rows.{mostBlocks}
 use Rattle.image.specs.declared.Header.{Header}
-use Rattle.image.proofs.Choice.{clash, by}
 use Rattle.point.specs.declared.Point.{Point}
-use Rattle.point.specs.declared.Fault.{Fault}
 use Rattle.walk.specs.Program.{faultAt}
 use Rattle.walk.specs.Walk.{Reaches}
 use Rattle.walk.specs.Index.{marksLength, indexOf, pointAt, before}
 use Rattle.walk.specs.Successors.{nextOf}
-use Rattle.walk.specs.Graph.{In, Reach, closure, least}
+use Rattle.walk.specs.Graph.{In, Reach}
 use Rattle.point.specs.Fault.{isForeign, isBad}
 use Rattle.walk.specs.Verdict.{rootOf, fuel, reached, leastForeign, leastBad, verdictBy, walksVerdict}
 use Rattle.walk.specs.Says.{ForeignAt, BadAt, NoForeign, Says}
@@ -26,7 +24,6 @@ use Rattle.walk.specs.declared.Verdict.the-variants as verdict
 use Rattle.walk.proofs.GraphLaws.{closure-sound, closure-whole}
 use Rattle.walk.proofs.Least.{Member, least-below, least-found}
 use Rattle.walk.proofs.IndexLaws.{point-back, index-back, in-order}
-use Rattle.walk.proofs.Within.{Within}
 use Rattle.walk.proofs.History.{inside, next-few, reached-within, reached-number, number-reached, number-inside}
 
 module _ (h : Header) (bs : List ℕ) (most : h .count ≤ mostBlocks) (begins : h .start < h .count) where

@@ -1,9 +1,9 @@
 -- The points that walks reach are the numbers that are reached by successors: returns to a start add nothing, since the command that named the
 -- start block, passed earlier on the walk, is followed by that block already, and BIAS's start is the first point. Assumes nothing.
 use Prim.Native.Nat.{ℕ, suc, _<_, _≤_}
-use mathlib.Core.Path.{_≡_, refl, sym, ap, subst, _∙_}
+use mathlib.Core.Path.{_≡_, refl, ap, _∙_}
 use mathlib.Core.Bool.{Bool, true, false, cond}
-use mathlib.Core.Logic.{_⊎_, inl, inr, ⊎-elim}
+use mathlib.Core.Logic.{_⊎_, inl, inr}
 use mathlib.Core.List.{List, [], _∷_}
 use native.Mathlib.Omega.{arith}
 use lib.Dec.{eqb}
@@ -16,15 +16,13 @@ use Rattle.command.specs.declared.Command.{Command}
 use Rattle.point.specs.Flow.{bias, plc, mathematics, flowOf}
 use Rattle.point.specs.Fault.{point}
 use Rattle.point.specs.declared.Point.{Point}
-use Rattle.point.specs.declared.Fault.{Fault}
 use Rattle.point.specs.declared.Fault.the-variants.{Fine}
 use Rattle.walk.specs.Program.{commandAt, faultAt}
-use Rattle.walk.specs.Walk.{Named, starts, latest, startOf, Step, Walk, Reaches}
+use Rattle.walk.specs.Walk.{Named, starts, latest, startOf, Walk, Reaches}
 use Rattle.walk.specs.Index.{marksLength, Inside, indexOf, pointAt}
-use Rattle.walk.specs.Successors.{goes, unless, successors, indices, nextOf}
+use Rattle.walk.specs.Successors.{goes, successors, indices, nextOf}
 use Rattle.walk.specs.Graph.{In, Reach}
 use Rattle.walk.specs.Verdict.{rootOf}
-use Rattle.walk.proofs.Choice.{test}
 use Rattle.walk.proofs.IndexLaws.{point-back, below-marks}
 use Rattle.walk.proofs.Within.{Within, passes, follows, successors-within, successors-few}
 use Rattle.walk.proofs.Steps.{Special, step-follows, follow-step, start-follows}

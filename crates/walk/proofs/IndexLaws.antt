@@ -1,15 +1,13 @@
 -- The three laws of a point's number in the marks: it gives the point back, it is below the marks' length, and its order is the report order.
 -- Nothing else may be used of it. Assumes nothing.
 use Prim.Native.Nat.{ℕ, _+_, _*_, _/_, _%_, _<_, _≤_}
-use mathlib.Core.Path.{_≡_, refl, sym, ap, _∙_}
-use mathlib.Core.Bool.{Bool, true, false, _&&_, _||_}
+use mathlib.Core.Path.{_≡_, sym, _∙_}
+use mathlib.Core.Bool.{true, false}
 use native.Mathlib.Omega.{arith}
 use lib.Dec.{eqb, ltb}
 use mathlib.Core.Logic.{⊎-elim}
 use borrow.Author.Tests.{lt-ltb, le-ltb, ltb-true, ltb-false, eqb-true, eqb-false}
 use Rattle.image.specs.Rows.{mostBlocks}
-use Rattle.point.specs.Flow.{taskCount}
-use Rattle.point.specs.Fault.{mostDepth, point}
 use Rattle.point.specs.declared.Point.{Point}
 use Rattle.image.proofs.Choice.{both}
 use Rattle.walk.proofs.Choice.{test, or-is, neither, not-both}

@@ -1,7 +1,7 @@
 -- The computed verdict on an image is what the definition asks of one: 13, the header, the first bad block, and else what walks say; and an image has
 -- one verdict. Assumes nothing.
 use Prim.Native.Nat.{ℕ, zero, suc, _+_, _<_, _≤_}
-use mathlib.Core.Path.{_≡_, refl, sym, ap, subst, _∙_}
+use mathlib.Core.Path.{_≡_, refl, sym, ap, _∙_}
 use mathlib.Core.Bool.{Bool, true, false, cond}
 use mathlib.Core.Logic.{_↔_}
 use mathlib.Core.List.{List}
@@ -20,7 +20,7 @@ use Rattle.image.proofs.HeaderLaws.{header-good}
 use Rattle.walk.specs.Index.{marksLength}
 use Rattle.walk.specs.Program.{blockNumber}
 use Rattle.walk.specs.Verdict.{walksVerdict, blocksVerdict, readVerdict, verdictOf}
-use Rattle.walk.specs.Says.{BlockPasses, Says, Judges}
+use Rattle.walk.specs.Says.{BlockPasses, Judges}
 use Rattle.walk.specs.declared.Verdict.{Verdict}
 use Rattle.walk.specs.declared.Verdict.the-variants as verdict
 use Rattle.walk.proofs.Exactly.{verdict-says, one-verdict}

@@ -3,8 +3,8 @@
 use Prim.Native.Nat.{ℕ, zero, suc, _+_, _<_}
 use mathlib.Core.Path.{_≡_, refl, sym, ap, subst, _∙_}
 use mathlib.Core.Bool.{Bool, true, false, _&&_, _||_, not, cond, or-false}
-use mathlib.Core.Logic.{_⊎_, inl, inr, ⊎-elim}
-use mathlib.Core.List.{List, [], _∷_}
+use mathlib.Core.Logic.{inl, inr, ⊎-elim}
+use mathlib.Core.List.{[], _∷_}
 use native.Mathlib.Omega.{arith}
 use lib.ListN.{getD}
 use lib.Dec.{T, eqb, ltb}
@@ -14,16 +14,14 @@ use Rattle.rows.specs.Rows.{hex, noRow, rows, rowIn, rowOf, wait, branch, retur
 use Rattle.rows.specs.Rows.{jump as jumped, call as called}
 use Rattle.rows.specs.declared.Row.{Row}
 use Rattle.rows.proofs.Laws.{every, every-row, same, same-is}
-use Rattle.command.specs.declared.Command.{Command}
-use Rattle.point.specs.Flow.{bias, plc, mathematics, flows, flowBy, flowOf}
+use Rattle.point.specs.Flow.{bias, plc, mathematics, flowBy}
 use Rattle.point.specs.Fault.{point, boxes, permitted}
 use Rattle.point.specs.declared.Point.{Point}
 use Rattle.point.specs.declared.Flow.{Flow}
 use Rattle.point.specs.declared.Flow.the-variants.{Next, Wait, Jump, Branch, Call, Return, Start, Restart, End}
 use Rattle.walk.specs.Graph.{In}
-use Rattle.walk.specs.Walk.{oneOf, jumps, stays, starts, goesOn}
+use Rattle.walk.specs.Walk.{oneOf, jumps, stays}
 use Rattle.walk.specs.Successors.{goes}
-use Rattle.walk.proofs.Choice.{test, or-is}
 
 -- ---- flows by their numbers
 

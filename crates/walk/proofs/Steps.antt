@@ -1,8 +1,8 @@
 -- A step of a walk from a point that breaks nothing is a move by the command's flow, a stay, or a return to a start; and each move is a step.
 -- Assumes nothing.
-use Prim.Native.Nat.{ℕ, _+_}
-use mathlib.Core.Path.{_≡_, refl, sym, ap, _∙_}
-use mathlib.Core.Bool.{Bool, true, false}
+use Prim.Native.Nat.{ℕ}
+use mathlib.Core.Path.{_≡_, refl, sym, _∙_}
+use mathlib.Core.Bool.{true}
 use mathlib.Core.Logic.{_⊎_, inl, inr, ⊎-elim}
 use mathlib.Core.List.{List}
 use lib.Dec.{eqb}
@@ -14,7 +14,7 @@ use Rattle.point.specs.Flow.{flowOf}
 use Rattle.point.specs.Fault.{point, permitted}
 use Rattle.point.specs.declared.Point.{Point}
 use Rattle.walk.specs.Graph.{In}
-use Rattle.walk.specs.Walk.{Named, jumps, starts, goesOn, startOf, Step}
+use Rattle.walk.specs.Walk.{Named, starts, goesOn, startOf, Step}
 use Rattle.walk.specs.Walk.{stays as waits}
 use Rattle.walk.specs.Successors.{goes}
 use Rattle.walk.proofs.Choice.{test}

@@ -3,18 +3,17 @@
 use Prim.Native.Nat.{ℕ, zero, suc, _+_, _<_, _≤_}
 use mathlib.Core.Path.{_≡_, refl, sym, ap, _∙_}
 use mathlib.Core.Bool.{Bool, true, false, _||_, cond}
-use mathlib.Core.Logic.{_⊎_, inl, inr, ⊎-elim}
+use mathlib.Core.Logic.{⊎-elim}
 use mathlib.Core.List.{List, [], _∷_}
 use native.Mathlib.Omega.{arith}
 use lib.ListN.{length}
 use lib.Dec.{eqb, leb}
 use borrow.Author.Tests.{leb-false}
-use Rattle.image.specs.Rows.{mostBlocks}
 use Rattle.image.specs.declared.Header.{Header}
 use Rattle.image.proofs.Choice.{clash}
 use Rattle.rows.specs.Rows.{rowOf}
 use Rattle.command.specs.declared.Command.{Command}
-use Rattle.point.specs.Flow.{taskCount, bias, endingBy, flowBy, flowOf, continues}
+use Rattle.point.specs.Flow.{taskCount, flowBy, flowOf, continues}
 use Rattle.point.specs.Fault.{mostDepth, point, foreign, permitted, tooDeep, noCall, anyPast, flowFault, faultOf}
 use Rattle.point.specs.declared.Point.{Point}
 use Rattle.point.specs.declared.Flow.{Flow}

@@ -8,7 +8,6 @@ use Rattle.image.specs.Outcome.{done}
 use Rattle.image.specs.Scan.{headerOf, blocksOf}
 use Rattle.image.specs.declared.Header.{Header}
 use Rattle.point.specs.declared.Point.{Point}
-use Rattle.point.specs.declared.Fault.{Fault}
 use Rattle.point.specs.Fault.{isForeign, isBad}
 use Rattle.walk.specs.Program.{blockNumber, faultAt}
 use Rattle.walk.specs.Walk.{Reaches}

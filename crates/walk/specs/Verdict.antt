@@ -4,7 +4,6 @@ use Prim.Native.Nat.{ℕ, zero, suc, _+_, _*_}
 use mathlib.Core.Bool.{Bool, true, false, cond}
 use mathlib.Core.List.{List, [], _∷_}
 use lib.Dec.{eqb, ltb}
-use lib.ListN.{length}
 use Rattle.image.specs.Outcome.{numberOf, placeOf, done}
 use Rattle.image.specs.Rows.{mostBlocks}
 use Rattle.image.specs.Scan.{headerOf, blocksOf}
@@ -12,7 +11,6 @@ use Rattle.image.specs.declared.Header.{Header}
 use Rattle.image.specs.declared.reader.HeaderRead.{HeaderRead}
 use Rattle.point.specs.Flow.{bias}
 use Rattle.point.specs.Fault.{point, isForeign, isBad, faultNumber}
-use Rattle.point.specs.declared.Point.{Point}
 use Rattle.point.specs.declared.Fault.the-variants.{Foreign}
 use Rattle.walk.specs.Program.{blockNumber, faultAt}
 use Rattle.walk.specs.Index.{indexOf, pointAt, marksLength}

@@ -1,5 +1,4 @@
 -- `past_end` meets its contract, flow by flow: the blocks that it looks at are those of `continues`. Assumes nothing.
-use Rattle.point.specs.Flow.{continues}
 use borrow.Author.Needs.{needs}
 use Rattle.point.proofs.past_end.Statement.{statement}
 use Rattle.point.proofs.past_end.Tie as tie

@@ -2,7 +2,6 @@
 use mathlib.Core.Path.{sym, ap, _∙_}
 use Rattle.point.specs.declared.Flow.{Flow}
 use denote.Ref.{now}
-use Rattle.point.specs.Fault.{point}
 use Rattle.walk.specs.Successors.{goes, indices}
 use Rattle.program.proofs.Stops.{stopped, followed}
 use borrow.Author.Needs.{needs}

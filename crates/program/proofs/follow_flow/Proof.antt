@@ -4,7 +4,6 @@ use Prim.Native.Nat.{_+_}
 use lib.Dec.{eqb}
 use Rattle.point.specs.Fault.{point}
 use Rattle.walk.specs.Successors.{indices}
-use Rattle.program.specs.Numbers.{numbers}
 use Rattle.program.proofs.Stops.{start-numbers}
 use borrow.Author.Needs.{needs}
 use Rattle.program.proofs.follow_flow.Statement.{statement}

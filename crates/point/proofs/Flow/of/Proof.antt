@@ -2,7 +2,6 @@
 use mathlib.Core.Path.{ap, _∙_}
 use Rattle.point.specs.Flow.{flowBy, flowOf}
 use Rattle.rows.specs.declared.Row.{Row}
-use Rattle.point.specs.declared.Flow.{Flow}
 use borrow.Author.Needs.{needs}
 use Rattle.point.proofs.Flow.of.Statement.{statement}
 use Rattle.point.proofs.Flow.of.Tie as tie
