@@ -8,7 +8,7 @@ ghost use Prim.Native.Nat.{_≤_};
 ghost use lib.ListN.{length};
 ghost use Rattle.walk.specs.Program.{blockNumber};
 ghost use Rattle.walk.specs.Index.{marksLength};
-ghost use Rattle.walk.specs.Verdict.{blocksVerdict, verdictOf, acceptedBlocks, isAccepted};
+ghost use Rattle.walk.specs.Verdict.{blocksVerdict, verdictOf, acceptedBlocks};
 ghost use Rattle.loader.specs.After.{After};
 ghost use Rattle.loader.specs.Search.{Ready, FirstRefused};
 
@@ -37,23 +37,10 @@ pub fn blocks<'a>(image: &'a [u8], marks: &mut [u8]) -> &'a [u8]
     ensures { λ _. ⌜ After marksLength (now (marks .entry)) (now (marks .exit)) ⌝ }
 {
     let verdict = judge(image, marks);
-    if !is_accepted(verdict) {
+    if !verdict.is_accepted() {
         return &image[..0];
     }
     reader::block_part(image)
-}
-
-fn is_accepted(verdict: Verdict) -> bool
-    ensures { λ r. ⌜ r ≡ isAccepted verdict ⌝ }
-{
-    match verdict {
-        Verdict::Accepted => true,
-        Verdict::MarksShort(_) => false,
-        Verdict::Image(_) => false,
-        Verdict::Block(_, _) => false,
-        Verdict::Foreign(_) => false,
-        Verdict::Bad(_, _) => false,
-    }
 }
 
 // The blocks of an image with this header, judged upwards by 5 to 8, then the walks.

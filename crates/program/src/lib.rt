@@ -17,13 +17,15 @@ ghost use Rattle.walk.specs.Index.{indexOf};
 ghost use Rattle.walk.specs.Successors.{goes, unless, successors, indices};
 ghost use Rattle.program.specs.Numbers.{numbers};
 
-// Blocks and depths that a task may have: the factors of a point's number.
+// The tasks, and the blocks and depths that a task may have: the factors of a point's number.
+pub const TASKS: usize = point::TASK_COUNT as usize;
+
 pub const BLOCKS: usize = reader::MOST_BLOCKS as usize;
 
 pub const DEPTHS: usize = point::MOST_DEPTH as usize + 1;
 
 // The marks that a search needs, one for each point.
-pub const MARKS_LENGTH: usize = point::TASK_COUNT as usize * BLOCKS * DEPTHS;
+pub const MARKS_LENGTH: usize = TASKS * BLOCKS * DEPTHS;
 
 // The points that follow a point, by their numbers in the marks: at most two.
 pub enum Following {

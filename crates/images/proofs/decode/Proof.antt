@@ -1,0 +1,96 @@
+-- `images::decode` meets its contract. The loop's invariant: the first i bytes of the line stand at the front, and the rest is as it was.
+-- Assumes nothing.
+use borrow.Author.Needs.{needs}
+use native.Mathlib.Omega.{arith}
+use Prim.Native.Nat.{ℕ, _-_, _<_, _≤_}
+use mathlib.Core.Path.{_≡_, refl, sym, ap, _∙_}
+use mathlib.Core.List.{List, _++_}
+use lib.ListN.{length, drop, set, length-set}
+use lib.Seq.{length-take-le}
+use Rattle.images.proofs.Lines.{one-more}
+use Rattle.images.specs.Hex.{bytesOf}
+use Rattle.images.proofs.decode.Statement.{statement}
+use Rattle.images.proofs.decode.Tie as tie
+
+abbrev Inv-loop : tie.InvT-loop
+Inv-loop line image₀ n i₀ image i = (i ≤ n) × (length image ≡ length image₀) × (image ≡ bytesOf line i ++ drop i image₀)
+
+abbrev μ-loop : tie.MeasureT-loop
+μ-loop line image₀ n i₀ image i = n - i
+
+least-requires : tie.Need-least-requires Inv-loop μ-loop
+least-requires c κs = search needs
+
+loop-holds : tie.Need-loop-holds Inv-loop μ-loop
+unfolding bytesOf
+loop-holds c = (omega arith, refl, refl)
+
+mul-byte : tie.Need-mul-byte Inv-loop μ-loop
+mul-byte c = search needs
+
+shared-slice-read-byte : tie.Need-shared-slice-read-byte Inv-loop μ-loop
+shared-slice-read-byte c = search needs
+
+mul-byte-2 : tie.Need-mul-byte-2 Inv-loop μ-loop
+mul-byte-2 c = search needs
+
+add-byte : tie.Need-add-byte Inv-loop μ-loop
+add-byte c = search needs
+
+shared-slice-read-byte-2 : tie.Need-shared-slice-read-byte-2 Inv-loop μ-loop
+shared-slice-read-byte-2 c = search needs
+
+byte-requires : tie.Need-byte-requires Inv-loop μ-loop
+byte-requires c κs = search needs
+
+slice-write-image : tie.Need-slice-write-image Inv-loop μ-loop
+slice-write-image c = omega (arith, c .before .before .before .before .before .least .ensures)
+
+add-i : tie.Need-add-i Inv-loop μ-loop
+add-i c = search needs
+
+loop-less : tie.Need-loop-less Inv-loop μ-loop
+loop-less c = search needs
+
+loop-again : tie.Need-loop-again Inv-loop μ-loop
+loop-again c =
+    let v = c .before .before .before .before .loop in
+    let is = c .before .before .before .before .before .least .ensures in
+    let w : v .i < length (v .image) = omega arith in (
+      omega arith,
+      length-set (v .image) (v .i) (c .byte .result) ∙ v .inv .1,
+      ap (λ (l : List ℕ). set l (v .i) (c .byte .result)) (v .inv .2)
+          ∙ one-more _ _ (v .i) (c .byte .result) (omega arith) (c .byte .ensures),
+    )
+
+same-length : tie.Need-same-length Inv-loop μ-loop
+same-length c = omega arith
+
+returns : tie.Need-returns Inv-loop μ-loop
+returns c =
+    let v = c .before .loop in
+    let is = c .before .before .least .ensures in
+    let q : v .i ≡ c .before .before .least .result = omega arith in
+    let l : c .before .before .least .result ≤ length (v .image) = omega arith in
+    (is, ((l, sym (length-take-le (c .before .before .least .result) (v .image) l)), rw q at (v .inv .2)))
+
+pub decode-spec : {M : Type 1} → statement M
+decode-spec =
+    tie.close
+    (tie.spec
+    Inv-loop
+    μ-loop
+    least-requires
+    loop-holds
+    mul-byte
+    shared-slice-read-byte
+    mul-byte-2
+    add-byte
+    shared-slice-read-byte-2
+    byte-requires
+    slice-write-image
+    add-i
+    loop-less
+    loop-again
+    same-length
+    returns)

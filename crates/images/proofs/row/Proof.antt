@@ -1,0 +1,46 @@
+-- `images::row` meets its contract: the bytes decoded are all of the line's image, or more than the longest image has. Assumes nothing.
+use mathlib.Core.Path.{_∙_}
+use native.Mathlib.Omega.{arith}
+use Rattle.walk.specs.Index.{marksLength}
+use Rattle.images.proofs.Lines.{front, enough}
+use borrow.Author.Needs.{needs}
+use Rattle.images.proofs.row.Statement.{statement}
+use Rattle.images.proofs.row.Tie as tie
+
+input-requires : tie.Need-input-requires
+input-requires c κs = search needs
+
+slice-aggregate-decode : tie.Need-slice-aggregate-decode
+slice-aggregate-decode c = search needs
+
+decode-requires : tie.Need-decode-requires
+decode-requires c κs = search needs
+
+array-share-prefix-image : tie.Need-array-share-prefix-image
+array-share-prefix-image c = search needs
+
+slice-aggregate-judge : tie.Need-slice-aggregate-judge
+slice-aggregate-judge c = search needs
+
+judge-requires : tie.Need-judge-requires
+judge-requires c κs = search needs
+
+returns : tie.Need-returns
+returns c =
+    let d = c .before .before .before .decode in
+    let room = c .before .before .before .before .before .input .ensures in
+    let line = c .before .before .before .before .before .before .before .args .line .now in
+    let e = rw (d .ensures .1 .1, front line (d .result)) at (c .judge .ensures) in
+    e ∙ enough line _ (d .result) marksLength (d .ensures .0) (omega (arith, room))
+
+pub row-spec : {M : Type 1} → statement M
+row-spec =
+    tie.close
+    (tie.spec
+    input-requires
+    slice-aggregate-decode
+    decode-requires
+    array-share-prefix-image
+    slice-aggregate-judge
+    judge-requires
+    returns)
