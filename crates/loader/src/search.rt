@@ -8,9 +8,8 @@ use program::Following;
 use program::MARKS_LENGTH;
 use walk::Verdict;
 ghost use mathlib.Core.Path.{_≡_};
-ghost use Prim.Native.Nat.{ℕ, _<_, _≤_};
+ghost use Prim.Native.Nat.{_<_, _≤_};
 ghost use lib.ListN.{length, getD};
-ghost use Rattle.image.specs.Rows.{mostBlocks};
 ghost use Rattle.walk.specs.Index.{marksLength, pointAt};
 ghost use Rattle.walk.specs.Successors.{nextOf};
 ghost use Rattle.walk.specs.Verdict.{rootOf, reached, leastForeign, leastBad, verdictBy, walksVerdict};
@@ -22,6 +21,7 @@ const PAGE_LENGTH: usize = 256;
 
 const PAGE_COUNT: usize = (MARKS_LENGTH + PAGE_LENGTH - 1) / PAGE_LENGTH;
 
+// What a mark says of its point.
 const NOT_SEEN: u8 = 0;
 
 const PENDING: u8 = 1;

@@ -4,7 +4,7 @@ use command::Command;
 use image::Header;
 ghost use mathlib.Core.Path.{_≡_};
 ghost use mathlib.Core.Bool.{cond};
-ghost use mathlib.Core.List.{List, [], _∷_};
+ghost use mathlib.Core.List.{[], _∷_};
 ghost use Rattle.point.specs.Flow.{flowBy, endingBy, flowOf, continues};
 ghost use Rattle.point.specs.Fault.{foreign, permitted, tooDeep, noCall, anyPast, flowFault, faultOf, isForeign, isBad, faultNumber};
 

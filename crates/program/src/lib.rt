@@ -9,12 +9,12 @@ use point::Flow;
 use point::Point;
 ghost use mathlib.Core.Path.{_≡_};
 ghost use mathlib.Core.Bool.{cond};
-ghost use mathlib.Core.List.{List, [], _∷_};
+ghost use mathlib.Core.List.{[], _∷_};
 ghost use lib.ListN.{getD};
 ghost use Rattle.point.specs.Fault.{point};
-ghost use Rattle.walk.specs.Program.{bytesFrom, blockAt, commandAt, faultAt};
+ghost use Rattle.walk.specs.Program.{blockAt, commandAt, faultAt};
 ghost use Rattle.walk.specs.Index.{indexOf};
-ghost use Rattle.walk.specs.Successors.{goes, unless, successors, indices};
+ghost use Rattle.walk.specs.Successors.{goes, successors, indices};
 ghost use Rattle.program.specs.Numbers.{numbers};
 
 // The tasks, and the blocks and depths that a task may have: the factors of a point's number.
