@@ -37,7 +37,7 @@ pub fn blocks<'a>(image: &'a [u8], marks: &mut [u8]) -> &'a [u8]
     ensures { λ _. ⌜ After marksLength (now (marks .entry)) (now (marks .exit)) ⌝ }
 {
     let verdict = judge(image, marks);
-    if !verdict.is_accepted() {
+    if !refusal::is_accepted(verdict) {
         return &image[..0];
     }
     reader::block_part(image)

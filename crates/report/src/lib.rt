@@ -41,10 +41,10 @@ fn marks() -> [u8; MARKS_LENGTH]
 pub fn write_line(v: Verdict) -> Verdict
     ensures { λ r. ⌜ r ≡ v ⌝ }
 {
-    show(b"refusal ", v.number() as u64);
-    show(b" place ", v.place() as u64);
-    show(b" task ", v.task() as u64);
-    show(b" depth ", v.depth() as u64);
+    show(b"refusal ", refusal::number(v) as u64);
+    show(b" place ", refusal::place(v) as u64);
+    show(b" task ", refusal::task(v) as u64);
+    show(b" depth ", refusal::depth(v) as u64);
     io::write_all(STDOUT_FILENO, b"\n");
     v
 }
