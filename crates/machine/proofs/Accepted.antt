@@ -1,0 +1,106 @@
+-- What an accepted image promises to a run: its header was read, each block passes 5 to 8, and each point that a walk reaches breaks nothing.
+-- Assumes nothing.
+use Prim.Native.Nat.{ℕ, _<_, _≤_}
+use mathlib.Core.Path.{_≡_, refl, sym, ap, subst, _∙_}
+use mathlib.Core.Bool.{Bool, true, false}
+use mathlib.Core.List.{List, _∷_}
+use native.Mathlib.Omega.{arith}
+use Rattle.image.specs.Outcome.{done}
+use Rattle.image.specs.Rows.{mostBlocks}
+use Rattle.image.specs.Scan.{headerOf, blocksOf}
+use Rattle.image.specs.declared.Header.{Header}
+use Rattle.image.proofs.Choice.{clash}
+use Rattle.image.proofs.HeaderLaws.{header-good}
+use Rattle.point.specs.Fault.{isForeign, isBad}
+use Rattle.point.specs.Flow.{flowOf}
+use Rattle.point.specs.declared.Point.{Point}
+use Rattle.point.specs.declared.Fault.{Fault}
+use Rattle.point.specs.declared.Fault.the-variants.{Fine, Foreign, Forbidden, TooDeep, NoCall, PastEnd}
+use Rattle.walk.specs.Program.{commandAt, faultAt, blockNumber}
+use Rattle.walk.specs.Walk.{Walk, Reaches}
+use Rattle.walk.specs.Graph.{In}
+use Rattle.walk.specs.Successors.{goes}
+use Rattle.walk.specs.Verdict.{verdictOf}
+use Rattle.walk.specs.Says.{Says, Judges}
+use Rattle.walk.specs.declared.Verdict.{Verdict}
+use Rattle.walk.specs.declared.Verdict.the-variants as verdict
+use Rattle.walk.proofs.Judged.{verdict-judges, is-done}
+use Rattle.walk.proofs.Within.{Within, Passes, passes}
+use Rattle.walk.proofs.Steps.{follow-step}
+use Rattle.walk.proofs.History.{reached-within}
+
+abbrev pub hd : List ℕ → Header
+hd image = headerOf image .header
+
+abbrev pub body : List ℕ → List ℕ
+body image = blocksOf image
+
+pub record Accepted (image : List ℕ) : Type 0 where
+  pub read : done (headerOf image .outcome) ≡ true
+  pub blocks : (b : ℕ) → b < hd image .count → blockNumber (hd image) (body image) b ≡ 0
+  pub fine : (p : Point) → Reaches (hd image) (body image) p → faultAt (hd image) (body image) p ≡ Fine
+
+is-accepted : Verdict → Bool
+is-accepted verdict.Accepted = true
+is-accepted (verdict.MarksShort n) = false
+is-accepted (verdict.Image o) = false
+is-accepted (verdict.Block n b) = false
+is-accepted (verdict.Foreign b) = false
+is-accepted (verdict.Bad f p) = false
+
+-- a fault that is neither foreign nor bad is none
+none : (f : Fault) → (isForeign f ≡ true → ⊥) → (isBad f ≡ true → ⊥) → f ≡ Fine
+none Fine n m = refl
+none Foreign n m = absurd (n refl)
+none Forbidden n m = absurd (m refl)
+none TooDeep n m = absurd (m refl)
+none NoCall n m = absurd (m refl)
+none PastEnd n m = absurd (m refl)
+
+module _ (image : List ℕ) where
+  said : (v : Verdict) → is-accepted v ≡ true → Says (hd image) (body image) v → (p : Point) → Reaches (hd image) (body image) p → faultAt (hd image) (body image) p ≡ Fine
+  unfolding is-accepted
+  said _ e (Says.accepted f b) p r = none (faultAt (hd image) (body image) p) (λ t. f p (r, t)) (λ t. b p (r, t))
+  said _ e (Says.foreign q k l) p r = clash (sym e)
+  said _ e (Says.bad f q k l) p r = clash (sym e)
+
+  judged : (n : ℕ) (v : Verdict) → is-accepted v ≡ true → Judges image n v → Accepted image
+  unfolding is-accepted
+  judged n _ e (Judges.marks l) = clash (sym e)
+  judged n _ e (Judges.header l f) = clash (sym e)
+  judged n _ e (Judges.block l f b i all bad) = clash (sym e)
+  judged n _ e (Judges.walks l f all v s) = record { read = f; blocks = all; fine = said v e s }
+
+  pub accepted : (n : ℕ) → verdictOf image n ≡ verdict.Accepted → Accepted image
+  unfolding is-accepted
+  accepted n e = judged n (verdictOf image n) (ap is-accepted e) (verdict-judges image n)
+
+  -- ---- points that are reached
+
+  module _ (ok : Accepted image) where
+    abbrev h : Header
+    h = hd image
+
+    abbrev bs : List ℕ
+    bs = body image
+
+    most : h .count ≤ mostBlocks
+    most = header-good image (is-done _ (ok .read)) .count .1
+
+    pub begins : h .start < h .count
+    begins = header-good image (is-done _ (ok .read)) .start
+
+    pub within : (p : Point) → Reaches h bs p → Within h p
+    within p r = reached-within h bs most begins p r
+
+    pub passing : (p : Point) → Reaches h bs p → Passes h (commandAt bs (p .block)) p
+    unfolding faultAt
+    passing p r = passes h (commandAt bs (p .block)) p (ok .fine p r)
+
+    -- what follows a point that is reached is reached
+    pub reach-next : (p q : Point) → Reaches h bs p → In q (goes p (flowOf (commandAt bs (p .block)))) → Reaches h bs q
+    reach-next p q r m = record {
+      path = p ∷ r .path;
+      walk = Walk.onward q (r .walk) (ok .fine p r)
+          (follow-step h bs (p ∷ r .path) p (commandAt bs (p .block)) (passing p r .allowed) q m);
+    }

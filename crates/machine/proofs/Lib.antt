@@ -1,0 +1,10 @@
+pub mod Rows
+pub mod FlowLaw
+pub mod StayLaw
+pub mod Accepted
+pub mod Outcomes
+pub mod Sound
+pub mod Same
+pub mod Turn
+pub mod StepAgrees
+pub mod Runs

@@ -1,0 +1,42 @@
+-- What document 01 compares after a list of steps ("Runs and the plain machine"): one named field for each thing. Assumes nothing.
+use Prim.Native.Nat.{ℕ, zero, suc, _<_}
+use mathlib.Core.Path.{_≡_}
+use mathlib.Core.List.{List, [], _∷_}
+use lib.Dec.{eqb}
+use lib.ListN.{getD}
+use Rattle.point.specs.Flow.{taskCount}
+use Rattle.state.specs.State.{runs}
+use Rattle.state.specs.declared.Task.{Task}
+use Rattle.state.specs.declared.Values.{Values}
+use Rattle.state.specs.declared.State.{State}
+use Rattle.machine.specs.Engine.{taskAt}
+use Rattle.machine.specs.Reference.{Thread, Machine, idle}
+
+-- the first `depth` entries of a call stack as a list, the latest first
+abbrev pub returnsOf : List ℕ → ℕ → List ℕ
+returnsOf stack zero = []
+returnsOf stack (suc d) = getD stack d 0 ∷ returnsOf stack d
+
+-- a task of the engine and one of the reference machine: both run or neither; where they run, block, return blocks, start block and wait are the same
+pub record SameTask (k : Task) (p : Thread) : Type 0 where
+  pub running : eqb (k .status) runs ≡ p .runs
+  pub block : k .status ≡ runs → k .block ≡ p .block
+  pub returns : k .status ≡ runs → returnsOf (k .stack) (k .depth) ≡ p .returns
+  pub start : k .status ≡ runs → k .start ≡ p .start
+  pub time : k .status ≡ runs → k .time ≡ p .time
+  pub turns : k .status ≡ runs → k .turns ≡ p .turns
+
+pub record SameValues (v w : Values) : Type 0 where
+  pub variables : v .variables ≡ w .variables
+  pub flags : v .flags ≡ w .flags
+  pub outputs : v .outputs ≡ w .outputs
+  pub position : v .axis .position ≡ w .axis .position
+  pub speed : v .axis .speed ≡ w .axis .speed
+  pub acceleration : v .axis .acceleration ≡ w .axis .acceleration
+  pub deceleration : v .axis .deceleration ≡ w .axis .deceleration
+  pub mark : v .mark ≡ w .mark
+  pub level : v .notes .level ≡ w .notes .level
+
+pub record Alike (s : State) (m : Machine) : Type 0 where
+  pub tasks : (t : ℕ) → t < taskCount → SameTask (taskAt s t) (getD (m .threads) t idle)
+  pub values : SameValues (s .values) (m .values)

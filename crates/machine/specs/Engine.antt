@@ -1,0 +1,164 @@
+-- The engine's step on values (document 01, "Running", and 15, 18, 17, 19, 20): the tests in their order, then the command, with a call stack of
+-- bounded length for each task. 16 is the buffer's. Assumes nothing.
+use Prim.Native.Nat.{ℕ, _+_, _-_}
+use mathlib.Core.Bool.{Bool, true, false, _&&_, _||_, not, cond}
+use mathlib.Core.List.{List, [], _∷_}
+use lib.Dec.{eqb, ltb}
+use lib.ListN.{length, getD, set}
+use Rattle.image.specs.Outcome.{done}
+use Rattle.image.specs.Scan.{headerOf, blocksOf}
+use Rattle.image.specs.declared.Header.{Header}
+use Rattle.rows.specs.Rows.{hex}
+use Rattle.command.specs.declared.Command.{Command}
+use Rattle.point.specs.Flow.{bias, taskCount}
+use Rattle.point.specs.Fault.{point, faultNumber}
+use Rattle.point.specs.declared.Point.{Point}
+use Rattle.walk.specs.Program.{commandAt, faultAt, blockNumber}
+use Rattle.state.specs.State.{cells, runs, ended, halted, emptyStack, task, running, neverStarted, withValues, withTask, withNotes}
+use Rattle.state.specs.declared.Task.{Task}
+use Rattle.state.specs.declared.Values.{Values}
+use Rattle.state.specs.declared.State.{State}
+use Rattle.machine.specs.Given.{Inputs, Given, level}
+use Rattle.machine.specs.Effect.{effectOf, isSet}
+use Rattle.machine.specs.declared.Motion.{Motion}
+use Rattle.machine.specs.declared.Motion.the-variants.{None}
+use Rattle.machine.specs.declared.Outcome.{Outcome}
+use Rattle.machine.specs.declared.Outcome.the-variants.{GoOn, Stay, Jump, Call, Return, Start, Restart, End, Halt}
+use Rattle.machine.specs.declared.Effect.{Effect}
+use Rattle.machine.specs.declared.Answer.{Answer}
+use Rattle.machine.specs.declared.Answer.the-variants.{Done, NoTask, Inputs as BadInputs, NotRunning, Differs, Halted}
+
+-- ---- tasks
+
+-- to a block, with no wait
+abbrev pub goTo : ℕ → Task → Task
+goTo b k = task runs b (k .start) (k .depth) (k .stack) 0 0
+
+-- at the same block, with a wait of T and k, or with none
+abbrev pub stayWith : ℕ → ℕ → Task → Task
+stayWith time turns k = task runs (k .block) (k .start) (k .depth) (k .stack) time turns
+
+-- the block behind the call goes on the stack
+abbrev pub callTo : ℕ → Task → Task
+callTo a k = task runs a (k .start) (k .depth + 1) (set (k .stack) (k .depth) (k .block + 1)) 0 0
+
+-- the last block comes off the stack, and its entry is cleared
+abbrev pub returnFrom : Task → Task
+returnFrom k = task runs (getD (k .stack) (k .depth - 1) 0) (k .start) (k .depth - 1) (set (k .stack) (k .depth - 1) 0) 0 0
+
+-- anew at a block; the start of BIAS stays the program start
+abbrev pub startAnew : ℕ → ℕ → ℕ → Task
+startAnew first u a = task runs a (cond (eqb u bias) first a) 0 emptyStack 0 0
+
+abbrev pub restarted : Task → Task
+restarted k = task runs (k .start) (k .start) 0 emptyStack 0 0
+
+-- ended or halted: block, start and stack stay, and no wait is pending
+abbrev pub stopped : ℕ → Task → Task
+stopped status k = task status (k .block) (k .start) (k .depth) (k .stack) 0 0
+
+-- past the array's end there is this: all 0, and no stack
+abbrev pub noTask : Task
+noTask = task 0 0 0 0 [] 0 0
+
+abbrev pub taskAt : State → ℕ → Task
+taskAt s t = getD (s .tasks) t noTask
+
+-- ---- a command's outcome, for the task t that is at k
+
+unfoldable pub goesOn : State → ℕ → Task → Outcome → State
+goesOn s t k GoOn = withTask t (goTo (k .block + 1) k) s
+goesOn s t k (Stay time turns) = withTask t (stayWith time turns k) s
+goesOn s t k (Jump a) = withTask t (goTo a k) s
+goesOn s t k (Call a) = withTask t (callTo a k) s
+goesOn s t k Return = withTask t (returnFrom k) s
+goesOn s t k (Start u a) = withTask u (startAnew (s .header .start) u a) (withTask t (goTo (k .block + 1) k) s)
+goesOn s t k Restart = withTask t (restarted k) s
+goesOn s t k End = withTask t (stopped ended k) s
+goesOn s t k (Halt n) = withTask t (stopped halted k) s
+
+-- ---- a step
+
+-- what a step hands out
+pub record Out : Type 0 where
+  pub state : State
+  pub motion : Motion
+  pub answer : Answer
+
+-- a refused step changes nothing and asks for no motion
+abbrev pub refuse : State → Answer → Out
+refuse s a = record { state = s; motion = None; answer = a }
+
+-- where a task is
+abbrev pub pointOf : ℕ → Task → Point
+pointOf t k = point t (k .block) (k .depth)
+
+-- the answer to a command that was done
+abbrev pub answerTo : Outcome → Point → Answer
+answerTo GoOn p = Done
+answerTo (Stay time turns) p = Done
+answerTo (Jump a) p = Done
+answerTo (Call a) p = Done
+answerTo Return p = Done
+answerTo (Start u a) p = Done
+answerTo Restart p = Done
+answerTo End p = Done
+answerTo (Halt n) p = Halted n p
+
+-- a BIAS step notes the start input's level
+abbrev pub noted : ℕ → ℕ → Values → Values
+noted t start v = cond (eqb t bias) (withNotes (record { level = level start }) v) v
+
+abbrev pub given : State → Task → Inputs → Given
+given s k x = record {
+  model = s .header .drive .model;
+  levels = x .levels;
+  start = level (x .start);
+  reached = level (x .reached);
+  time = k .time;
+  turns = k .turns;
+}
+
+unfoldable pub performed : State → Inputs → Task → Effect → Out
+performed s x k e = record {
+  state = goesOn (withValues (noted (x .task) (x .start) (e .values)) s) (x .task) k (e .outcome);
+  motion = e .motion;
+  answer = answerTo (e .outcome) (pointOf (x .task) k);
+}
+
+-- 17: the lent image is not the loaded one, or the block at the pointer breaks 5 to 12 at the present depth, or a wait is pending at no wait
+abbrev pub sameHeader : Header → Header → Bool
+sameHeader a b =
+    eqb (a .format) (b .format) && (eqb (a .drive .model) (b .drive .model) && (eqb (a .drive .b) (b .drive .b) && (eqb (a .drive .c) (b .drive .c)
+    && (eqb (a .start) (b .start) && eqb (a .count) (b .count)))))
+
+abbrev pub isLoaded : List ℕ → State → Bool
+isLoaded image s = done (headerOf image .outcome) && sameHeader (headerOf image .header) (s .header)
+
+abbrev pub blockFits : State → List ℕ → ℕ → Task → Bool
+blockFits s bs t k = eqb (blockNumber (s .header) bs (k .block)) 0 && eqb (faultNumber (faultAt (s .header) bs (pointOf t k))) 0
+
+abbrev pub isWait : ℕ → Bool
+isWait code = eqb code (hex 5 9) || eqb code (hex 5 10)
+
+abbrev pub waitFits : List ℕ → Task → Bool
+waitFits bs k = not (isSet (k .time)) || isWait (commandAt bs (k .block) .code)
+
+unfoldable pub fits : List ℕ → State → ℕ → Task → Bool
+fits image s t k = isLoaded image s && (blockFits s (blocksOf image) t k && waitFits (blocksOf image) k)
+
+-- 18, then 17, then the command
+unfoldable pub taskStep : List ℕ → State → Inputs → Task → Out
+taskStep image s x k =
+    cond (eqb (k .status) runs)
+    (cond (fits image s (x .task) k)
+    (performed s x k (effectOf (given s k x) (commandAt (blocksOf image) (k .block)) (s .values)))
+    (refuse s (Differs (pointOf (x .task) k))))
+    (refuse s NotRunning)
+
+-- 15 first: the task number, then the length of the input levels
+unfoldable pub step : List ℕ → State → Inputs → Out
+step image s x =
+    cond (ltb (x .task) taskCount)
+    (cond (eqb (length (x .levels)) cells) (taskStep image s x (taskAt s (x .task))) (refuse s (BadInputs (length (x .levels)))))
+    (refuse s (NoTask (x .task)))

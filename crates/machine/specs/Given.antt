@@ -1,0 +1,35 @@
+-- What a step is given besides the image and the state, and what a command may read of it (document 01, "Running"). Assumes nothing.
+use Prim.Native.Nat.{ℕ, _+_, _*_}
+use mathlib.Core.Bool.{Bool, cond}
+use mathlib.Core.List.{List}
+use lib.Dec.{eqb, leb}
+use lib.ListN.{getD}
+use Rattle.drive.specs.Types.{cycleOf}
+
+-- the host's part of a step: the task number, a byte for each input pin, the start input's level and "position reached"
+pub record Inputs : Type 0 where
+  pub task : ℕ
+  pub levels : List ℕ
+  pub start : ℕ
+  pub reached : ℕ
+
+-- a byte as a level: anything but 0 is high
+abbrev pub level : ℕ → ℕ
+level byte = cond (eqb byte 0) 0 1
+
+-- what the command reads: the drive's type, the input levels, the start input, "position reached", and the task's pending wait, T and k (0 and 0: none)
+pub record Given : Type 0 where
+  pub model : ℕ
+  pub levels : List ℕ
+  pub start : ℕ
+  pub reached : ℕ
+  pub time : ℕ
+  pub turns : ℕ
+
+-- the level of an input pin
+abbrev pub inputAt : Given → ℕ → ℕ
+inputAt g pin = level (getD (g .levels) pin 0)
+
+-- a wait of T ms is over after k turns: k cycles are at least T, in microseconds
+abbrev pub due : ℕ → ℕ → ℕ → Bool
+due model time turns = leb (1000 * time) (turns * cycleOf model)

@@ -1,0 +1,45 @@
+-- Runs (document 01, "Runs and the plain machine"): a list of steps from a fresh load, the state handed from step to step. Assumes nothing.
+use Prim.Native.Nat.{ℕ, _<_, _≤_}
+use mathlib.Core.Path.{_≡_}
+use mathlib.Core.List.{List, [], _∷_}
+use Rattle.image.specs.Scan.{headerOf, blocksOf}
+use Rattle.point.specs.Flow.{taskCount}
+use Rattle.point.specs.Fault.{mostDepth}
+use Rattle.point.specs.declared.Fault.the-variants.{Fine}
+use Rattle.walk.specs.Program.{faultAt, blockNumber}
+use Rattle.state.specs.State.{runs}
+use Rattle.state.specs.declared.Task.{Task}
+use Rattle.state.specs.declared.State.{State}
+use Rattle.machine.specs.Given.{Inputs}
+use Rattle.machine.specs.Engine.{Out, step, taskAt, pointOf}
+use Rattle.machine.specs.Reference.{Machine, Did, turn}
+
+-- what the engine hands out, step by step, and the state after the list
+unfoldable pub outs : List ℕ → State → List Inputs → List Out
+outs image s [] = []
+outs image s (x ∷ xs) = step image s x ∷ outs image (step image s x .state) xs
+
+unfoldable pub stateAfter : List ℕ → State → List Inputs → State
+stateAfter image s [] = s
+stateAfter image s (x ∷ xs) = stateAfter image (step image s x .state) xs
+
+-- the same of the reference machine
+unfoldable pub dids : List ℕ → Machine → List Inputs → List Did
+dids image m [] = []
+dids image m (x ∷ xs) = turn image m x ∷ dids image (turn image m x .machine) xs
+
+unfoldable pub machineAfter : List ℕ → Machine → List Inputs → Machine
+machineAfter image m [] = m
+machineAfter image m (x ∷ xs) = machineAfter image (turn image m x .machine) xs
+
+-- part 1: answers and motion requests are the same, step by step
+pub data SameHanded : List Out → List Did → Type 0 where
+  none : SameHanded [] []
+  more : {o : Out} {d : Did} {os : List Out} {ds : List Did} → o .answer ≡ d .answer → o .motion ≡ d .motion → SameHanded os ds → SameHanded (o ∷ os) (d ∷ ds)
+
+-- part 3: a task that runs is at a block of the image that is permitted to it on that drive, at its depth, which is at most the limit
+pub record Permitted (image : List ℕ) (t : ℕ) (k : Task) : Type 0 where
+  pub block : k .block < headerOf image .header .count
+  pub sound : blockNumber (headerOf image .header) (blocksOf image) (k .block) ≡ 0
+  pub fine : faultAt (headerOf image .header) (blocksOf image) (pointOf t k) ≡ Fine
+  pub depth : k .depth ≤ mostDepth

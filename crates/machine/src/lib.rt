@@ -1,0 +1,59 @@
+// What a step hands out, and what a command comes to. No code here: specs/ says what commands do, what the engine's step and the reference machine
+// (document 01: plain machine) are, and proofs/ that they agree.
+use point::Point;
+use state::Axis;
+use state::Values;
+
+// The motion request of a step. A move carries the stored position, speed, acceleration and deceleration; a stop its mode and a deceleration.
+pub enum Motion {
+    None,
+    MoveTo(Axis),
+    MoveBy(Axis),
+    Forward(Axis),
+    Backward(Axis),
+    Stop(u8, u16),
+}
+
+// How the task that executes a command goes on.
+pub enum Outcome {
+    // with the next block
+    GoOn,
+    // at the same block, with a wait of T ms and k turns; both 0 where it waits for no time
+    Stay(u32, u32),
+    // at the named block
+    Jump(u16),
+    // at the named block, one call deeper
+    Call(u16),
+    // behind its latest call
+    Return,
+    // with the next block; the task of this number starts anew at the named block
+    Start(u8, u16),
+    // at its start
+    Restart,
+    // not: it has ended itself
+    End,
+    // not: 19 or 20 halts it
+    Halt(u32),
+}
+
+// What a command does: to the values, to the axis by a request, and to its task.
+pub struct Effect {
+    pub values: Values,
+    pub motion: Motion,
+    pub outcome: Outcome,
+}
+
+// What a step answers.
+pub enum Answer {
+    Done,
+    // 15: no such task
+    NoTask(u32),
+    // 15: input levels of this length
+    Inputs(usize),
+    // 18
+    NotRunning,
+    // 17 at this point
+    Differs(Point),
+    // 19 or 20 at this point
+    Halted(u32, Point),
+}

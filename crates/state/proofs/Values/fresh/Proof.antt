@@ -1,0 +1,12 @@
+-- `Values::fresh` meets its contract: the fields are the definition's. Assumes nothing.
+use mathlib.Core.Path.{refl}
+use Rattle.state.specs.State.{freshValues}
+use Rattle.state.proofs.Values.fresh.Statement.{statement}
+use Rattle.state.proofs.Values.fresh.Tie as tie
+
+returns : tie.Need-returns
+unfolding freshValues
+returns c = refl
+
+pub fresh-spec : {M : Type 1} → statement M
+fresh-spec = tie.close (tie.spec returns)

@@ -1,0 +1,112 @@
+-- The state by value: document 01, "Running", and what load leaves. antt has no record update, so each setter is written once. Assumes nothing.
+use Prim.Native.Nat.{ℕ}
+use mathlib.Core.List.{List, [], _∷_}
+use lib.ListN.{replicate, set}
+use lib.IntN.{ℤ, pos}
+use Rattle.image.specs.declared.Header.{Header}
+use Rattle.point.specs.Fault.{mostDepth}
+use Rattle.state.specs.declared.Task.{Task}
+use Rattle.state.specs.declared.Axis.{Axis}
+use Rattle.state.specs.declared.Notes.{Notes}
+use Rattle.state.specs.declared.Values.{Values}
+use Rattle.state.specs.declared.State.{State}
+
+-- variables, flags, outputs: as many of each
+abbrev pub cells : ℕ
+cells = 256
+
+-- statuses of a task
+abbrev pub never : ℕ
+never = 0
+
+abbrev pub runs : ℕ
+runs = 1
+
+abbrev pub ended : ℕ
+ended = 2
+
+abbrev pub halted : ℕ
+halted = 3
+
+abbrev pub emptyStack : List ℕ
+emptyStack = replicate mostDepth 0
+
+abbrev pub task : ℕ → ℕ → ℕ → ℕ → List ℕ → ℕ → ℕ → Task
+task status block start depth stack time turns =
+    record { status = status; block = block; start = start; depth = depth; stack = stack; time = time; turns = turns }
+
+abbrev pub neverStarted : Task
+neverStarted = task never 0 0 0 emptyStack 0 0
+
+-- begun at a block, which is its start block too, with an empty call stack and no wait
+abbrev pub running : ℕ → Task
+running a = task runs a a 0 emptyStack 0 0
+
+-- ---- as load leaves it
+
+-- position 0, the others the least of their ranges
+abbrev pub startAxis : Axis
+startAxis = record { position = pos 0; speed = 1; acceleration = 1; deceleration = 1 }
+
+-- the preceding level counts as high
+abbrev pub startNotes : Notes
+startNotes = record { level = 1 }
+
+unfoldable pub freshValues : Values
+freshValues = record {
+  variables = replicate cells (pos 0);
+  flags = replicate cells 0;
+  outputs = replicate cells 0;
+  axis = startAxis;
+  mark = 0;
+  notes = startNotes;
+}
+
+-- BIAS at the program start, the PLC and mathematics never started
+unfoldable pub fresh : Header → State
+fresh h = record { values = freshValues; header = h; tasks = running (h .start) ∷ neverStarted ∷ neverStarted ∷ [] }
+
+-- ---- setters of the values
+
+abbrev pub withVariable : ℕ → ℤ → Values → Values
+withVariable i z v =
+    record { variables = set (v .variables) i z; flags = v .flags; outputs = v .outputs; axis = v .axis; mark = v .mark; notes = v .notes }
+
+abbrev pub withFlag : ℕ → ℕ → Values → Values
+withFlag i x v =
+    record { variables = v .variables; flags = set (v .flags) i x; outputs = v .outputs; axis = v .axis; mark = v .mark; notes = v .notes }
+
+abbrev pub withOutput : ℕ → ℕ → Values → Values
+withOutput i x v =
+    record { variables = v .variables; flags = v .flags; outputs = set (v .outputs) i x; axis = v .axis; mark = v .mark; notes = v .notes }
+
+abbrev pub withAxis : Axis → Values → Values
+withAxis a v = record { variables = v .variables; flags = v .flags; outputs = v .outputs; axis = a; mark = v .mark; notes = v .notes }
+
+abbrev pub withMark : ℕ → Values → Values
+withMark m v = record { variables = v .variables; flags = v .flags; outputs = v .outputs; axis = v .axis; mark = m; notes = v .notes }
+
+abbrev pub withNotes : Notes → Values → Values
+withNotes n v = record { variables = v .variables; flags = v .flags; outputs = v .outputs; axis = v .axis; mark = v .mark; notes = n }
+
+-- ---- setters of the axis
+
+abbrev pub withPosition : ℤ → Axis → Axis
+withPosition z a = record { position = z; speed = a .speed; acceleration = a .acceleration; deceleration = a .deceleration }
+
+abbrev pub withSpeed : ℕ → Axis → Axis
+withSpeed n a = record { position = a .position; speed = n; acceleration = a .acceleration; deceleration = a .deceleration }
+
+abbrev pub withAcceleration : ℕ → Axis → Axis
+withAcceleration n a = record { position = a .position; speed = a .speed; acceleration = n; deceleration = a .deceleration }
+
+abbrev pub withDeceleration : ℕ → Axis → Axis
+withDeceleration n a = record { position = a .position; speed = a .speed; acceleration = a .acceleration; deceleration = n }
+
+-- ---- setters of the state
+
+abbrev pub withValues : Values → State → State
+withValues v s = record { values = v; header = s .header; tasks = s .tasks }
+
+abbrev pub withTask : ℕ → Task → State → State
+withTask t k s = record { values = s .values; header = s .header; tasks = set (s .tasks) t k }

@@ -1,0 +1,138 @@
+// The state of a program that runs, by value (document 01, "Running"): variables, flags, output levels, the axis, the start mark, the notes of the
+// preceding BIAS step, and a record for each task with its own call stack. The buffer that firmware keeps comes with the engine.
+use image::Header;
+ghost use mathlib.Core.Path.{_≡_};
+ghost use Rattle.state.specs.State.{neverStarted, running, freshValues, fresh};
+
+// Variables, flags and outputs: 256 of each.
+pub const CELLS: usize = 256;
+
+// The most blocks that a call stack (document 01: return path) holds.
+pub const STACK_LENGTH: usize = point::MOST_DEPTH as usize;
+
+// What a task does: it was never started, it runs, it ended itself by 51, or 19 or 20 halted it.
+pub const NEVER_STARTED: u8 = 0;
+
+pub const RUNNING: u8 = 1;
+
+pub const ENDED: u8 = 2;
+
+pub const HALTED: u8 = 3;
+
+// A task: its status; the block that it is at and the one that it starts at; its call stack, of which the first `depth` blocks count, each the block
+// behind a 52; its pending wait, the time T in ms and the turns k, both 0 where there is none.
+pub struct Task {
+    pub status: u8,
+    pub block: u16,
+    pub start: u16,
+    pub depth: u8,
+    pub stack: [u16; STACK_LENGTH],
+    pub time: u32,
+    pub turns: u32,
+}
+
+// The stored parameters of the axis.
+pub struct Axis {
+    pub position: i32,
+    pub speed: u16,
+    pub acceleration: u16,
+    pub deceleration: u16,
+}
+
+// Notes of the preceding BIAS step: the start input's level.
+pub struct Notes {
+    pub level: u8,
+}
+
+// What commands read and write besides their task: variables, flags and output levels, the axis, the start mark of 0E, and the notes.
+pub struct Values {
+    pub variables: [i32; CELLS],
+    pub flags: [u8; CELLS],
+    pub outputs: [u8; CELLS],
+    pub axis: Axis,
+    pub mark: u8,
+    pub notes: Notes,
+}
+
+pub struct State {
+    pub values: Values,
+    pub header: Header,
+    pub tasks: [Task; 3],
+}
+
+impl Task {
+    // A task that was never started.
+    pub fn never_started() -> Task
+        ensures { λ r. ⌜ r ≡ neverStarted ⌝ }
+    {
+        let stack = [0; STACK_LENGTH];
+        Task {
+            status: NEVER_STARTED,
+            block: 0,
+            start: 0,
+            depth: 0,
+            stack: stack,
+            time: 0,
+            turns: 0,
+        }
+    }
+
+    // A task that begins at a block, with its start there too: no call, no wait.
+    pub fn running(start: u16) -> Task
+        ensures { λ r. ⌜ r ≡ running start ⌝ }
+    {
+        let stack = [0; STACK_LENGTH];
+        Task {
+            status: RUNNING,
+            block: start,
+            start: start,
+            depth: 0,
+            stack: stack,
+            time: 0,
+            turns: 0,
+        }
+    }
+}
+
+impl Values {
+    // As load leaves them: all cells 0, the parameters at their least, no start mark, the start input taken as high.
+    pub fn fresh() -> Values
+        ensures { λ r. ⌜ r ≡ freshValues ⌝ }
+    {
+        let variables = [0i32; CELLS];
+        let flags = [0u8; CELLS];
+        let outputs = [0u8; CELLS];
+        let axis = Axis {
+            position: 0,
+            speed: 1,
+            acceleration: 1,
+            deceleration: 1,
+        };
+        let notes = Notes { level: 1 };
+        Values {
+            variables: variables,
+            flags: flags,
+            outputs: outputs,
+            axis: axis,
+            mark: 0,
+            notes: notes,
+        }
+    }
+}
+
+impl State {
+    // As load leaves it: BIAS at the program start, the other tasks not started.
+    pub fn fresh(header: Header) -> State
+        ensures { λ r. ⌜ r ≡ fresh header ⌝ }
+    {
+        let values = Values::fresh();
+        let bias = Task::running(header.start);
+        let idle = Task::never_started();
+        let tasks = [bias, idle, idle];
+        State {
+            values: values,
+            header: header,
+            tasks: tasks,
+        }
+    }
+}
