@@ -1,10 +1,9 @@
 -- What an accepted image promises to a run: its header was read, each block passes 5 to 8, and each point that a walk reaches breaks nothing.
 -- Assumes nothing.
 use Prim.Native.Nat.{ℕ, _<_, _≤_}
-use mathlib.Core.Path.{_≡_, refl, sym, ap, subst, _∙_}
-use mathlib.Core.Bool.{Bool, true, false}
+use mathlib.Core.Path.{_≡_, refl, sym, ap}
+use mathlib.Core.Bool.{true}
 use mathlib.Core.List.{List, _∷_}
-use native.Mathlib.Omega.{arith}
 use Rattle.image.specs.Outcome.{done}
 use Rattle.image.specs.Rows.{mostBlocks}
 use Rattle.image.specs.Scan.{headerOf, blocksOf}
@@ -20,7 +19,7 @@ use Rattle.walk.specs.Program.{commandAt, faultAt, blockNumber}
 use Rattle.walk.specs.Walk.{Walk, Reaches}
 use Rattle.walk.specs.Graph.{In}
 use Rattle.walk.specs.Successors.{goes}
-use Rattle.walk.specs.Verdict.{verdictOf}
+use Rattle.walk.specs.Verdict.{verdictOf, isAccepted}
 use Rattle.walk.specs.Says.{Says, Judges}
 use Rattle.walk.specs.declared.Verdict.{Verdict}
 use Rattle.walk.specs.declared.Verdict.the-variants as verdict
@@ -40,14 +39,6 @@ pub record Accepted (image : List ℕ) : Type 0 where
   pub blocks : (b : ℕ) → b < hd image .count → blockNumber (hd image) (body image) b ≡ 0
   pub fine : (p : Point) → Reaches (hd image) (body image) p → faultAt (hd image) (body image) p ≡ Fine
 
-is-accepted : Verdict → Bool
-is-accepted verdict.Accepted = true
-is-accepted (verdict.MarksShort n) = false
-is-accepted (verdict.Image o) = false
-is-accepted (verdict.Block n b) = false
-is-accepted (verdict.Foreign b) = false
-is-accepted (verdict.Bad f p) = false
-
 -- a fault that is neither foreign nor bad is none
 none : (f : Fault) → (isForeign f ≡ true → ⊥) → (isBad f ≡ true → ⊥) → f ≡ Fine
 none Fine n m = refl
@@ -58,22 +49,19 @@ none NoCall n m = absurd (m refl)
 none PastEnd n m = absurd (m refl)
 
 module _ (image : List ℕ) where
-  said : (v : Verdict) → is-accepted v ≡ true → Says (hd image) (body image) v → (p : Point) → Reaches (hd image) (body image) p → faultAt (hd image) (body image) p ≡ Fine
-  unfolding is-accepted
+  said : (v : Verdict) → isAccepted v ≡ true → Says (hd image) (body image) v → (p : Point) → Reaches (hd image) (body image) p → faultAt (hd image) (body image) p ≡ Fine
   said _ e (Says.accepted f b) p r = none (faultAt (hd image) (body image) p) (λ t. f p (r, t)) (λ t. b p (r, t))
   said _ e (Says.foreign q k l) p r = clash (sym e)
   said _ e (Says.bad f q k l) p r = clash (sym e)
 
-  judged : (n : ℕ) (v : Verdict) → is-accepted v ≡ true → Judges image n v → Accepted image
-  unfolding is-accepted
+  judged : (n : ℕ) (v : Verdict) → isAccepted v ≡ true → Judges image n v → Accepted image
   judged n _ e (Judges.marks l) = clash (sym e)
   judged n _ e (Judges.header l f) = clash (sym e)
   judged n _ e (Judges.block l f b i all bad) = clash (sym e)
   judged n _ e (Judges.walks l f all v s) = record { read = f; blocks = all; fine = said v e s }
 
   pub accepted : (n : ℕ) → verdictOf image n ≡ verdict.Accepted → Accepted image
-  unfolding is-accepted
-  accepted n e = judged n (verdictOf image n) (ap is-accepted e) (verdict-judges image n)
+  accepted n e = judged n (verdictOf image n) (ap isAccepted e) (verdict-judges image n)
 
   -- ---- points that are reached
 

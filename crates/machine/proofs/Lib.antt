@@ -1,4 +1,5 @@
 pub mod Rows
+pub mod Deeds
 pub mod FlowLaw
 pub mod StayLaw
 pub mod Accepted

@@ -1,9 +1,9 @@
 -- What an outcome that a flow allows leads to: the points that follow. Assumes nothing.
-use Prim.Native.Nat.{ℕ, _+_, _<_}
-use mathlib.Core.Path.{_≡_, refl, sym, ap, _∙_}
-use mathlib.Core.Bool.{Bool, true, false, _&&_, _||_, cond}
-use mathlib.Core.Logic.{_⊎_, inl, inr}
-use mathlib.Core.List.{List, [], _∷_}
+use Prim.Native.Nat.{ℕ, _+_}
+use mathlib.Core.Path.{_≡_, refl, sym, _∙_}
+use mathlib.Core.Bool.{Bool, true, false, cond}
+use mathlib.Core.Logic.{inl, inr}
+use mathlib.Core.List.{[], _∷_}
 use lib.Dec.{eqb}
 use borrow.Author.Tests.{eqb-true, ne-eqb}
 use Rattle.image.proofs.Choice.{clash, both}
@@ -14,7 +14,7 @@ use Rattle.point.specs.declared.Flow.the-variants as flow
 use Rattle.walk.specs.Graph.{In}
 use Rattle.walk.specs.Successors.{goes}
 use Rattle.machine.specs.Ways.{may}
-use Rattle.machine.specs.declared.Outcome.the-variants.{GoOn, Stay, Jump, Call, Return, Start, Restart, End, Halt}
+use Rattle.machine.specs.declared.Outcome.the-variants.{GoOn, Jump, Call, Return, Start, Restart, End}
 use lib.Dec.{leb}
 
 module _ (p : Point) where

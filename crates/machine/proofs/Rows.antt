@@ -1,8 +1,8 @@
 -- A statement proved of every row of effects holds of the effect of every code that is carried, since each carried code has a row. Assumes nothing.
 use Prim.Native.Nat.{ℕ}
-use mathlib.Core.Path.{_≡_, refl, sym, ap, subst, _∙_}
+use mathlib.Core.Path.{_≡_, refl, sym, ap}
 use mathlib.Core.Bool.{Bool, true, false, _||_, cond}
-use mathlib.Core.Logic.{_⊎_, inl, inr, ⊎-elim}
+use mathlib.Core.Logic.{⊎-elim}
 use mathlib.Core.List.{List, [], _∷_}
 use lib.Dec.{T, eqb}
 use borrow.Author.Tests.{eqb-true}
@@ -11,13 +11,14 @@ use Rattle.rows.specs.Rows.{rows, rowIn, rowOf, noRow}
 use Rattle.rows.specs.declared.Row.{Row as Columns}
 use Rattle.rows.proofs.Laws.{every, every-row}
 use Rattle.command.specs.declared.Command.{Command}
-use Rattle.machine.specs.Effect.{Deed, Row, deedIn, effectOf}
+use Rattle.machine.specs.Effect.{Deed, Row, deedIn}
 use Rattle.machine.specs.Effect.{rows as deeds}
 
 -- each row of a list
-abbrev pub All : (Row → Type 0) → List Row → Type 0
-All P [] = Unit {0}
-All P (r ∷ rs) = P r × All P rs
+infixr 5 _&_
+pub data All (P : Row → Type 0) : List Row → Type 0 where
+  end : All P []
+  _&_ : {r : Row} {rs : List Row} → P r → All P rs → All P (r ∷ rs)
 
 abbrev has : List Row → ℕ → Bool
 has [] code = false
@@ -29,12 +30,12 @@ Of P r = (c : Command) → c .code ≡ r .code → P c (r .deed)
 
 deed-in : (P : Command → Deed → Type 0) (rs : List Row) → All (Of P) rs → (c : Command) → has rs (c .code) ≡ true → P c (deedIn rs (c .code))
 unfolding deedIn
-deed-in P [] all c e = clash (sym e)
-deed-in P (r ∷ rs) all c e = go (eqb (c .code) (r .code)) refl e (deed-in P rs (all .1) c)
+deed-in P [] All.end c e = clash (sym e)
+deed-in P (r ∷ rs) (All._&_ first rest) c e = go (eqb (c .code) (r .code)) refl e (deed-in P rs rest c)
   where
     go : (t : Bool) → eqb (c .code) (r .code) ≡ t → (t || has rs (c .code)) ≡ true → (has rs (c .code) ≡ true → P c (deedIn rs (c .code)))
         → P c (cond t (r .deed) (deedIn rs (c .code)))
-    go true i k later = all .0 c (eqb-true (c .code) (r .code) i)
+    go true i k later = first c (eqb-true (c .code) (r .code) i)
     go false i k later = later k
 
 -- each code that is carried has a row of effects

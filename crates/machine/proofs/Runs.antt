@@ -1,7 +1,7 @@
 -- Every list of steps from a fresh accepted load: the engine is the reference machine in every answer and request and in the state afterwards, and each
 -- task that runs is at a permitted block, at most as deep as the limit. Assumes nothing.
 use Prim.Native.Nat.{ℕ, zero, suc, _<_}
-use mathlib.Core.Path.{_≡_, refl, sym, ap}
+use mathlib.Core.Path.{_≡_, refl}
 use mathlib.Core.List.{List, [], _∷_}
 use native.Mathlib.Omega.{arith}
 use lib.ListN.{getD}
@@ -19,7 +19,6 @@ use Rattle.machine.specs.Alike.{SameTask, SameValues, Alike}
 use Rattle.machine.specs.Run.{outs, stateAfter, dids, machineAfter, SameHanded, Permitted}
 use Rattle.machine.proofs.Accepted.{Accepted, accepted, hd, body, within}
 use Rattle.machine.proofs.Sound.{Sound, never-sound}
-use Rattle.machine.proofs.Turn.{Both}
 use Rattle.machine.proofs.StepAgrees.{Agree, step-same}
 
 values-same : (v w : Values) → v ≡ w → SameValues v w

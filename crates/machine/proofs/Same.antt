@@ -1,17 +1,13 @@
 -- Each operation on an engine's task and on the reference machine's task keeps them alike. Assumes nothing.
 use Prim.Native.Nat.{ℕ, zero, suc, _+_, _-_, _<_, _≤_}
-use mathlib.Core.Path.{_≡_, refl, sym, ap, _∙_}
-use mathlib.Core.Bool.{Bool, true, false, cond}
+use mathlib.Core.Path.{_≡_, refl, sym, _∙_}
 use mathlib.Core.List.{List, [], _∷_}
 use native.Mathlib.Omega.{arith}
 use native.Mathlib.Numerals.{add-one}
-use lib.Dec.{eqb}
 use lib.ListN.{length, getD, set}
 use lib.Seq.{getD-set-same, getD-set-other}
-use borrow.Author.Tests.{eq-eqb, ne-eqb}
-use Rattle.point.specs.Flow.{bias}
-use Rattle.point.specs.Fault.{mostDepth}
-use Rattle.state.specs.State.{runs, task}
+use borrow.Author.Tests.{ne-eqb}
+use Rattle.state.specs.State.{runs}
 use Rattle.state.specs.declared.Task.{Task}
 use Rattle.machine.specs.Engine.{goTo, stayWith, callTo, returnFrom, startAnew, restarted, stopped}
 use Rattle.machine.specs.Reference.{Thread, thread, off, goes, back, anew, idle}

@@ -1,26 +1,24 @@
 -- The invariant of a run, task by task: a task that runs is at a point that some walk reaches, its start and each entry of its call stack too. Each
 -- operation on tasks keeps it. Assumes nothing.
-use Prim.Native.Nat.{ℕ, zero, suc, _+_, _-_, _<_, _≤_}
-use mathlib.Core.Path.{_≡_, refl, sym, ap, subst, _∙_}
+use Prim.Native.Nat.{ℕ, _+_, _-_, _<_}
+use mathlib.Core.Path.{_≡_, refl, _∙_}
 use mathlib.Core.Bool.{Bool, true, false, not, _||_, cond}
-use mathlib.Core.List.{List, [], _∷_}
+use mathlib.Core.List.{List, []}
 use native.Mathlib.Omega.{arith}
 use native.Mathlib.Decide.{ℕ-discrete}
 use lib.Dec.{eqb}
 use lib.ListN.{length, getD, set, length-set}
 use lib.Seq.{getD-set-same, getD-set-other}
-use borrow.Author.Tests.{eqb-true, eqb-false}
+use borrow.Author.Tests.{eqb-true}
 use Rattle.image.specs.declared.Header.{Header}
-use Rattle.image.proofs.Choice.{clash}
 use Rattle.point.specs.Flow.{bias}
 use Rattle.point.specs.Fault.{point, mostDepth}
-use Rattle.point.specs.declared.Point.{Point}
 use Rattle.walk.specs.Program.{commandAt}
 use Rattle.walk.specs.Walk.{Walk, Reaches}
-use Rattle.state.specs.State.{runs, ended, halted, emptyStack, task, neverStarted, running}
+use Rattle.state.specs.State.{runs, neverStarted}
 use Rattle.state.specs.declared.Task.{Task}
 use Rattle.machine.specs.Effect.{isSet}
-use Rattle.machine.specs.Engine.{goTo, stayWith, callTo, returnFrom, startAnew, restarted, stopped, noTask, pointOf, isWait, waitFits}
+use Rattle.machine.specs.Engine.{goTo, stayWith, callTo, returnFrom, startAnew, restarted, stopped, pointOf, isWait, waitFits}
 
 module _ (h : Header) (bs : List ℕ) where
   pub record Sound (t : ℕ) (k : Task) : Type 0 where

@@ -1,41 +1,38 @@
 -- One step: from states that agree, the engine and the reference machine give the same answer and request, and agree afterwards. Assumes nothing.
-use Prim.Native.Nat.{ℕ, zero, suc, _+_, _<_, _≤_}
+use Prim.Native.Nat.{ℕ, zero, suc, _<_}
 use mathlib.Core.Path.{_≡_, refl, sym, ap, subst, _∙_}
-use mathlib.Core.Bool.{Bool, true, false, not, _&&_, _||_, cond}
+use mathlib.Core.Bool.{Bool, true, false, not, cond}
 use mathlib.Core.List.{List, [], _∷_}
 use native.Mathlib.Omega.{arith}
 use lib.Dec.{T, eqb, ltb}
 use mathlib.Core.Logic.{⊎-elim}
-use lib.ListN.{length, getD, set}
+use lib.ListN.{length, getD}
 use borrow.Author.Tests.{eqb-true, eqb-false, eq-eqb, ne-eqb, not-true, ltb-true, ltb-false, lt-ltb, le-ltb}
-use Rattle.image.specs.Outcome.{done}
 use Rattle.image.specs.Scan.{headerOf, blocksOf}
 use Rattle.image.specs.declared.Header.{Header}
-use Rattle.image.proofs.Choice.{clash}
 use Rattle.rows.specs.Rows.{rows, rowIn, rowOf, noRow}
 use Rattle.rows.specs.declared.Row.{Row as Columns}
 use Rattle.rows.proofs.Laws.{every, every-row}
 use Rattle.walk.proofs.Moves.{carried}
 use Rattle.command.specs.declared.Command.{Command}
 use Rattle.point.specs.Flow.{bias, taskCount, flowOf}
-use Rattle.point.specs.Fault.{point, permitted, faultNumber}
-use Rattle.point.specs.declared.Point.{Point}
-use Rattle.walk.specs.Program.{commandAt, faultAt, blockNumber}
+use Rattle.point.specs.Fault.{permitted}
+use Rattle.walk.specs.Program.{commandAt}
 use Rattle.walk.specs.Walk.{Reaches}
 use Rattle.state.specs.State.{cells, runs, withValues, withNotes}
 use Rattle.state.specs.declared.Task.{Task}
 use Rattle.state.specs.declared.Values.{Values}
 use Rattle.state.specs.declared.State.{State}
-use Rattle.machine.specs.Given.{Inputs, Given, level}
+use Rattle.machine.specs.Given.{Inputs, level}
 use Rattle.machine.specs.Effect.{effectOf}
-use Rattle.machine.specs.Engine.{Out, taskAt, noTask, goesOn, pointOf, answerTo, noted, given, performed, sameHeader, isLoaded, blockFits, waitFits, fits, refuse, taskStep, step}
-use Rattle.machine.specs.Reference.{Thread, Machine, Did, idle, follows, keeps, replies, does, stays, lost, tries, acts, turn}
+use Rattle.machine.specs.Engine.{Out, taskAt, goesOn, pointOf, answerTo, noted, given, performed, sameHeader, fits, refuse, taskStep, step}
+use Rattle.machine.specs.Reference.{Thread, Machine, Did, idle, keeps, replies, does, stays, lost, tries, acts, turn}
 use Rattle.machine.specs.Alike.{returnsOf, SameTask}
 use Rattle.machine.specs.Ways.{may}
 use Rattle.machine.specs.declared.Effect.{Effect}
 use Rattle.machine.specs.declared.Outcome.{Outcome}
 use Rattle.machine.specs.declared.Outcome.the-variants.{GoOn, Stay, Jump, Call, Return, Start, Restart, End, Halt}
-use Rattle.machine.specs.declared.Answer.the-variants.{Done, NoTask, Inputs as BadInputs, NotRunning, Halted}
+use Rattle.machine.specs.declared.Answer.the-variants.{Done, NoTask, Inputs as BadInputs, NotRunning}
 use Rattle.machine.proofs.Accepted.{Accepted, hd, body, within, passing}
 use Rattle.machine.proofs.Turn.{after, Both, turned}
 use Rattle.machine.proofs.Outcomes.{return-deep}

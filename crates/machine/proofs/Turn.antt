@@ -1,17 +1,14 @@
 -- The tasks of the engine and of the reference machine after a command, outcome by outcome: both stay alike, and the invariant holds on. Assumes nothing.
-use Prim.Native.Nat.{ℕ, zero, suc, _+_, _-_, _<_, _≤_}
-use mathlib.Core.Path.{_≡_, refl, sym, ap, subst, _∙_}
-use mathlib.Core.Bool.{Bool, true, false, not, _||_, cond}
+use Prim.Native.Nat.{ℕ, zero, suc, _+_, _<_}
+use mathlib.Core.Path.{_≡_, refl, sym, ap, _∙_}
+use mathlib.Core.Bool.{true}
 use mathlib.Core.List.{List, [], _∷_}
 use native.Mathlib.Omega.{arith}
 use native.Mathlib.Decide.{ℕ-discrete}
-use lib.Dec.{eqb, leb}
 use lib.ListN.{length, getD, set, length-set}
 use lib.Seq.{getD-set-same, getD-set-other}
-use borrow.Author.Tests.{eqb-true, eqb-false, leb-false, ne-eqb}
-use Rattle.image.specs.Scan.{headerOf, blocksOf}
+use borrow.Author.Tests.{eqb-false, leb-false}
 use Rattle.image.specs.declared.Header.{Header}
-use Rattle.image.proofs.Choice.{clash}
 use Rattle.point.specs.Flow.{taskCount, flowOf}
 use Rattle.point.specs.Fault.{point, mostDepth}
 use Rattle.point.specs.declared.Point.{Point}
@@ -22,14 +19,14 @@ use Rattle.walk.specs.Successors.{goes as walked}
 use Rattle.command.specs.declared.Command.{Command}
 use Rattle.state.specs.State.{runs, ended, halted}
 use Rattle.state.specs.declared.Task.{Task}
-use Rattle.machine.specs.Engine.{noTask, goTo, stayWith, callTo, returnFrom, startAnew, restarted, stopped, pointOf, isWait}
+use Rattle.machine.specs.Engine.{noTask, goTo, stayWith, callTo, returnFrom, startAnew, restarted, stopped, pointOf}
 use Rattle.machine.specs.Reference.{Thread, thread, off, goes, back, anew, idle, follows}
 use Rattle.machine.specs.Ways.{may}
 use Rattle.machine.specs.Alike.{SameTask}
 use Rattle.machine.specs.declared.Outcome.{Outcome}
 use Rattle.machine.specs.declared.Outcome.the-variants.{GoOn, Stay, Jump, Call, Return, Start, Restart, End, Halt}
 use Rattle.machine.proofs.Accepted.{Accepted, hd, body, within, passing, reach-next}
-use Rattle.machine.proofs.Outcomes.{beyond, on-in, jump-in, call-in, behind-in, call-deep, return-deep, start-in, start-on}
+use Rattle.machine.proofs.Outcomes.{on-in, jump-in, call-in, behind-in, call-deep, return-deep, start-in, start-on}
 use Rattle.machine.proofs.Sound.{Sound, go-sound, stay-sound, call-sound, return-sound, restart-sound, stop-sound, start-sound}
 use Rattle.machine.proofs.Same.{go-same, stay-same, call-same, return-same, restart-same, stop-same, start-same}
 use Rattle.machine.proofs.StayLaw.{timeless}

@@ -1,20 +1,19 @@
 -- The engine's step on values (document 01, "Running", and 15, 18, 17, 19, 20): the tests in their order, then the command, with a call stack of
 -- bounded length for each task. 16 is the buffer's. Assumes nothing.
 use Prim.Native.Nat.{ℕ, _+_, _-_}
-use mathlib.Core.Bool.{Bool, true, false, _&&_, _||_, not, cond}
-use mathlib.Core.List.{List, [], _∷_}
+use mathlib.Core.Bool.{Bool, _&&_, _||_, not, cond}
+use mathlib.Core.List.{List, []}
 use lib.Dec.{eqb, ltb}
 use lib.ListN.{length, getD, set}
 use Rattle.image.specs.Outcome.{done}
 use Rattle.image.specs.Scan.{headerOf, blocksOf}
 use Rattle.image.specs.declared.Header.{Header}
 use Rattle.rows.specs.Rows.{hex}
-use Rattle.command.specs.declared.Command.{Command}
 use Rattle.point.specs.Flow.{bias, taskCount}
 use Rattle.point.specs.Fault.{point, faultNumber}
 use Rattle.point.specs.declared.Point.{Point}
 use Rattle.walk.specs.Program.{commandAt, faultAt, blockNumber}
-use Rattle.state.specs.State.{cells, runs, ended, halted, emptyStack, task, running, neverStarted, withValues, withTask, withNotes}
+use Rattle.state.specs.State.{cells, runs, ended, halted, emptyStack, task, withValues, withTask, withNotes}
 use Rattle.state.specs.declared.Task.{Task}
 use Rattle.state.specs.declared.Values.{Values}
 use Rattle.state.specs.declared.State.{State}

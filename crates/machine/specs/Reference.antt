@@ -8,12 +8,10 @@ use lib.Dec.{eqb, ltb}
 use lib.ListN.{length, getD, set, replicate}
 use lib.IntN.{pos}
 use Rattle.image.specs.Scan.{headerOf, blocksOf}
-use Rattle.command.specs.declared.Command.{Command}
 use Rattle.rows.specs.Rows.{rowOf}
 use Rattle.walk.specs.Program.{commandAt}
-use Rattle.point.specs.Fault.{point}
 use Rattle.state.specs.declared.Values.{Values}
-use Rattle.machine.specs.Given.{Inputs, Given, level}
+use Rattle.machine.specs.Given.{Inputs, level}
 use Rattle.machine.specs.Effect.{effectOf}
 use Rattle.machine.specs.declared.Motion.{Motion}
 use Rattle.machine.specs.declared.Motion.the-variants.{None}
@@ -109,7 +107,7 @@ replies Return t k = Done
 replies (Start u a) t k = Done
 replies Restart t k = Done
 replies End t k = Done
-replies (Halt n) t k = Halted n (point t (k .block) (length (k .returns)))
+replies (Halt n) t k = Halted n (record { task = t; block = k .block; depth = length (k .returns) })
 
 -- BIAS's steps note the start input's level
 abbrev pub keeps : ℕ → ℕ → Values → Values

@@ -3,15 +3,13 @@ use Prim.Native.Nat.{ℕ, _<_, _≤_}
 use mathlib.Core.Path.{_≡_}
 use mathlib.Core.List.{List, [], _∷_}
 use Rattle.image.specs.Scan.{headerOf, blocksOf}
-use Rattle.point.specs.Flow.{taskCount}
 use Rattle.point.specs.Fault.{mostDepth}
 use Rattle.point.specs.declared.Fault.the-variants.{Fine}
 use Rattle.walk.specs.Program.{faultAt, blockNumber}
-use Rattle.state.specs.State.{runs}
 use Rattle.state.specs.declared.Task.{Task}
 use Rattle.state.specs.declared.State.{State}
 use Rattle.machine.specs.Given.{Inputs}
-use Rattle.machine.specs.Engine.{Out, step, taskAt, pointOf}
+use Rattle.machine.specs.Engine.{Out, step, pointOf}
 use Rattle.machine.specs.Reference.{Machine, Did, turn}
 
 -- what the engine hands out, step by step, and the state after the list

@@ -1,6 +1,6 @@
 // The verdict on an image with lent marks (document 01, "Refused because of the input"; 16, which comes second in a load, belongs to the
-// state buffer). No code here: specs/ says what walks are and what a verdict says of them, and
-// computes the verdict; the crate loader finds it.
+// state buffer). No code here: specs/ says what walks are and what a verdict says of them, and computes the verdict; the crate loader
+// finds it.
 use image::Outcome;
 use point::Fault;
 use point::Point;
