@@ -10,7 +10,7 @@ use Rattle.image.specs.Number as number
 use Rattle.image.specs.Rows as header
 use Rattle.image.specs.Scan as scan
 use Rattle.rows.specs.Rows as rows
-use Rattle.command.specs.Operands as operands
+use Rattle.operands.specs.Operands as operands
 use Rattle.command.specs.Judged as judged
 use Rattle.point.specs.Flow as flow
 use Rattle.point.specs.Fault as fault

@@ -16,8 +16,8 @@ use Rattle.drive.specs.declared.Presence.the-variants.{Present, Never}
 use Rattle.image.specs.declared.Header.{Header}
 use Rattle.rows.specs.Rows.{rowOf}
 use Rattle.rows.specs.declared.Row.{Row}
-use Rattle.command.specs.Operands.{byteAt, laidOut, unusedZero}
-use Rattle.command.specs.declared.Command.{Command}
+use Rattle.operands.specs.Operands.{byteAt, laidOut, unusedZero}
+use Rattle.operands.specs.declared.Command.{Command}
 use Rattle.command.specs.declared.Decoded.{Decoded}
 use Rattle.command.specs.declared.Decoded.the-variants.{Sound, NotCarried, NotOnDrive, OutOfRange, NotZero}
 

@@ -1,23 +1,13 @@
 // A block decoded and judged (document 01, refusals 5 to 8): its operands, where its code's row has them, or why it is refused.
-// operands.rt reads the operands, devices.rt asks the drive, ranges.rt judges the operands.
+// Crate `operands` reads the operands, devices.rt asks the drive, ranges.rt judges the operands.
 use image::Header;
+use operands::Command;
 use rows::Row;
 ghost use mathlib.Core.Path.{_≡_};
 ghost use Rattle.command.specs.Judged.{judgedBy, decoded, blockRefusal};
 
 pub mod devices;
-pub mod operands;
 pub mod ranges;
-
-// A command: its code and its operands. An operand that the code's layout does not have is 0.
-pub struct Command {
-    pub code: u8,
-    pub x: u8,
-    pub y: u8,
-    pub z: u8,
-    pub word: u16,
-    pub value: i32,
-}
 
 // A block judged: its command, or the first of 5 to 8 that it breaks. What is not on the drive carries its own number.
 pub enum Decoded {

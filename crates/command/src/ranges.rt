@@ -1,5 +1,5 @@
 // The ranges of the operands (document 01, refusal 7), by the ranges of a code's row: one small test for each.
-use crate::Command;
+use operands::Command;
 ghost use mathlib.Core.Path.{_≡_};
 ghost use Rattle.command.specs.Judged.{upTo, levelJump, bitJump, conditionJump, flagRun, axis, stop, rampStop, inRange};
 

@@ -6,7 +6,7 @@ use mathlib.Core.Bool.{Bool, true, false, _||_, cond}
 use lib.Dec.{eqb}
 use Rattle.arith.specs.declared.Quotient.{Quotient}
 use Rattle.arith.specs.declared.Quotient.the-variants.{Value, ByZero}
-use Rattle.command.specs.declared.Command.{Command}
+use Rattle.operands.specs.declared.Command.{Command}
 use Rattle.state.specs.State.{withAxis, withMark}
 use Rattle.state.specs.declared.Axis.{Axis}
 use Rattle.state.specs.declared.Values.{Values}

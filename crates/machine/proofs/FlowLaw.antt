@@ -6,7 +6,7 @@ use mathlib.Core.Bool.{Bool, true, false, cond}
 use lib.Dec.{eqb}
 use borrow.Author.Tests.{eq-eqb}
 use Rattle.rows.specs.Rows.{hex, rows, rowIn, rowOf}
-use Rattle.command.specs.declared.Command.{Command}
+use Rattle.operands.specs.declared.Command.{Command}
 use Rattle.command.specs.Judged.{mostSpeed, mostRamp}
 use mir.Syntax.{w32}
 use Rattle.arith.specs.Ops.{holds, bitAt}

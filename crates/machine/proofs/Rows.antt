@@ -10,7 +10,7 @@ use Rattle.image.proofs.Choice.{clash}
 use Rattle.rows.specs.Rows.{rows, rowIn, rowOf, noRow}
 use Rattle.rows.specs.declared.Row.{Row as Columns}
 use Rattle.rows.proofs.Laws.{every, every-row}
-use Rattle.command.specs.declared.Command.{Command}
+use Rattle.operands.specs.declared.Command.{Command}
 use Rattle.machine.specs.Effect.{Deed, Row, deedIn}
 use Rattle.machine.specs.Effect.{rows as deeds}
 

@@ -5,7 +5,7 @@ use mathlib.Core.Bool.{Bool, true, not, _||_, or-true}
 use lib.Dec.{eqb}
 use Rattle.rows.specs.Rows.{hex, rowOf}
 use Rattle.command.specs.Judged.{mostSpeed, mostRamp}
-use Rattle.command.specs.declared.Command.{Command}
+use Rattle.operands.specs.declared.Command.{Command}
 use mir.Syntax.{w32}
 use Rattle.arith.specs.Ops.{quotient, holds, bitAt}
 use Rattle.state.specs.State.{withSpeed, withAcceleration, withDeceleration}

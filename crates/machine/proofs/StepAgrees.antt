@@ -14,7 +14,7 @@ use Rattle.rows.specs.Rows.{rows, rowIn, rowOf, noRow}
 use Rattle.rows.specs.declared.Row.{Row as Columns}
 use Rattle.rows.proofs.Laws.{every, every-row}
 use Rattle.walk.proofs.Moves.{carried}
-use Rattle.command.specs.declared.Command.{Command}
+use Rattle.operands.specs.declared.Command.{Command}
 use Rattle.point.specs.Flow.{bias, taskCount, flowOf}
 use Rattle.point.specs.Fault.{permitted}
 use Rattle.walk.specs.Program.{commandAt}

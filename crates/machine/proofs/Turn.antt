@@ -16,7 +16,7 @@ use Rattle.walk.specs.Program.{commandAt}
 use Rattle.walk.specs.Walk.{Reaches}
 use Rattle.walk.specs.Graph.{In}
 use Rattle.walk.specs.Successors.{goes as walked}
-use Rattle.command.specs.declared.Command.{Command}
+use Rattle.operands.specs.declared.Command.{Command}
 use Rattle.state.specs.State.{runs, ended, halted}
 use Rattle.state.specs.declared.Task.{Task}
 use Rattle.machine.specs.Engine.{noTask, goTo, stayWith, callTo, returnFrom, startAnew, restarted, stopped, pointOf}

@@ -11,7 +11,7 @@ use Rattle.image.proofs.Choice.{both}
 use Rattle.rows.specs.Rows.{hex, noRow, rows, rowIn, rowOf, ending}
 use Rattle.rows.specs.declared.Row.{Row}
 use Rattle.rows.proofs.Laws.{every, every-row, same, same-is}
-use Rattle.command.specs.declared.Command.{Command}
+use Rattle.operands.specs.declared.Command.{Command}
 use Rattle.point.specs.Fault.{foreign}
 
 only51 : ℕ → Row → Bool

@@ -4,7 +4,7 @@ use mathlib.Core.Path.{_≡_, refl, sym, _∙_}
 use mathlib.Core.Bool.{true, false, or-false}
 use mathlib.Core.List.{[], _∷_}
 use lib.Dec.{leb}
-use Rattle.command.proofs.Tables.{NoneFrom, by-default}
+use Rattle.operands.proofs.Tables.{NoneFrom, by-default}
 use Rattle.rows.specs.Rows.{rowOf}
 use Rattle.point.specs.Flow.{flows, flowBy}
 use Rattle.point.specs.Fault.{boxes, permitted, anyPast}

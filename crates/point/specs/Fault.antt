@@ -7,7 +7,7 @@ use lib.Dec.{eqb, leb}
 use lib.ListN.{getD}
 use Rattle.rows.specs.Rows.{B, P, M, rowOf, ending}
 use Rattle.image.specs.declared.Header.{Header}
-use Rattle.command.specs.declared.Command.{Command}
+use Rattle.operands.specs.declared.Command.{Command}
 use Rattle.point.specs.Flow.{flowOf, continues}
 use Rattle.point.specs.declared.Point.{Point}
 use Rattle.point.specs.declared.Flow.{Flow}

@@ -1,7 +1,7 @@
 // Points of a walk and what one point breaks (document 01, "Walks"; refusals 7 of a foreign 51, then 9, 10, 11, 12), and what a command may
 // continue with.
-use command::Command;
 use image::Header;
+use operands::Command;
 ghost use mathlib.Core.Path.{_≡_};
 ghost use mathlib.Core.Bool.{cond};
 ghost use mathlib.Core.List.{[], _∷_};

@@ -5,7 +5,7 @@ use mathlib.Core.Bool.{Bool, true, false, cond}
 use mathlib.Core.List.{List, [], _∷_}
 use native.Mathlib.Omega.{arith}
 use Rattle.image.specs.declared.Header.{Header}
-use Rattle.command.specs.declared.Command.{Command}
+use Rattle.operands.specs.declared.Command.{Command}
 use Rattle.point.specs.Flow.{flowOf}
 use Rattle.point.specs.Fault.{faultOf, faultNumber}
 use Rattle.point.specs.declared.Point.{Point}

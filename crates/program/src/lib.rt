@@ -1,9 +1,8 @@
 // The blocks of an image as a graph of points: the command at a block, what a point breaks, and the points that follow it. Blocks are any bytes:
 // a byte past their end is read as 0.
-use command::Command;
-use command::operands;
 use image::Header;
 use image::reader;
+use operands::Command;
 use point::Fault;
 use point::Flow;
 use point::Point;

@@ -10,7 +10,7 @@ use borrow.Author.Tests.{leb-true, le-leb}
 use Rattle.image.specs.declared.Header.{Header}
 use Rattle.image.proofs.Choice.{clash}
 use Rattle.rows.specs.Rows.{hex}
-use Rattle.command.specs.declared.Command.{Command}
+use Rattle.operands.specs.declared.Command.{Command}
 use Rattle.point.specs.Flow.{flowOf, continues}
 use Rattle.point.specs.Fault.{point, permitted, anyPast}
 use Rattle.point.specs.declared.Point.{Point}

@@ -5,7 +5,7 @@ use mathlib.Core.List.{List, [], _∷_}
 use Prim.Native.Nat.{ℕ}
 use Rattle.image.specs.declared.Header.{Header}
 use Rattle.rows.specs.Rows.{hex, rowOf, rowIn, rows}
-use Rattle.command.specs.Operands.{operands, laidOut}
+use Rattle.operands.specs.Operands.{operands, laidOut}
 use Rattle.point.specs.Flow.{bias, plc, mathematics}
 use Rattle.point.specs.Fault.{point}
 use Rattle.point.specs.declared.Point.{Point}

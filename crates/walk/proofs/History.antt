@@ -12,7 +12,7 @@ use borrow.Author.Tests.{eqb-true}
 use Rattle.image.specs.Rows.{mostBlocks}
 use Rattle.image.specs.declared.Header.{Header}
 use Rattle.rows.specs.Rows.{hex}
-use Rattle.command.specs.declared.Command.{Command}
+use Rattle.operands.specs.declared.Command.{Command}
 use Rattle.point.specs.Flow.{bias, plc, mathematics, flowOf}
 use Rattle.point.specs.Fault.{point}
 use Rattle.point.specs.declared.Point.{Point}

@@ -12,7 +12,7 @@ use borrow.Author.Tests.{leb-false}
 use Rattle.image.specs.declared.Header.{Header}
 use Rattle.image.proofs.Choice.{clash}
 use Rattle.rows.specs.Rows.{rowOf}
-use Rattle.command.specs.declared.Command.{Command}
+use Rattle.operands.specs.declared.Command.{Command}
 use Rattle.point.specs.Flow.{taskCount, flowBy, flowOf, continues}
 use Rattle.point.specs.Fault.{mostDepth, point, foreign, permitted, tooDeep, noCall, anyPast, flowFault, faultOf}
 use Rattle.point.specs.declared.Point.{Point}

@@ -4,9 +4,9 @@ use mathlib.Core.List.{List, [], _∷_}
 use lib.ListN.{getD}
 use Rattle.image.specs.Scan.{blockLength}
 use Rattle.image.specs.declared.Header.{Header}
-use Rattle.command.specs.Operands.{operands}
+use Rattle.operands.specs.Operands.{operands}
 use Rattle.command.specs.Judged.{decoded, blockRefusal}
-use Rattle.command.specs.declared.Command.{Command}
+use Rattle.operands.specs.declared.Command.{Command}
 use Rattle.point.specs.Fault.{faultOf}
 use Rattle.point.specs.declared.Point.{Point}
 use Rattle.point.specs.declared.Fault.{Fault}

@@ -1,6 +1,6 @@
 -- `command_at` meets its contract: the operands of the block. Assumes nothing.
 use mathlib.Core.Path.{ap, _∙_}
-use Rattle.command.specs.Operands.{operands}
+use Rattle.operands.specs.Operands.{operands}
 use Rattle.walk.specs.Program.{commandAt}
 use borrow.Author.Needs.{needs}
 use Rattle.program.proofs.command_at.Statement.{statement}

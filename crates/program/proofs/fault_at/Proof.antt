@@ -1,6 +1,6 @@
 -- `fault_at` meets its contract: what the command breaks at the point. Assumes nothing.
 use mathlib.Core.Path.{ap, _∙_}
-use Rattle.command.specs.declared.Command.{Command}
+use Rattle.operands.specs.declared.Command.{Command}
 use Rattle.point.specs.Fault.{faultOf}
 use Rattle.walk.specs.Program.{faultAt}
 use Rattle.point.specs.Fault.{faultOf}

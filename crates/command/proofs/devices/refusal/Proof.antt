@@ -3,7 +3,7 @@ use mathlib.Core.Path.{refl, sym, ap}
 use Prim.Native.Nat.{ℕ}
 use Rattle.drive.specs.declared.Drive.{Drive}
 use Rattle.command.specs.Judged.{devices, deviceRefusal}
-use Rattle.command.proofs.Tables.{by-default}
+use Rattle.operands.proofs.Tables.{by-default}
 use Rattle.command.proofs.devices.refusal.Statement.{statement}
 use Rattle.command.proofs.devices.refusal.Tie as tie
 

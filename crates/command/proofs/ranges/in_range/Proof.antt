@@ -11,8 +11,8 @@ use mir.Val.{hbits, ofZ}
 use Rattle.arith.specs.Ops.{eqZ}
 use Rattle.arith.proofs.Tests.{same-bits}
 use Rattle.command.specs.Judged.{ranges, inRange}
-use Rattle.command.specs.declared.Command.{Command}
-use Rattle.command.proofs.Tables.{by-default}
+use Rattle.operands.specs.declared.Command.{Command}
+use Rattle.operands.proofs.Tables.{by-default}
 use Rattle.command.proofs.ranges.in_range.Statement.{statement}
 use Rattle.command.proofs.ranges.in_range.Tie as tie
 

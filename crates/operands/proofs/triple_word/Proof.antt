@@ -1,7 +1,7 @@
 -- `triple_word` meets its contract: its word is the number of D4 and D5. Assumes nothing.
 use native.Mathlib.Omega.{arith}
-use Rattle.command.proofs.operands.triple_word.Statement.{statement}
-use Rattle.command.proofs.operands.triple_word.Tie as tie
+use Rattle.operands.proofs.triple_word.Statement.{statement}
+use Rattle.operands.proofs.triple_word.Tie as tie
 
 array-read-t6 : tie.Need-array-read-t6
 array-read-t6 c = omega arith

@@ -1,9 +1,9 @@
--- `byte_value` meets its contract: its value is the number of D2 to D5. Assumes nothing.
+-- `value` meets its contract: its value is the number of D1 to D4. Assumes nothing.
 use mir.Syntax.{w32}
 use native.Mathlib.Omega.{arith}
 use Rattle.arith.proofs.Range.{got}
-use Rattle.command.proofs.operands.byte_value.Statement.{statement}
-use Rattle.command.proofs.operands.byte_value.Tie as tie
+use Rattle.operands.proofs.value.Statement.{statement}
+use Rattle.operands.proofs.value.Tie as tie
 
 array-read-t6 : tie.Need-array-read-t6
 array-read-t6 c = omega arith
@@ -23,14 +23,11 @@ read-i32-requires c κs = tt
 array-read-t6-2 : tie.Need-array-read-t6-2
 array-read-t6-2 c = omega arith
 
-array-read-t9-2 : tie.Need-array-read-t9-2
-array-read-t9-2 c = omega arith
-
 returns : tie.Need-returns
 returns c = rw (got w32 (c .read-i32 .ok) (c .read-i32 .ensures))
 
-pub byte-value-spec : {M : Type 1} → statement M
-byte-value-spec =
+pub value-spec : {M : Type 1} → statement M
+value-spec =
     tie.close
     (tie.spec
     array-read-t6
@@ -39,5 +36,4 @@ byte-value-spec =
     array-read-t15
     read-i32-requires
     array-read-t6-2
-    array-read-t9-2
     returns)

@@ -4,10 +4,10 @@ use mathlib.Core.Path.{_≡_, sym, _∙_}
 use Prim.Native.Nat.{_-_}
 use native.Mathlib.Omega.{arith}
 use lib.ListN.{drop}
-use Rattle.command.specs.Operands.{allZero, unusedZero}
-use Rattle.command.proofs.Unused.{used-most, done, found, passed}
-use Rattle.command.proofs.operands.unused_zero.Statement.{statement}
-use Rattle.command.proofs.operands.unused_zero.Tie as tie
+use Rattle.operands.specs.Operands.{allZero, unusedZero}
+use Rattle.operands.proofs.Unused.{used-most, done, found, passed}
+use Rattle.operands.proofs.unused_zero.Statement.{statement}
+use Rattle.operands.proofs.unused_zero.Tie as tie
 
 abbrev Inv-loop : tie.InvT-loop
 Inv-loop layout block k₀ k = allZero (drop k block) ≡ unusedZero layout block

@@ -6,9 +6,9 @@ use native.Mathlib.Omega.{arith}
 use mir.Syntax.{w32}
 use Rattle.arith.specs.LittleEndian.{leNumber}
 use Rattle.arith.proofs.Range.{got}
-use Rattle.command.specs.Operands.{byteAt}
-use Rattle.command.proofs.operands.value_jump.Statement.{statement}
-use Rattle.command.proofs.operands.value_jump.Tie as tie
+use Rattle.operands.specs.Operands.{byteAt}
+use Rattle.operands.proofs.value_jump.Statement.{statement}
+use Rattle.operands.proofs.value_jump.Tie as tie
 
 -- two bytes, the low one first, as a sum
 spelled : (low high : ℕ) {w : ℕ} → w ≡ leNumber (low ∷ high ∷ []) → w ≡ 256 * high + low

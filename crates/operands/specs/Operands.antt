@@ -10,7 +10,7 @@ use mir.Syntax.{w32}
 use mir.Val.{toZ}
 use Rattle.arith.specs.LittleEndian.{leNumber}
 use Rattle.rows.specs.Rows.{rowOf}
-use Rattle.command.specs.declared.Command.{Command}
+use Rattle.operands.specs.declared.Command.{Command}
 
 abbrev pub command : ℕ → ℕ → ℕ → ℕ → ℕ → ℤ → Command
 command code x y z word value = record { code = code; x = x; y = y; z = z; word = word; value = value }

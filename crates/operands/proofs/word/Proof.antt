@@ -1,7 +1,7 @@
 -- `word` meets its contract: its word is the number of D1 and D2. Assumes nothing.
 use native.Mathlib.Omega.{arith}
-use Rattle.command.proofs.operands.word.Statement.{statement}
-use Rattle.command.proofs.operands.word.Tie as tie
+use Rattle.operands.proofs.word.Statement.{statement}
+use Rattle.operands.proofs.word.Tie as tie
 
 array-read-t6 : tie.Need-array-read-t6
 array-read-t6 c = omega arith

@@ -1,9 +1,9 @@
 -- `used_bytes` meets its contract: each arm is an entry of the definition's table, and the others are its default. Assumes nothing.
 use mathlib.Core.Path.{refl, sym}
-use Rattle.command.specs.Operands.{used, usedBytes}
-use Rattle.command.proofs.Tables.{by-default}
-use Rattle.command.proofs.operands.used_bytes.Statement.{statement}
-use Rattle.command.proofs.operands.used_bytes.Tie as tie
+use Rattle.operands.specs.Operands.{used, usedBytes}
+use Rattle.operands.proofs.Tables.{by-default}
+use Rattle.operands.proofs.used_bytes.Statement.{statement}
+use Rattle.operands.proofs.used_bytes.Tie as tie
 
 returns : tie.Need-returns
 unfolding usedBytes

@@ -1,10 +1,19 @@
 // The operands of a block, where its code's layout has them. Nothing is judged but that unused bytes are 0.
-use crate::Command;
 use arith::le;
 use image::reader;
 ghost use mathlib.Core.Path.{_≡_};
-ghost use Rattle.command.specs.Operands.{laidOut, operands, usedBytes, unusedZero};
-ghost use Rattle.command.specs.Operands.{byteOf, wordOf, pairOf, tripleOf, tripleWordOf, byteWordOf, valueOf, byteValueOf, pairValueOf, valueJumpOf, bareOf};
+ghost use Rattle.operands.specs.Operands.{laidOut, operands, usedBytes, unusedZero};
+ghost use Rattle.operands.specs.Operands.{byteOf, wordOf, pairOf, tripleOf, tripleWordOf, byteWordOf, valueOf, byteValueOf, pairValueOf, valueJumpOf, bareOf};
+
+// A command: its code and its operands. An operand that the code's layout does not have is 0.
+pub struct Command {
+    pub code: u8,
+    pub x: u8,
+    pub y: u8,
+    pub z: u8,
+    pub word: u16,
+    pub value: i32,
+}
 
 // The command of a block, without judging it. A code that is not carried has no operands.
 pub fn read(block: [u8; 8]) -> Command

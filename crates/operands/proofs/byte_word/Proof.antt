@@ -1,7 +1,7 @@
 -- `byte_word` meets its contract: its word is the number of D2 and D3. Assumes nothing.
 use native.Mathlib.Omega.{arith}
-use Rattle.command.proofs.operands.byte_word.Statement.{statement}
-use Rattle.command.proofs.operands.byte_word.Tie as tie
+use Rattle.operands.proofs.byte_word.Statement.{statement}
+use Rattle.operands.proofs.byte_word.Tie as tie
 
 array-read-t6 : tie.Need-array-read-t6
 array-read-t6 c = omega arith

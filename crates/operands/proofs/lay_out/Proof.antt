@@ -2,11 +2,11 @@
 use mathlib.Core.Path.{refl, sym, ap, _∙_}
 use mathlib.Core.List.{List}
 use Prim.Native.Nat.{ℕ}
-use Rattle.command.specs.Operands.{bareOf, layouts, laidOut}
-use Rattle.command.specs.declared.Command.{Command}
-use Rattle.command.proofs.Tables.{by-default}
-use Rattle.command.proofs.operands.lay_out.Statement.{statement}
-use Rattle.command.proofs.operands.lay_out.Tie as tie
+use Rattle.operands.specs.Operands.{bareOf, layouts, laidOut}
+use Rattle.operands.specs.declared.Command.{Command}
+use Rattle.operands.proofs.Tables.{by-default}
+use Rattle.operands.proofs.lay_out.Statement.{statement}
+use Rattle.operands.proofs.lay_out.Tie as tie
 
 byte-requires : tie.Need-byte-requires
 byte-requires c κs = tt

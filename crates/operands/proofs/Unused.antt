@@ -9,7 +9,7 @@ use lib.ListN.{length, getD, drop, drop-of-length-le}
 use lib.Seq.{drop-cons}
 use borrow.Author.Tests.{leb-true, eq-eqb, ne-eqb}
 use Rattle.image.proofs.Choice.{both}
-use Rattle.command.specs.Operands.{used, usedBytes, allZero}
+use Rattle.operands.specs.Operands.{used, usedBytes, allZero}
 
 -- every number of a list is at most m
 abbrev every : ℕ → List ℕ → Bool

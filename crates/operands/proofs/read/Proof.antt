@@ -1,8 +1,8 @@
 -- `read` meets its contract: the layout is that of the code's row. Assumes nothing.
 use native.Mathlib.Omega.{arith}
-use Rattle.command.specs.Operands.{operands}
-use Rattle.command.proofs.operands.read.Statement.{statement}
-use Rattle.command.proofs.operands.read.Tie as tie
+use Rattle.operands.specs.Operands.{operands}
+use Rattle.operands.proofs.read.Statement.{statement}
+use Rattle.operands.proofs.read.Tie as tie
 
 array-read-find : tie.Need-array-read-find
 array-read-find c = omega arith
