@@ -12,7 +12,8 @@ use Rattle.image.specs.Scan as scan
 use Rattle.rows.specs.Rows as rows
 use Rattle.operands.specs.Operands as operands
 use Rattle.command.specs.Judged as judged
-use Rattle.point.specs.Flow as flow
+use Rattle.flow.specs.Flow as flow
+use Rattle.flow.specs.Tasks as tasks
 use Rattle.point.specs.Fault as fault
 use Rattle.walk.specs.Program as program
 use Rattle.walk.specs.Index.{marksLength, indexOf, pointAt}
@@ -49,7 +50,8 @@ unfolding table
     operands.laidOut operands.operands operands.usedBytes operands.allZero operands.unusedZero
     judged.deviceRefusal judged.inRange judged.judgedBy judged.decodedBy judged.decoded
     flow.flowBy flow.flowOf
-    fault.foreign fault.permitted fault.flowFault fault.faultOf
+    tasks.foreign tasks.permitted
+    fault.flowFault fault.faultOf
     program.commandAt program.faultAt
     indexOf pointAt
     successors.successors successors.indices successors.nextOf

@@ -55,7 +55,7 @@ fn search(header: Header, blocks: &[u8], marks: &mut [u8]) -> Verdict
 fn root(header: Header) -> usize
     ensures { λ r. ⌜ r ≡ rootOf header ⌝ }
 {
-    program::number(point::BIAS, header.start as u32, 0)
+    program::number(flow::BIAS, header.start as u32, 0)
 }
 
 // Clears the marks and marks the first point as pending.

@@ -11,7 +11,7 @@ use Rattle.image.specs.declared.Header.{Header}
 use Rattle.image.proofs.Choice.{clash}
 use Rattle.image.proofs.HeaderLaws.{header-good}
 use Rattle.point.specs.Fault.{isForeign, isBad}
-use Rattle.point.specs.Flow.{flowOf}
+use Rattle.flow.specs.Flow.{flowOf}
 use Rattle.point.specs.declared.Point.{Point}
 use Rattle.point.specs.declared.Fault.{Fault}
 use Rattle.point.specs.declared.Fault.the-variants.{Fine, Foreign, Forbidden, TooDeep, NoCall, PastEnd}

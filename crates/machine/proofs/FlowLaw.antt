@@ -10,8 +10,8 @@ use Rattle.operands.specs.declared.Command.{Command}
 use Rattle.command.specs.Judged.{mostSpeed, mostRamp}
 use mir.Syntax.{w32}
 use Rattle.arith.specs.Ops.{holds, bitAt}
-use Rattle.point.specs.Flow.{bias, plc, mathematics, flowBy, flowOf}
-use Rattle.point.specs.declared.Flow.the-variants as flow
+use Rattle.flow.specs.Flow.{bias, plc, mathematics, flowBy, flowOf}
+use Rattle.flow.specs.declared.Flow.the-variants as flow
 use Rattle.state.specs.State.{withSpeed, withAcceleration, withDeceleration}
 use Rattle.state.specs.declared.Values.{Values}
 use Rattle.machine.specs.Given.{Given, inputAt}

@@ -9,8 +9,8 @@ use borrow.Author.Tests.{eqb-true, ne-eqb}
 use Rattle.image.proofs.Choice.{clash, both}
 use Rattle.point.specs.Fault.{point, tooDeep, noCall, mostDepth}
 use Rattle.point.specs.declared.Point.{Point}
-use Rattle.point.specs.declared.Flow.{Flow}
-use Rattle.point.specs.declared.Flow.the-variants as flow
+use Rattle.flow.specs.declared.Flow.{Flow}
+use Rattle.flow.specs.declared.Flow.the-variants as flow
 use Rattle.walk.specs.Graph.{In}
 use Rattle.walk.specs.Successors.{goes}
 use Rattle.machine.specs.Ways.{may}

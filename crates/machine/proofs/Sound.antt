@@ -11,7 +11,7 @@ use lib.ListN.{length, getD, set, length-set}
 use lib.Seq.{getD-set-same, getD-set-other}
 use borrow.Author.Tests.{eqb-true}
 use Rattle.image.specs.declared.Header.{Header}
-use Rattle.point.specs.Flow.{bias}
+use Rattle.flow.specs.Flow.{bias}
 use Rattle.point.specs.Fault.{point, mostDepth}
 use Rattle.walk.specs.Program.{commandAt}
 use Rattle.walk.specs.Walk.{Walk, Reaches}

@@ -15,8 +15,8 @@ use Rattle.rows.specs.declared.Row.{Row as Columns}
 use Rattle.rows.proofs.Laws.{every, every-row}
 use Rattle.walk.proofs.Moves.{carried}
 use Rattle.operands.specs.declared.Command.{Command}
-use Rattle.point.specs.Flow.{bias, taskCount, flowOf}
-use Rattle.point.specs.Fault.{permitted}
+use Rattle.flow.specs.Flow.{bias, taskCount, flowOf}
+use Rattle.flow.specs.Tasks.{permitted}
 use Rattle.walk.specs.Program.{commandAt}
 use Rattle.walk.specs.Walk.{Reaches}
 use Rattle.state.specs.State.{cells, runs, withValues, withNotes}

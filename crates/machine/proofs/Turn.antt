@@ -9,7 +9,7 @@ use lib.ListN.{length, getD, set, length-set}
 use lib.Seq.{getD-set-same, getD-set-other}
 use borrow.Author.Tests.{eqb-false, leb-false}
 use Rattle.image.specs.declared.Header.{Header}
-use Rattle.point.specs.Flow.{taskCount, flowOf}
+use Rattle.flow.specs.Flow.{taskCount, flowOf}
 use Rattle.point.specs.Fault.{point, mostDepth}
 use Rattle.point.specs.declared.Point.{Point}
 use Rattle.walk.specs.Program.{commandAt}

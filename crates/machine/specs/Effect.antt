@@ -18,7 +18,7 @@ use Rattle.drive.specs.Types.{type637Plus}
 use Rattle.rows.specs.Rows.{hex}
 use Rattle.command.specs.Judged.{mostSpeed, mostRamp}
 use Rattle.operands.specs.declared.Command.{Command}
-use Rattle.point.specs.Flow.{bias, plc, mathematics}
+use Rattle.flow.specs.Flow.{bias, plc, mathematics}
 use Rattle.state.specs.State.{withVariable, withFlag, withOutput, withAxis, withMark, withPosition, withSpeed, withAcceleration, withDeceleration}
 use Rattle.state.specs.declared.Axis.{Axis}
 use Rattle.state.specs.declared.Values.{Values}

@@ -9,7 +9,7 @@ use Rattle.image.specs.Outcome.{done}
 use Rattle.image.specs.Scan.{headerOf, blocksOf}
 use Rattle.image.specs.declared.Header.{Header}
 use Rattle.rows.specs.Rows.{hex}
-use Rattle.point.specs.Flow.{bias, taskCount}
+use Rattle.flow.specs.Flow.{bias, taskCount}
 use Rattle.point.specs.Fault.{point, faultNumber}
 use Rattle.point.specs.declared.Point.{Point}
 use Rattle.walk.specs.Program.{commandAt, faultAt, blockNumber}

@@ -8,7 +8,7 @@ use lib.Dec.{eqb}
 use lib.IntN.{ℤ, pos}
 use mir.Syntax.{w32}
 use mir.Val.{toZ}
-use Rattle.arith.specs.LittleEndian.{leNumber}
+use Rattle.le.specs.LittleEndian.{leNumber}
 use Rattle.rows.specs.Rows.{rowOf}
 use Rattle.operands.specs.declared.Command.{Command}
 

@@ -1,17 +1,16 @@
 -- What a command breaks at a point (document 01: place) of a walk: 7 for a 51 that ends another task, then 9, 10, 11, 12 (document 01, "Refused
 -- because of the input"). Assumes nothing.
-use Prim.Native.Nat.{ℕ, _+_, _/_, _%_}
-use mathlib.Core.Bool.{Bool, true, false, _&&_, _||_, not, cond}
+use Prim.Native.Nat.{ℕ}
+use mathlib.Core.Bool.{Bool, true, false, _||_, cond}
 use mathlib.Core.List.{List, [], _∷_}
 use lib.Dec.{eqb, leb}
-use lib.ListN.{getD}
-use Rattle.rows.specs.Rows.{B, P, M, rowOf, ending}
 use Rattle.image.specs.declared.Header.{Header}
 use Rattle.operands.specs.declared.Command.{Command}
-use Rattle.point.specs.Flow.{flowOf, continues}
+use Rattle.flow.specs.Flow.{flowOf, continues}
+use Rattle.flow.specs.Tasks.{foreign, permitted}
 use Rattle.point.specs.declared.Point.{Point}
-use Rattle.point.specs.declared.Flow.{Flow}
-use Rattle.point.specs.declared.Flow.the-variants.{Next, Wait, Jump, Branch, Call, Return, Start, Restart, End}
+use Rattle.flow.specs.declared.Flow.{Flow}
+use Rattle.flow.specs.declared.Flow.the-variants.{Next, Wait, Jump, Branch, Call, Return, Start, Restart, End}
 use Rattle.point.specs.declared.Fault.{Fault}
 use Rattle.point.specs.declared.Fault.the-variants.{Fine, Foreign, Forbidden, TooDeep, NoCall, PastEnd}
 
@@ -22,17 +21,6 @@ mostDepth = 8
 -- a point of a walk
 abbrev pub point : ℕ → ℕ → ℕ → Point
 point task block depth = record { task = task; block = block; depth = depth }
-
--- 7: a 51 whose mode names another task than the one that executes it; modes 1, 2 and 3 name BIAS, the PLC and mathematics, mode 0 none
-unfoldable pub foreign : ℕ → Command → Bool
-foreign task c = eqb (rowOf (c .code) .flow) ending && (not (eqb (c .x) 0) && not (eqb (c .x) (task + 1)))
-
--- 9: the boxes of chapter 3, by task, from the number in the row; there is no task above mathematics
-abbrev pub boxes : ℕ → List Bool
-boxes tasks = eqb (tasks / B % 2) 1 ∷ eqb (tasks / P % 2) 1 ∷ eqb (tasks / M % 2) 1 ∷ []
-
-unfoldable pub permitted : ℕ → ℕ → Bool
-permitted code task = getD (boxes (rowOf code .tasks)) task false
 
 -- 10: a call at the greatest depth
 abbrev pub tooDeep : Flow → ℕ → Bool

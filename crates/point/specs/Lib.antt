@@ -1,2 +1,1 @@
-pub mod Flow
 pub mod Fault

@@ -6,7 +6,7 @@ use mathlib.Core.List.{List, [], _∷_}
 use native.Mathlib.Omega.{arith}
 use Rattle.image.specs.declared.Header.{Header}
 use Rattle.operands.specs.declared.Command.{Command}
-use Rattle.point.specs.Flow.{flowOf}
+use Rattle.flow.specs.Flow.{flowOf}
 use Rattle.point.specs.Fault.{faultOf, faultNumber}
 use Rattle.point.specs.declared.Point.{Point}
 use Rattle.point.specs.declared.Fault.{Fault}

@@ -1,10 +1,10 @@
 // The blocks of an image as a graph of points: the command at a block, what a point breaks, and the points that follow it. Blocks are any bytes:
 // a byte past their end is read as 0.
+use flow::Flow;
 use image::Header;
 use image::reader;
 use operands::Command;
 use point::Fault;
-use point::Flow;
 use point::Point;
 ghost use mathlib.Core.Path.{_≡_};
 ghost use mathlib.Core.Bool.{cond};
@@ -17,7 +17,7 @@ ghost use Rattle.walk.specs.Successors.{goes, successors, indices};
 ghost use Rattle.program.specs.Numbers.{numbers};
 
 // The tasks, and the blocks and depths that a task may have: the factors of a point's number.
-pub const TASKS: usize = point::TASK_COUNT as usize;
+pub const TASKS: usize = flow::TASK_COUNT as usize;
 
 pub const BLOCKS: usize = reader::MOST_BLOCKS as usize;
 

@@ -1,7 +1,6 @@
 // Runs vectors with known answers over the crates arith, drive and image, a line for each, and a table of the pins of every drive.
 // What it prints is held to the file stdout, whose answers are document 01's. Each function shows what it does, and gives it back.
 use arith::Quotient;
-use arith::le;
 use drive::Drive;
 use drive::PinKind;
 use drive::Presence;
@@ -19,7 +18,7 @@ ghost use lib.IntN.{_+ℤ_};
 ghost use lib.ListN.{length};
 ghost use mir.Syntax.{w32};
 ghost use Rattle.arith.specs.Wrap.{word, wrap};
-ghost use Rattle.arith.specs.LittleEndian.{leBytes};
+ghost use Rattle.le.specs.LittleEndian.{leBytes};
 ghost use Rattle.image.specs.Number.{numberAt};
 ghost use Rattle.image.specs.Scan.{headerOf};
 ghost use Rattle.writer.specs.Writer.{written, outAfter};

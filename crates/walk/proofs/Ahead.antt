@@ -11,11 +11,12 @@ use Rattle.image.specs.declared.Header.{Header}
 use Rattle.image.proofs.Choice.{clash}
 use Rattle.rows.specs.Rows.{hex}
 use Rattle.operands.specs.declared.Command.{Command}
-use Rattle.point.specs.Flow.{flowOf, continues}
-use Rattle.point.specs.Fault.{point, permitted, anyPast}
+use Rattle.flow.specs.Flow.{flowOf, continues}
+use Rattle.flow.specs.Tasks.{permitted}
+use Rattle.point.specs.Fault.{point, anyPast}
 use Rattle.point.specs.declared.Point.{Point}
-use Rattle.point.specs.declared.Flow.{Flow}
-use Rattle.point.specs.declared.Flow.the-variants.{Next, Wait, Jump, Branch, Call, Return, Start, Restart, End}
+use Rattle.flow.specs.declared.Flow.{Flow}
+use Rattle.flow.specs.declared.Flow.the-variants.{Next, Wait, Jump, Branch, Call, Return, Start, Restart, End}
 use Rattle.walk.specs.Graph.{In}
 use Rattle.walk.specs.Walk.{Step}
 use Rattle.walk.specs.Successors.{goes}

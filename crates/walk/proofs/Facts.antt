@@ -6,7 +6,7 @@ use Prim.Native.Nat.{ℕ}
 use Rattle.image.specs.declared.Header.{Header}
 use Rattle.rows.specs.Rows.{hex, rowOf, rowIn, rows}
 use Rattle.operands.specs.Operands.{operands, laidOut}
-use Rattle.point.specs.Flow.{bias, plc, mathematics}
+use Rattle.flow.specs.Flow.{bias, plc, mathematics}
 use Rattle.point.specs.Fault.{point}
 use Rattle.point.specs.declared.Point.{Point}
 use Rattle.walk.specs.Program.{commandAt}

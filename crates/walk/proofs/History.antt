@@ -13,7 +13,7 @@ use Rattle.image.specs.Rows.{mostBlocks}
 use Rattle.image.specs.declared.Header.{Header}
 use Rattle.rows.specs.Rows.{hex}
 use Rattle.operands.specs.declared.Command.{Command}
-use Rattle.point.specs.Flow.{bias, plc, mathematics, flowOf}
+use Rattle.flow.specs.Flow.{bias, plc, mathematics, flowOf}
 use Rattle.point.specs.Fault.{point}
 use Rattle.point.specs.declared.Point.{Point}
 use Rattle.point.specs.declared.Fault.the-variants.{Fine}

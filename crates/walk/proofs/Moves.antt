@@ -14,11 +14,12 @@ use Rattle.rows.specs.Rows.{hex, noRow, rows, rowIn, rowOf, wait, branch, retur
 use Rattle.rows.specs.Rows.{jump as jumped, call as called}
 use Rattle.rows.specs.declared.Row.{Row}
 use Rattle.rows.proofs.Laws.{every, every-row, same, same-is}
-use Rattle.point.specs.Flow.{bias, plc, mathematics, flowBy}
-use Rattle.point.specs.Fault.{point, boxes, permitted}
+use Rattle.flow.specs.Flow.{bias, plc, mathematics, flowBy}
+use Rattle.flow.specs.Tasks.{boxes, permitted}
+use Rattle.point.specs.Fault.{point}
 use Rattle.point.specs.declared.Point.{Point}
-use Rattle.point.specs.declared.Flow.{Flow}
-use Rattle.point.specs.declared.Flow.the-variants.{Next, Wait, Jump, Branch, Call, Return, Start, Restart, End}
+use Rattle.flow.specs.declared.Flow.{Flow}
+use Rattle.flow.specs.declared.Flow.the-variants.{Next, Wait, Jump, Branch, Call, Return, Start, Restart, End}
 use Rattle.walk.specs.Graph.{In}
 use Rattle.walk.specs.Walk.{oneOf, jumps, stays}
 use Rattle.walk.specs.Successors.{goes}

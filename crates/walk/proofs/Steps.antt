@@ -10,8 +10,9 @@ use borrow.Author.Tests.{eqb-true, eqb-false, eq-eqb}
 use Rattle.image.specs.declared.Header.{Header}
 use Rattle.rows.specs.Rows.{hex, rowOf}
 use Rattle.operands.specs.declared.Command.{Command}
-use Rattle.point.specs.Flow.{flowOf}
-use Rattle.point.specs.Fault.{point, permitted}
+use Rattle.flow.specs.Flow.{flowOf}
+use Rattle.flow.specs.Tasks.{permitted}
+use Rattle.point.specs.Fault.{point}
 use Rattle.point.specs.declared.Point.{Point}
 use Rattle.walk.specs.Graph.{In}
 use Rattle.walk.specs.Walk.{Named, starts, goesOn, startOf, Step}

@@ -13,11 +13,12 @@ use Rattle.image.specs.declared.Header.{Header}
 use Rattle.image.proofs.Choice.{clash}
 use Rattle.rows.specs.Rows.{rowOf}
 use Rattle.operands.specs.declared.Command.{Command}
-use Rattle.point.specs.Flow.{taskCount, flowBy, flowOf, continues}
-use Rattle.point.specs.Fault.{mostDepth, point, foreign, permitted, tooDeep, noCall, anyPast, flowFault, faultOf}
+use Rattle.flow.specs.Flow.{taskCount, flowBy, flowOf, continues}
+use Rattle.flow.specs.Tasks.{foreign, permitted}
+use Rattle.point.specs.Fault.{mostDepth, point, tooDeep, noCall, anyPast, flowFault, faultOf}
 use Rattle.point.specs.declared.Point.{Point}
-use Rattle.point.specs.declared.Flow.{Flow}
-use Rattle.point.specs.declared.Flow.the-variants.{Next, Wait, Jump, Branch, Call, Return, Start, Restart, End}
+use Rattle.flow.specs.declared.Flow.{Flow}
+use Rattle.flow.specs.declared.Flow.the-variants.{Next, Wait, Jump, Branch, Call, Return, Start, Restart, End}
 use Rattle.point.specs.declared.Fault.{Fault}
 use Rattle.point.specs.declared.Fault.the-variants.{Fine, Foreign, Forbidden, TooDeep, NoCall, PastEnd}
 use Rattle.walk.specs.Program.{commandAt, faultAt}

@@ -4,7 +4,7 @@ use Prim.Native.Nat.{ℕ, _+_, _*_, _/_, _%_, _<_, _≤_}
 use mathlib.Core.Bool.{Bool, _&&_, _||_}
 use lib.Dec.{eqb, ltb}
 use Rattle.image.specs.Rows.{mostBlocks}
-use Rattle.point.specs.Flow.{taskCount}
+use Rattle.flow.specs.Flow.{taskCount}
 use Rattle.point.specs.Fault.{mostDepth, point}
 use Rattle.point.specs.declared.Point.{Point}
 

@@ -5,11 +5,11 @@ use mathlib.Core.Bool.{cond}
 use mathlib.Core.List.{List, [], _∷_}
 use lib.Dec.{eqb}
 use Rattle.image.specs.declared.Header.{Header}
-use Rattle.point.specs.Flow.{flowOf}
+use Rattle.flow.specs.Flow.{flowOf}
 use Rattle.point.specs.Fault.{point}
 use Rattle.point.specs.declared.Point.{Point}
-use Rattle.point.specs.declared.Flow.{Flow}
-use Rattle.point.specs.declared.Flow.the-variants.{Next, Wait, Jump, Branch, Call, Return, Start, Restart, End}
+use Rattle.flow.specs.declared.Flow.{Flow}
+use Rattle.flow.specs.declared.Flow.the-variants.{Next, Wait, Jump, Branch, Call, Return, Start, Restart, End}
 use Rattle.point.specs.declared.Fault.{Fault}
 use Rattle.point.specs.declared.Fault.the-variants.{Fine, Foreign, Forbidden, TooDeep, NoCall, PastEnd}
 use Rattle.walk.specs.Program.{commandAt, faultAt}

@@ -9,7 +9,7 @@ use Rattle.image.specs.Rows.{mostBlocks}
 use Rattle.image.specs.Scan.{headerOf, blocksOf}
 use Rattle.image.specs.declared.Header.{Header}
 use Rattle.image.specs.declared.reader.HeaderRead.{HeaderRead}
-use Rattle.point.specs.Flow.{bias}
+use Rattle.flow.specs.Flow.{bias}
 use Rattle.point.specs.Fault.{point, isForeign, isBad, faultNumber}
 use Rattle.point.specs.declared.Fault.the-variants.{Foreign}
 use Rattle.walk.specs.Program.{blockNumber, faultAt}

@@ -9,7 +9,7 @@ use lib.Dec.{eqb}
 use Rattle.image.specs.declared.Header.{Header}
 use Rattle.rows.specs.Rows.{hex}
 use Rattle.operands.specs.declared.Command.{Command}
-use Rattle.point.specs.Flow.{bias, plc, mathematics}
+use Rattle.flow.specs.Flow.{bias, plc, mathematics}
 use Rattle.point.specs.Fault.{point}
 use Rattle.point.specs.declared.Point.{Point}
 use Rattle.point.specs.declared.Fault.the-variants.{Fine}

@@ -18,7 +18,7 @@ use Rattle.image.specs.declared.number.Number.{Number}
 use Rattle.image.specs.declared.reader.Scan.{Scan}
 use Rattle.image.specs.declared.reader.HeaderRead.{HeaderRead}
 use Rattle.writer.specs.declared.Written.{Written}
-use Rattle.arith.proofs.LittleEndian.{Bytes}
+use Rattle.le.proofs.LittleEndian.{Bytes}
 use Rattle.image.proofs.Choice.{by}
 use Rattle.image.proofs.Accepted.{place, value, Accepted, accepted-header, headerWith, below-six}
 use Rattle.writer.proofs.Judged.{judged-numbers, small-numbers, placed, fitted-is, written-fine, put-there}

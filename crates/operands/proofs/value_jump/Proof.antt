@@ -4,7 +4,7 @@ use mathlib.Core.List.{[], _∷_}
 use Prim.Native.Nat.{ℕ, _+_, _*_, _%_}
 use native.Mathlib.Omega.{arith}
 use mir.Syntax.{w32}
-use Rattle.arith.specs.LittleEndian.{leNumber}
+use Rattle.le.specs.LittleEndian.{leNumber}
 use Rattle.arith.proofs.Range.{got}
 use Rattle.operands.specs.Operands.{byteAt}
 use Rattle.operands.proofs.value_jump.Statement.{statement}

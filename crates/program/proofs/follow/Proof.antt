@@ -1,6 +1,6 @@
 -- `follow` meets its contract: nothing follows a point that breaks something, and else its flow tells. Assumes nothing.
 use mathlib.Core.Path.{sym, ap, _∙_}
-use Rattle.point.specs.declared.Flow.{Flow}
+use Rattle.flow.specs.declared.Flow.{Flow}
 use denote.Ref.{now}
 use Rattle.walk.specs.Successors.{goes, indices}
 use Rattle.program.proofs.Stops.{stopped, followed}

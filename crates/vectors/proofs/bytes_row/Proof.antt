@@ -4,7 +4,7 @@ use mathlib.Core.Path.{ap, _∙_}
 use lib.IntN.{ℤ}
 use mir.Facts.{toZ-ofZ}
 use mir.Syntax.{w32}
-use Rattle.arith.specs.LittleEndian.{leBytes}
+use Rattle.le.specs.LittleEndian.{leBytes}
 use Rattle.arith.specs.Wrap.{word}
 use Rattle.vectors.proofs.bytes_row.Statement.{statement}
 use Rattle.vectors.proofs.bytes_row.Tie as tie

@@ -1,7 +1,8 @@
 -- `Point::fault` meets its contract: its tests are the definition's, in its order. Assumes nothing.
 use mathlib.Core.Path.{sym, _∙_}
 use borrow.Author.Tests.{not-true, not-false}
-use Rattle.point.specs.Fault.{foreign, permitted, faultOf}
+use Rattle.flow.specs.Tasks.{foreign, permitted}
+use Rattle.point.specs.Fault.{faultOf}
 use borrow.Author.Needs.{needs}
 use Rattle.point.proofs.Point.fault.Statement.{statement}
 use Rattle.point.proofs.Point.fault.Tie as tie

@@ -1,0 +1,2 @@
+mod Tests
+pub mod Laws
