@@ -6,7 +6,7 @@ use mathlib.Core.List.{List, [], _∷_, map, tail}
 use lib.ListN.{getD}
 use Rattle.drive.specs.Types as types
 use Rattle.drive.specs.Pins as pins
-use Rattle.image.specs.Number as number
+use Rattle.number.specs.Number as number
 use Rattle.image.specs.Rows as header
 use Rattle.image.specs.Scan as scan
 use Rattle.rows.specs.Rows as rows

@@ -3,9 +3,9 @@
 use Prim.Native.Nat.{ℕ}
 use mathlib.Core.List.{List, [], _∷_}
 use Rattle.rows.specs.Rows.{hex}
-use Rattle.image.specs.Number.{numberAt}
-use Rattle.image.specs.declared.number.Number.{Number}
-use Rattle.image.specs.declared.number.Number.the-variants.{Value, EndsEarly, NotShortest}
+use Rattle.number.specs.Number.{numberAt}
+use Rattle.number.specs.declared.Number.{Number}
+use Rattle.number.specs.declared.Number.the-variants.{Value, EndsEarly, NotShortest}
 use Rattle.walk.specs.Index.{marksLength}
 use Rattle.walk.specs.Verdict.{verdictOf, verdictNumber, verdictPlace, verdictTask, verdictDepth}
 use Rattle.walk.specs.declared.Verdict.{Verdict}

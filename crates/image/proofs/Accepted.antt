@@ -10,11 +10,11 @@ use Rattle.drive.specs.Types.{takesB, takesC}
 use Rattle.image.specs.Outcome.{done}
 use Rattle.image.specs.Rows.{noHeader, withFormat, withDrive, withModel, withB, withC, withBlocks, formatRow, typeRow, slotBRow, slotCRow, startRow, countInRange, countRow, judged}
 use Rattle.image.specs.Scan.{Source, taken, scan}
-use Rattle.image.proofs.Choice.{clash, first-way}
+use Rattle.number.proofs.Choice.{clash, first-way}
 use Rattle.image.proofs.Scanning.{stays, takes, count-range}
 use Rattle.image.specs.declared.Header.{Header}
-use Rattle.image.specs.declared.number.Number.{Number}
-use Rattle.image.specs.declared.number.Number as number
+use Rattle.number.specs.declared.Number.{Number}
+use Rattle.number.specs.declared.Number as number
 use Rattle.image.specs.declared.reader.Scan.{Scan}
 
 -- no refusal so far

@@ -15,7 +15,7 @@ use Rattle.image.specs.declared.Outcome.the-variants.{Done, EndsEarly, N
 use Rattle.image.specs.declared.Outcome.{Outcome}
 use Rattle.image.specs.declared.reader.Scan.{Scan}
 use Rattle.image.specs.declared.reader.HeaderRead.{HeaderRead}
-use Rattle.image.proofs.Choice.{clash, other-way}
+use Rattle.number.proofs.Choice.{clash, other-way}
 
 -- two judgements that both let pass
 pub neither : (a b : Outcome) → done (firstRefusal a b) ≡ true → (done a ≡ true) × (done b ≡ true)

@@ -13,12 +13,12 @@ use Rattle.drive.specs.Types.{takesB, takesC}
 use Prim.Native.Nat.{ℕ, zero, suc, _+_, _*_, _<_, _≤_}
 use native.Mathlib.Numerals.{add-one}
 use Rattle.image.specs.Outcome.{done}
-use Rattle.image.specs.Number.{numberAt, firstByte, secondByte}
-use Rattle.image.proofs.Choice.{both, either}
+use Rattle.number.specs.Number.{numberAt, firstByte, secondByte}
+use Rattle.number.proofs.Choice.{both, either}
 use Rattle.image.specs.Scan.{Source, fromImage, taken, more, scan}
 use Rattle.image.specs.Rows.{judged, formatRow, typeRow, slotBRow, slotCRow, mostBlocks, countInRange, countRow}
-use Rattle.image.specs.declared.number.Number.{Number}
-use Rattle.image.specs.declared.number.Number as number
+use Rattle.number.specs.declared.Number.{Number}
+use Rattle.number.specs.declared.Number as number
 use Rattle.image.specs.declared.reader.Scan.{Scan}
 
 module _ (n : ℕ) (source : Source) (row : ℕ) (s : Scan) where

@@ -1,4 +1,3 @@
 pub mod Outcome
-pub mod Number
 pub mod Rows
 pub mod Scan

@@ -6,12 +6,12 @@ use mathlib.Core.List.{List, []}
 use lib.ListN.{length, drop}
 use lib.Dec.{ltb}
 use Rattle.image.specs.Outcome.{done}
-use Rattle.image.specs.Number.{numberAt}
+use Rattle.number.specs.Number.{numberAt}
 use Rattle.image.specs.Rows.{noHeader, stopped, judged}
 use Rattle.image.specs.declared.Outcome.{Outcome}
 use Rattle.image.specs.declared.Outcome.the-variants.{Done, EndsEarly, NotShortest, LeftOver}
-use Rattle.image.specs.declared.number.Number.{Number}
-use Rattle.image.specs.declared.number.Number as number
+use Rattle.number.specs.declared.Number.{Number}
+use Rattle.number.specs.declared.Number as number
 use Rattle.image.specs.declared.reader.Scan.{Scan}
 use Rattle.image.specs.declared.reader.HeaderRead.{HeaderRead}
 

@@ -1,10 +1,9 @@
 // The program image (document 01, "The image"): a header of six numbers and the blocks, and no byte more.
-// number.rt reads one number, reader.rt reads and judges the header; the crate writer writes an image.
+// Crate `number` reads one number, reader.rt reads and judges the header; the crate writer writes an image.
 use drive::Drive;
 ghost use mathlib.Core.Path.{_≡_};
 ghost use Rattle.image.specs.Outcome.{numberOf, placeOf, done};
 
-pub mod number;
 pub mod reader;
 
 // What reading or writing an image comes to: done, or a refusal with its place.

@@ -2,9 +2,8 @@
 // Each number is one row of `judge`, so that a later format's number is one row more.
 use crate::Header;
 use crate::Outcome;
-use crate::number;
-use crate::number::Number;
 use drive::Drive;
+use number::Number;
 ghost use mathlib.Core.Path.{_≡_};
 ghost use Prim.Native.Nat.{_≤_};
 ghost use lib.ListN.{length};

@@ -7,7 +7,7 @@ use native.Mathlib.Omega.{arith}
 use lib.ListN.{length, take, drop, set, getD, length-append, length-drop}
 use lib.Seq.{take-all, take-append-le, take-at, drop-append-add, drop-drop, set-split}
 use borrow.Author.Tests.{eq-eqb, ne-eqb}
-use Rattle.image.proofs.Choice.{by}
+use Rattle.number.proofs.Choice.{by}
 use Rattle.report.proofs.Beginning.{beginning}
 use Rattle.report.specs.Input.{inputLength}
 use Rattle.walk.specs.Verdict.{verdictOf}

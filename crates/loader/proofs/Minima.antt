@@ -11,14 +11,14 @@ use borrow.Author.Tests.{ltb-true, ltb-false, lt-ltb, le-ltb}
 use borrow.Author.Count.{below-more}
 use Rattle.image.specs.Rows.{mostBlocks}
 use Rattle.image.specs.declared.Header.{Header}
-use Rattle.image.proofs.Choice.{clash, by}
+use Rattle.number.proofs.Choice.{clash, by}
 use Rattle.point.specs.declared.Point.{Point}
-use Rattle.point.specs.declared.Fault.{Fault}
+use Rattle.fault.specs.declared.Fault.{Fault}
 use Rattle.walk.specs.Program.{faultAt}
 use Rattle.walk.specs.Index.{marksLength, pointAt}
 use Rattle.walk.specs.Graph.{Reach, lesser, least}
 use Rattle.walk.specs.Successors.{nextOf}
-use Rattle.point.specs.Fault.{isForeign, isBad}
+use Rattle.fault.specs.Fault.{isForeign, isBad}
 use Rattle.walk.specs.Verdict.{rootOf, reached, leastForeign, leastBad}
 use Rattle.walk.proofs.IndexLaws.{has-point}
 use Rattle.walk.proofs.Least.{least-only}

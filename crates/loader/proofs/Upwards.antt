@@ -6,7 +6,7 @@ use mathlib.Core.List.{List}
 use native.Mathlib.Omega.{arith}
 use borrow.Author.Tests.{eq-eqb, ne-eqb}
 use Rattle.image.specs.declared.Header.{Header}
-use Rattle.image.proofs.Choice.{by}
+use Rattle.number.proofs.Choice.{by}
 use Rattle.walk.specs.Program.{blockNumber}
 use Rattle.walk.specs.Verdict.{walksVerdict, blocksVerdict}
 use Rattle.walk.specs.declared.Verdict.the-variants.{Block}

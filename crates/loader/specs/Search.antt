@@ -8,7 +8,7 @@ use lib.ListN.{length, getD, set}
 use lib.Dec.{eqb}
 use Rattle.image.specs.Rows.{mostBlocks}
 use Rattle.image.specs.declared.Header.{Header}
-use Rattle.point.specs.Fault.{isForeign}
+use Rattle.fault.specs.Fault.{isForeign}
 use Rattle.walk.specs.Program.{blockNumber, faultAt}
 use Rattle.walk.specs.Index.{marksLength, pointAt}
 use Rattle.walk.specs.Graph.{In, Reach, lesser}

@@ -8,13 +8,13 @@ use Rattle.image.specs.Outcome.{done}
 use Rattle.image.specs.Rows.{mostBlocks}
 use Rattle.image.specs.Scan.{headerOf, blocksOf}
 use Rattle.image.specs.declared.Header.{Header}
-use Rattle.image.proofs.Choice.{clash}
+use Rattle.number.proofs.Choice.{clash}
 use Rattle.image.proofs.HeaderLaws.{header-good}
-use Rattle.point.specs.Fault.{isForeign, isBad}
+use Rattle.fault.specs.Fault.{isForeign, isBad}
 use Rattle.flow.specs.Flow.{flowOf}
 use Rattle.point.specs.declared.Point.{Point}
-use Rattle.point.specs.declared.Fault.{Fault}
-use Rattle.point.specs.declared.Fault.the-variants.{Fine, Foreign, Forbidden, TooDeep, NoCall, PastEnd}
+use Rattle.fault.specs.declared.Fault.{Fault}
+use Rattle.fault.specs.declared.Fault.the-variants.{Fine, Foreign, Forbidden, TooDeep, NoCall, PastEnd}
 use Rattle.walk.specs.Program.{commandAt, faultAt, blockNumber}
 use Rattle.walk.specs.Walk.{Walk, Reaches}
 use Rattle.walk.specs.Graph.{In}

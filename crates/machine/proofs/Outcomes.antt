@@ -6,7 +6,7 @@ use mathlib.Core.Logic.{inl, inr}
 use mathlib.Core.List.{[], _∷_}
 use lib.Dec.{eqb}
 use borrow.Author.Tests.{eqb-true, ne-eqb}
-use Rattle.image.proofs.Choice.{clash, both}
+use Rattle.number.proofs.Choice.{clash, both}
 use Rattle.point.specs.Fault.{point, tooDeep, noCall, mostDepth}
 use Rattle.point.specs.declared.Point.{Point}
 use Rattle.flow.specs.declared.Flow.{Flow}

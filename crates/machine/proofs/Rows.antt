@@ -6,7 +6,7 @@ use mathlib.Core.Logic.{⊎-elim}
 use mathlib.Core.List.{List, [], _∷_}
 use lib.Dec.{T, eqb}
 use borrow.Author.Tests.{eqb-true}
-use Rattle.image.proofs.Choice.{clash}
+use Rattle.number.proofs.Choice.{clash}
 use Rattle.rows.specs.Rows.{rows, rowIn, rowOf, noRow}
 use Rattle.rows.specs.declared.Row.{Row as Columns}
 use Rattle.rows.proofs.Laws.{every, every-row}

@@ -10,7 +10,8 @@ use Rattle.image.specs.Scan.{headerOf, blocksOf}
 use Rattle.image.specs.declared.Header.{Header}
 use Rattle.rows.specs.Rows.{hex}
 use Rattle.flow.specs.Flow.{bias, taskCount}
-use Rattle.point.specs.Fault.{point, faultNumber}
+use Rattle.fault.specs.Fault.{faultNumber}
+use Rattle.point.specs.Fault.{point}
 use Rattle.point.specs.declared.Point.{Point}
 use Rattle.walk.specs.Program.{commandAt, faultAt, blockNumber}
 use Rattle.state.specs.State.{cells, runs, ended, halted, emptyStack, task, withValues, withTask, withNotes}

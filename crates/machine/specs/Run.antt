@@ -4,7 +4,7 @@ use mathlib.Core.Path.{_≡_}
 use mathlib.Core.List.{List, [], _∷_}
 use Rattle.image.specs.Scan.{headerOf, blocksOf}
 use Rattle.point.specs.Fault.{mostDepth}
-use Rattle.point.specs.declared.Fault.the-variants.{Fine}
+use Rattle.fault.specs.declared.Fault.the-variants.{Fine}
 use Rattle.walk.specs.Program.{faultAt, blockNumber}
 use Rattle.state.specs.declared.Task.{Task}
 use Rattle.state.specs.declared.State.{State}

@@ -5,7 +5,7 @@ use mathlib.Core.Path.{_≡_, ap, sym, _∙_}
 use mathlib.Core.List.{List}
 use lib.ListN.{length, getD, take, replicate, getD-replicate, List·getD-eq-default}
 use lib.Seq.{getD-take}
-use Rattle.image.proofs.Choice.{by}
+use Rattle.number.proofs.Choice.{by}
 
 -- n is none of the k numbers from a on, as the default of a `match` on all of them has it
 abbrev pub NoneFrom : ℕ → ℕ → ℕ → Type 0

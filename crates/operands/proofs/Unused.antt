@@ -8,7 +8,7 @@ use lib.Dec.{leb}
 use lib.ListN.{length, getD, drop, drop-of-length-le}
 use lib.Seq.{drop-cons}
 use borrow.Author.Tests.{leb-true, eq-eqb, ne-eqb}
-use Rattle.image.proofs.Choice.{both}
+use Rattle.number.proofs.Choice.{both}
 use Rattle.operands.specs.Operands.{used, usedBytes, allZero}
 
 -- every number of a list is at most m

@@ -11,8 +11,8 @@ use Rattle.flow.specs.Tasks.{foreign, permitted}
 use Rattle.point.specs.declared.Point.{Point}
 use Rattle.flow.specs.declared.Flow.{Flow}
 use Rattle.flow.specs.declared.Flow.the-variants.{Next, Wait, Jump, Branch, Call, Return, Start, Restart, End}
-use Rattle.point.specs.declared.Fault.{Fault}
-use Rattle.point.specs.declared.Fault.the-variants.{Fine, Foreign, Forbidden, TooDeep, NoCall, PastEnd}
+use Rattle.fault.specs.declared.Fault.{Fault}
+use Rattle.fault.specs.declared.Fault.the-variants.{Fine, Foreign, Forbidden, TooDeep, NoCall, PastEnd}
 
 -- the limit on depth: the most calls that a task may be inside of
 abbrev pub mostDepth : ℕ
@@ -63,30 +63,3 @@ unfoldable pub faultOf : Header → Command → Point → Fault
 faultOf h c p =
     cond (foreign (p .task) c) Foreign
     (cond (permitted (c .code) (p .task)) (flowFault (h .count) p (flowOf c)) Forbidden)
-
--- a 51 that ends another task
-abbrev pub isForeign : Fault → Bool
-isForeign Foreign = true
-isForeign Fine = false
-isForeign Forbidden = false
-isForeign TooDeep = false
-isForeign NoCall = false
-isForeign PastEnd = false
-
--- bad by 9 to 12
-abbrev pub isBad : Fault → Bool
-isBad Fine = false
-isBad Foreign = false
-isBad Forbidden = true
-isBad TooDeep = true
-isBad NoCall = true
-isBad PastEnd = true
-
--- document 01's number
-abbrev pub faultNumber : Fault → ℕ
-faultNumber Fine = 0
-faultNumber Foreign = 7
-faultNumber Forbidden = 9
-faultNumber TooDeep = 10
-faultNumber NoCall = 11
-faultNumber PastEnd = 12

@@ -7,10 +7,11 @@ use native.Mathlib.Omega.{arith}
 use Rattle.image.specs.declared.Header.{Header}
 use Rattle.operands.specs.declared.Command.{Command}
 use Rattle.flow.specs.Flow.{flowOf}
-use Rattle.point.specs.Fault.{faultOf, faultNumber}
+use Rattle.fault.specs.Fault.{faultNumber}
+use Rattle.point.specs.Fault.{faultOf}
 use Rattle.point.specs.declared.Point.{Point}
-use Rattle.point.specs.declared.Fault.{Fault}
-use Rattle.point.specs.declared.Fault.the-variants.{Fine, Foreign, Forbidden, TooDeep, NoCall, PastEnd}
+use Rattle.fault.specs.declared.Fault.{Fault}
+use Rattle.fault.specs.declared.Fault.the-variants.{Fine, Foreign, Forbidden, TooDeep, NoCall, PastEnd}
 use Rattle.walk.specs.Index.{indexOf}
 use Rattle.walk.specs.Program.{commandAt, faultAt}
 use Rattle.walk.specs.Successors.{goes, unless, successors, indices}

@@ -1,10 +1,10 @@
 // The blocks of an image as a graph of points: the command at a block, what a point breaks, and the points that follow it. Blocks are any bytes:
 // a byte past their end is read as 0.
+use fault::Fault;
 use flow::Flow;
 use image::Header;
 use image::reader;
 use operands::Command;
-use point::Fault;
 use point::Point;
 ghost use mathlib.Core.Path.{_≡_};
 ghost use mathlib.Core.Bool.{cond};

@@ -10,14 +10,14 @@ use lib.Seq.{take-all, length-take-le, getD-take}
 use lib.Dec.{eqb, ltb}
 use borrow.Author.Tests.{lt-ltb, le-ltb}
 use Rattle.image.specs.Outcome.{done}
-use Rattle.image.specs.Number.{numberAt, firstByte, secondByte}
+use Rattle.number.specs.Number.{numberAt, firstByte, secondByte}
 use Rattle.image.specs.Scan.{fromImage, taken, more, scan, mostHeaderBytes, firstRefusal, lengthOutcome, readWith, closed, headerOf, blocksOf}
 use Rattle.image.specs.declared.Header.{Header}
 use Rattle.image.specs.declared.Outcome.the-variants.{LeftOver}
-use Rattle.image.specs.declared.number.Number.{Number}
-use Rattle.image.specs.declared.number.Number.the-variants.{Value}
+use Rattle.number.specs.declared.Number.{Number}
+use Rattle.number.specs.declared.Number.the-variants.{Value}
 use Rattle.image.specs.declared.reader.Scan.{Scan}
-use Rattle.image.proofs.Choice.{by, either}
+use Rattle.number.proofs.Choice.{by, either}
 use Rattle.image.proofs.Accepted.{accepted-header}
 use Rattle.image.proofs.Scanning.{at-most, image-near}
 use Rattle.image.proofs.Read.{read-fine}

@@ -5,11 +5,10 @@ use drive::Drive;
 use drive::PinKind;
 use drive::Presence;
 use image::Outcome;
-use image::number;
-use image::number::Number;
 use image::reader;
 use image::reader::HeaderRead;
 use libc::STDOUT_FILENO;
+use number::Number;
 use writer::Written;
 ghost use mathlib.Core.Path.{_≡_};
 ghost use mathlib.Core.List.{[], _∷_};
@@ -19,12 +18,12 @@ ghost use lib.ListN.{length};
 ghost use mir.Syntax.{w32};
 ghost use Rattle.arith.specs.Wrap.{word, wrap};
 ghost use Rattle.le.specs.LittleEndian.{leBytes};
-ghost use Rattle.image.specs.Number.{numberAt};
+ghost use Rattle.number.specs.Number.{numberAt};
 ghost use Rattle.image.specs.Scan.{headerOf};
 ghost use Rattle.writer.specs.Writer.{written, outAfter};
 ghost use Rattle.drive.specs.declared.PinKind.the-variants.{Input, OutputWritten, OutputRead};
 ghost use Rattle.image.specs.declared.Outcome.the-variants.{Done, EndsEarly, NotShortest, OutOfRange, LeftOver, NoRoom};
-ghost use Rattle.image.specs.declared.number.Number.{Number};
+ghost use Rattle.number.specs.declared.Number.{Number};
 ghost use Rattle.vectors.specs.Pins.{presentPins, shownPin};
 
 fn main() {

@@ -8,7 +8,7 @@ use mathlib.Core.List.{List, [], _∷_}
 use lib.Dec.{eqb, leb}
 use borrow.Author.Tests.{leb-true, le-leb}
 use Rattle.image.specs.declared.Header.{Header}
-use Rattle.image.proofs.Choice.{clash}
+use Rattle.number.proofs.Choice.{clash}
 use Rattle.rows.specs.Rows.{hex}
 use Rattle.operands.specs.declared.Command.{Command}
 use Rattle.flow.specs.Flow.{flowOf, continues}

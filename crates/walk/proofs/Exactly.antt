@@ -16,7 +16,7 @@ use Rattle.walk.specs.Walk.{Reaches}
 use Rattle.walk.specs.Index.{marksLength, indexOf, pointAt, before}
 use Rattle.walk.specs.Successors.{nextOf}
 use Rattle.walk.specs.Graph.{In, Reach}
-use Rattle.point.specs.Fault.{isForeign, isBad}
+use Rattle.fault.specs.Fault.{isForeign, isBad}
 use Rattle.walk.specs.Verdict.{rootOf, fuel, reached, leastForeign, leastBad, verdictBy, walksVerdict}
 use Rattle.walk.specs.Says.{ForeignAt, BadAt, NoForeign, Says}
 use Rattle.walk.specs.declared.Verdict.{Verdict}

@@ -14,7 +14,7 @@ use Rattle.image.specs.Outcome.{done}
 use Rattle.image.specs.Scan.{headerOf, blocksOf}
 use Rattle.image.specs.declared.Header.{Header}
 use Rattle.image.specs.declared.reader.HeaderRead.{HeaderRead}
-use Rattle.image.proofs.Choice.{clash}
+use Rattle.number.proofs.Choice.{clash}
 use Rattle.walk.specs.Graph.{has, closure}
 use Rattle.walk.specs.Index.{marksLength}
 use Rattle.walk.specs.Successors.{nextOf}

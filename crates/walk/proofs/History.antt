@@ -16,7 +16,7 @@ use Rattle.operands.specs.declared.Command.{Command}
 use Rattle.flow.specs.Flow.{bias, plc, mathematics, flowOf}
 use Rattle.point.specs.Fault.{point}
 use Rattle.point.specs.declared.Point.{Point}
-use Rattle.point.specs.declared.Fault.the-variants.{Fine}
+use Rattle.fault.specs.declared.Fault.the-variants.{Fine}
 use Rattle.walk.specs.Program.{commandAt, faultAt}
 use Rattle.walk.specs.Walk.{Named, starts, latest, startOf, Walk, Reaches}
 use Rattle.walk.specs.Index.{marksLength, Inside, indexOf, pointAt}

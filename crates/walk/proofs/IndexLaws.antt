@@ -9,7 +9,7 @@ use mathlib.Core.Logic.{⊎-elim}
 use borrow.Author.Tests.{lt-ltb, le-ltb, ltb-true, ltb-false, eqb-true, eqb-false}
 use Rattle.image.specs.Rows.{mostBlocks}
 use Rattle.point.specs.declared.Point.{Point}
-use Rattle.image.proofs.Choice.{both}
+use Rattle.number.proofs.Choice.{both}
 use Rattle.walk.proofs.Choice.{test, or-is, neither, not-both}
 use Rattle.walk.specs.Index.{depths, marksLength, Inside, indexOf, pointAt, before}
 

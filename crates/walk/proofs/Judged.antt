@@ -15,7 +15,7 @@ use Rattle.image.specs.Scan.{headerOf, blocksOf}
 use Rattle.image.specs.declared.Header.{Header}
 use Rattle.image.specs.declared.Outcome.{Outcome}
 use Rattle.image.specs.declared.Outcome.the-variants.{Done, EndsEarly, NotShortest, OutOfRange, LeftOver, NoRoom}
-use Rattle.image.proofs.Choice.{clash, by}
+use Rattle.number.proofs.Choice.{clash, by}
 use Rattle.image.proofs.HeaderLaws.{header-good}
 use Rattle.walk.specs.Index.{marksLength}
 use Rattle.walk.specs.Program.{blockNumber}

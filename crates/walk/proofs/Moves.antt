@@ -9,7 +9,7 @@ use native.Mathlib.Omega.{arith}
 use lib.ListN.{getD}
 use lib.Dec.{T, eqb, ltb}
 use borrow.Author.Tests.{eqb-true, eqb-false, eq-eqb, ne-eqb, ltb-true, not-true}
-use Rattle.image.proofs.Choice.{clash, both}
+use Rattle.number.proofs.Choice.{clash, both}
 use Rattle.rows.specs.Rows.{hex, noRow, rows, rowIn, rowOf, wait, branch, return, startBias, startPlc, startMathematics, ending}
 use Rattle.rows.specs.Rows.{jump as jumped, call as called}
 use Rattle.rows.specs.declared.Row.{Row}

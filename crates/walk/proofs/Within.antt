@@ -10,7 +10,7 @@ use lib.ListN.{length}
 use lib.Dec.{eqb, leb}
 use borrow.Author.Tests.{leb-false}
 use Rattle.image.specs.declared.Header.{Header}
-use Rattle.image.proofs.Choice.{clash}
+use Rattle.number.proofs.Choice.{clash}
 use Rattle.rows.specs.Rows.{rowOf}
 use Rattle.operands.specs.declared.Command.{Command}
 use Rattle.flow.specs.Flow.{taskCount, flowBy, flowOf, continues}
@@ -19,8 +19,8 @@ use Rattle.point.specs.Fault.{mostDepth, point, tooDeep, noCall, anyPast, flowF
 use Rattle.point.specs.declared.Point.{Point}
 use Rattle.flow.specs.declared.Flow.{Flow}
 use Rattle.flow.specs.declared.Flow.the-variants.{Next, Wait, Jump, Branch, Call, Return, Start, Restart, End}
-use Rattle.point.specs.declared.Fault.{Fault}
-use Rattle.point.specs.declared.Fault.the-variants.{Fine, Foreign, Forbidden, TooDeep, NoCall, PastEnd}
+use Rattle.fault.specs.declared.Fault.{Fault}
+use Rattle.fault.specs.declared.Fault.the-variants.{Fine, Foreign, Forbidden, TooDeep, NoCall, PastEnd}
 use Rattle.walk.specs.Program.{commandAt, faultAt}
 use Rattle.walk.specs.Graph.{In}
 use Rattle.walk.specs.Successors.{goes, unless, successors}

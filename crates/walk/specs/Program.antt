@@ -9,7 +9,7 @@ use Rattle.command.specs.Judged.{decoded, blockRefusal}
 use Rattle.operands.specs.declared.Command.{Command}
 use Rattle.point.specs.Fault.{faultOf}
 use Rattle.point.specs.declared.Point.{Point}
-use Rattle.point.specs.declared.Fault.{Fault}
+use Rattle.fault.specs.declared.Fault.{Fault}
 
 -- the eight bytes from `at` on; 0 past the end
 abbrev pub bytesFrom : List ℕ → ℕ → List ℕ

@@ -10,8 +10,9 @@ use Rattle.image.specs.Scan.{headerOf, blocksOf}
 use Rattle.image.specs.declared.Header.{Header}
 use Rattle.image.specs.declared.reader.HeaderRead.{HeaderRead}
 use Rattle.flow.specs.Flow.{bias}
-use Rattle.point.specs.Fault.{point, isForeign, isBad, faultNumber}
-use Rattle.point.specs.declared.Fault.the-variants.{Foreign}
+use Rattle.fault.specs.Fault.{isForeign, isBad, faultNumber}
+use Rattle.point.specs.Fault.{point}
+use Rattle.fault.specs.declared.Fault.the-variants.{Foreign}
 use Rattle.walk.specs.Program.{blockNumber, faultAt}
 use Rattle.walk.specs.Index.{indexOf, pointAt, marksLength}
 use Rattle.walk.specs.Successors.{nextOf}

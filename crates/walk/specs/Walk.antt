@@ -12,7 +12,7 @@ use Rattle.operands.specs.declared.Command.{Command}
 use Rattle.flow.specs.Flow.{bias, plc, mathematics}
 use Rattle.point.specs.Fault.{point}
 use Rattle.point.specs.declared.Point.{Point}
-use Rattle.point.specs.declared.Fault.the-variants.{Fine}
+use Rattle.fault.specs.declared.Fault.the-variants.{Fine}
 use Rattle.walk.specs.Program.{commandAt, faultAt}
 
 -- ---- which codes do what, by the manual

@@ -1,8 +1,8 @@
 // The verdict on an image with lent marks (document 01, "Refused because of the input"; 16, which comes second in a load, belongs to the
 // state buffer). No code here: specs/ says what walks are and what a verdict says of them, and computes the verdict; the crate loader
 // finds it.
+use fault::Fault;
 use image::Outcome;
-use point::Fault;
 use point::Point;
 
 // What an image and marks come to: accepted, or the first refusal with its place.

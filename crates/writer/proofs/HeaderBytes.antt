@@ -7,10 +7,10 @@ use native.Mathlib.Numerals.{add-one}
 use mathlib.Core.List.{List, _++_}
 use lib.ListN.{length, getD, length-append}
 use lib.Seq.{sets}
-use Rattle.image.specs.Number.{numberBytes}
+use Rattle.number.specs.Number.{numberBytes}
 use Rattle.image.specs.Scan.{more}
 use Rattle.image.proofs.Scanning.{Near}
-use Rattle.image.proofs.Numbers.{size-most}
+use Rattle.number.proofs.Numbers.{size-most}
 use Rattle.writer.specs.Writer.{standing, given, firstNumbers, imageOf, overlaid}
 use Rattle.image.specs.declared.reader.Scan.{Scan}
 use Rattle.writer.proofs.Stores.{next-run, from-front}

@@ -15,11 +15,11 @@ use Rattle.image.specs.Scan.{scan, firstRefusal}
 use Rattle.writer.specs.Writer.{given, HaveForms, firstNumbers, imageOf, overlaid, roomOutcome, writtenWith, fitted, written, outAfter}
 use Rattle.image.specs.declared.Outcome.the-variants.{Done}
 use Rattle.image.specs.declared.Outcome.{Outcome}
-use Rattle.image.specs.declared.number.Number.{Number}
-use Rattle.image.specs.declared.number.Number as number
+use Rattle.number.specs.declared.Number.{Number}
+use Rattle.number.specs.declared.Number as number
 use Rattle.image.specs.declared.reader.Scan.{Scan}
 use Rattle.writer.specs.declared.Written.{Written}
-use Rattle.image.proofs.Choice.{clash, other-way}
+use Rattle.number.proofs.Choice.{clash, other-way}
 use Rattle.image.proofs.Accepted.{place, Accepted, accepted-header, below-six}
 use Rattle.image.proofs.Read.{neither, both-pass}
 use Rattle.writer.proofs.HeaderBytes.{one-more, image-length}

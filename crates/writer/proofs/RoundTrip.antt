@@ -10,22 +10,22 @@ use lib.ListN.{length, getD, take, drop, take-append-drop, length-drop, List·ge
 use lib.Seq.{take-append-seam, drop-append-seam}
 use borrow.Author.Count.{below-more}
 use Rattle.image.specs.Outcome.{done}
-use Rattle.image.specs.Number.{numberBytes, numberAt}
+use Rattle.number.specs.Number.{numberBytes, numberAt}
 use Rattle.image.specs.Scan.{Source, fromImage, taken, more, scan, closed, headerOf, blocksOf}
 use Rattle.writer.specs.Writer.{given, numbersOf, firstNumbers, imageOf, fitted, written, overlaid, outAfter}
 use Rattle.image.specs.declared.Outcome.the-variants.{Done}
-use Rattle.image.specs.declared.number.Number.{Number}
+use Rattle.number.specs.declared.Number.{Number}
 use Rattle.image.specs.declared.reader.Scan.{Scan}
 use Rattle.image.specs.declared.reader.HeaderRead.{HeaderRead}
 use Rattle.writer.specs.declared.Written.{Written}
 use Rattle.le.proofs.LittleEndian.{Bytes}
-use Rattle.image.proofs.Choice.{by}
+use Rattle.number.proofs.Choice.{by}
 use Rattle.image.proofs.Accepted.{place, value, Accepted, accepted-header, headerWith, below-six}
 use Rattle.writer.proofs.Judged.{judged-numbers, small-numbers, placed, fitted-is, written-fine, put-there}
-use Rattle.image.proofs.NumberLaws.{There, number-back, number-only}
+use Rattle.number.proofs.NumberLaws.{There, number-back, number-only}
 use Rattle.image.proofs.Read.{closed-is, read-fine, scanOf}
 use Rattle.image.proofs.Scanning.{takes}
-use Rattle.image.proofs.Stands.{Has, left, right, none, join, itself, front}
+use Rattle.number.proofs.Stands.{Has, left, right, none, join, itself, front}
 use Rattle.writer.proofs.HeaderBytes.{one-more, room, image-length}
 
 -- the same numbers at the same places give the same scan

@@ -6,10 +6,10 @@ use mathlib.Core.List.{List, [], _∷_, _++_}
 use lib.ListN.{length, getD, drop}
 use lib.Dec.{ltb}
 use Rattle.image.specs.Outcome.{done}
-use Rattle.image.specs.Number.{numberLimit, numberBytes}
+use Rattle.number.specs.Number.{numberLimit, numberBytes}
 use Rattle.image.specs.Scan.{Source, scan, firstRefusal, rowCount, blockLength}
-use Rattle.image.specs.declared.number.Number.{Number}
-use Rattle.image.specs.declared.number.Number.the-variants.{Value}
+use Rattle.number.specs.declared.Number.{Number}
+use Rattle.number.specs.declared.Number.the-variants.{Value}
 use Rattle.image.specs.declared.Outcome.{Outcome}
 use Rattle.image.specs.declared.Outcome.the-variants.{Done, EndsEarly, LeftOver, NoRoom}
 use Rattle.image.specs.declared.Header.{Header}

@@ -7,7 +7,7 @@ ghost use mathlib.Core.Path.{_≡_};
 ghost use Prim.Native.Nat.{_+_, _<_, _≤_};
 ghost use lib.ListN.{length};
 ghost use lib.Seq.{sets};
-ghost use Rattle.image.specs.Number.{numberLimit, numberBytes};
+ghost use Rattle.number.specs.Number.{numberLimit, numberBytes};
 ghost use Rattle.image.specs.Scan.{more, scan, rowCount, mostHeaderBytes};
 ghost use Rattle.writer.specs.Writer.{standing, given, HaveForms, roomOutcome, notWritten, fitted, written, firstNumbers, imageOf, overlaid, outAfter};
 

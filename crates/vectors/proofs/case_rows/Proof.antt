@@ -2,7 +2,7 @@
 use borrow.Author.Needs.{needs}
 use mathlib.Core.Path.{refl}
 use Rattle.drive.specs.Types.{takes}
-use Rattle.image.specs.Number.{numberAt, firstByte, secondByte}
+use Rattle.number.specs.Number.{numberAt, firstByte, secondByte}
 use Rattle.image.specs.Rows.{judged, formatRow, typeRow, slotBRow, slotCRow, countInRange, countRow}
 use Rattle.image.specs.Scan.{headerOf, closed, readWith, firstRefusal, lengthOutcome, scan, more, taken}
 use Rattle.vectors.proofs.Rows.{_◂_}

@@ -7,7 +7,7 @@ use borrow.Author.Tests.{not-true, not-false}
 use Rattle.writer.specs.Writer.{standing}
 use Rattle.image.specs.Rows.{judged}
 use Rattle.image.specs.Scan.{taken}
-use Rattle.image.proofs.Numbers.{size-most}
+use Rattle.number.proofs.Numbers.{size-most}
 use Rattle.image.proofs.Scanning.{stays, takes}
 use Rattle.writer.proofs.judge_row.Statement.{statement}
 use Rattle.writer.proofs.judge_row.Tie as tie

@@ -5,7 +5,7 @@ use mathlib.Core.Path.{refl, ap}
 use native.Mathlib.Omega.{arith}
 use native.Mathlib.Numerals.{add-one}
 use lib.ListN.{length, length-set}
-use Rattle.image.proofs.Numbers.{one, two}
+use Rattle.number.proofs.Numbers.{one, two}
 use Rattle.writer.proofs.put.Statement.{statement}
 use Rattle.writer.proofs.put.Tie as tie
 

@@ -1,6 +1,6 @@
 -- `writer::size` meets its contract, by the two forms of a number.
 -- Assumes nothing.
-use Rattle.image.proofs.Numbers.{one, two}
+use Rattle.number.proofs.Numbers.{one, two}
 use Rattle.writer.proofs.size.Statement.{statement}
 use Rattle.writer.proofs.size.Tie as tie
 

@@ -3,7 +3,7 @@ use mathlib.Core.Path.{sym, ap, _∙_}
 use borrow.Author.Tests.{not-true, not-false}
 use denote.Ref.{now}
 use Rattle.walk.specs.Program.{faultAt}
-use Rattle.point.specs.Fault.{isForeign}
+use Rattle.fault.specs.Fault.{isForeign}
 use Rattle.loader.specs.Search.{lowered}
 use borrow.Author.Needs.{needs}
 use Rattle.loader.proofs.Minima.{lower-less, lower-not}

@@ -5,12 +5,12 @@ use Prim.Native.Nat.{ℕ, _+_, _-_, _*_, _/_, _%_, _<_, _≤_}
 use native.Mathlib.Omega.{arith}
 use mathlib.Core.List.{List}
 use lib.ListN.{length, getD}
-use Rattle.image.specs.Number.{numberBytes, numberAt}
-use Rattle.image.specs.declared.number.Number.{Number}
-use Rattle.image.proofs.Choice.{by}
-use Rattle.image.proofs.Stands.{Has, head, tail, none, cons}
-use Rattle.image.proofs.Numbers as numbers
-use Rattle.image.proofs.Numbers.{one, two, short-one, cut, more, zero-high, big-high, good-high}
+use Rattle.number.specs.Number.{numberBytes, numberAt}
+use Rattle.number.specs.declared.Number.{Number}
+use Rattle.number.proofs.Choice.{by}
+use Rattle.number.proofs.Stands.{Has, head, tail, none, cons}
+use Rattle.number.proofs.Numbers as numbers
+use Rattle.number.proofs.Numbers.{one, two, short-one, cut, more, zero-high, big-high, good-high}
 
 -- a list that has the bytes of v at index at
 module _ (s : List ℕ) (at v : ℕ) (small : v < 16384) (has : Has s at (numberBytes v)) (room : at + length (numberBytes v) ≤ length s) where

@@ -1,11 +1,11 @@
--- `image::number::read` meets its contract. Each return cites the law of `numberAt` for what the tests found.
+-- `number::read` meets its contract. Each return cites the law of `numberAt` for what the tests found.
 -- Assumes nothing.
 use borrow.Author.Needs.{needs}
 use mathlib.Core.Path.{_∙_}
 use native.Mathlib.Omega.{arith}
-use Rattle.image.proofs.Numbers.{none, short-one, cut, more, zero-high, big-high, good-high}
-use Rattle.image.proofs.number.read.Statement.{statement}
-use Rattle.image.proofs.number.read.Tie as tie
+use Rattle.number.proofs.Numbers.{none, short-one, cut, more, zero-high, big-high, good-high}
+use Rattle.number.proofs.read.Statement.{statement}
+use Rattle.number.proofs.read.Tie as tie
 
 returns : tie.Need-returns
 returns c =

@@ -2,7 +2,7 @@
 // in 16 bits; its place keeps the width of the image's length.
 ghost use mathlib.Core.Path.{_≡_};
 ghost use Prim.Native.Nat.{_+_, _<_};
-ghost use Rattle.image.specs.Number.{numberAt};
+ghost use Rattle.number.specs.Number.{numberAt};
 
 // What stands at a place: a number with the place behind it; too few bytes; or bytes that are not the shortest form of a
 // number of two bytes (a second byte that is 0 or has its top bit set).

@@ -7,9 +7,9 @@ use mathlib.Core.List.{List, [], _∷_}
 use lib.ListN.{length, getD}
 use lib.Dec.{ltb}
 use borrow.Author.Tests.{lt-ltb, le-ltb, eq-eqb, ne-eqb}
-use Rattle.image.proofs.Choice.{either}
-use Rattle.image.specs.Number.{numberBytes, firstByte, secondByte, numberAt}
-use Rattle.image.specs.declared.number.Number.{Number}
+use Rattle.number.proofs.Choice.{either}
+use Rattle.number.specs.Number.{numberBytes, firstByte, secondByte, numberAt}
+use Rattle.number.specs.declared.Number.{Number}
 
 -- a number takes one or two bytes
 pub size-most : (v : ℕ) → length (numberBytes v) ≤ 2

@@ -7,7 +7,7 @@ use native.Mathlib.Nat.{add-zero}
 use mathlib.Core.List.{List, [], _∷_, _++_}
 use lib.ListN.{length, getD, take, length-append, List·getD-append}
 use lib.Seq.{getD-append-add, ext-getD, getD-take, length-take-le}
-use Rattle.image.proofs.Choice.{by}
+use Rattle.number.proofs.Choice.{by}
 
 pub record Has (s : List ℕ) (at : ℕ) (xs : List ℕ) : Type 0 where
   pub is : (k : ℕ) → k < length xs → getD s (at + k) 0 ≡ getD xs k 0
