@@ -5,6 +5,7 @@ use mathlib.Core.Logic.{inl, inr}
 use mathlib.Core.List.{List, [], _∷_, map, tail}
 use lib.ListN.{getD}
 use Rattle.drive.specs.Types as types
+use Rattle.pins.specs.Homes as homes
 use Rattle.drive.specs.Pins as pins
 use Rattle.number.specs.Number as number
 use Rattle.image.specs.Rows as header
@@ -42,7 +43,7 @@ expected = map (λ r. r .answer)
 computed : given table ≡ expected table
 unfolding table
     types.takes
-    pins.outputsWritten pins.homeIn pins.homeOf pins.onBoard pins.presence pins.pinOf pins.refusalOf
+    homes.outputsWritten homes.homeIn homes.homeOf pins.onBoard pins.presence pins.pinOf pins.refusalOf
     number.secondByte number.firstByte number.numberAt
     header.formatRow header.typeRow header.slotBRow header.slotCRow header.countInRange header.countRow header.judged
     scan.taken scan.more scan.scan scan.firstRefusal scan.lengthOutcome scan.readWith scan.closed scan.headerOf scan.blocksOf

@@ -10,8 +10,8 @@ use Rattle.arith.specs.Ops.{eqZ}
 use Rattle.drive.specs.Types.{type637Plus}
 use Rattle.drive.specs.Pins.{pinOf, refusalOf}
 use Rattle.drive.specs.declared.Drive.{Drive}
-use Rattle.drive.specs.declared.PinKind.{PinKind}
-use Rattle.drive.specs.declared.PinKind.the-variants.{Input, OutputWritten, OutputRead}
+use Rattle.pins.specs.declared.PinKind.{PinKind}
+use Rattle.pins.specs.declared.PinKind.the-variants.{Input, OutputWritten, OutputRead}
 use Rattle.drive.specs.declared.Presence.the-variants.{Present, Never}
 use Rattle.image.specs.declared.Header.{Header}
 use Rattle.rows.specs.Rows.{rowOf}

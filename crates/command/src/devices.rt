@@ -1,7 +1,7 @@
 // What the drive must have (document 01, refusal 6), by the device of a code's row.
 use drive::Drive;
-use drive::PinKind;
 use drive::Presence;
+use pins::PinKind;
 ghost use mathlib.Core.Path.{_≡_};
 ghost use Rattle.command.specs.Judged.{pinRefusal, notOn637Plus, deviceRefusal};
 

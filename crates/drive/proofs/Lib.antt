@@ -1,4 +1,3 @@
 mod Cases
 mod Below
-mod Homes
 pub mod Laws

@@ -7,7 +7,7 @@ use native.Mathlib.Omega.{arith}
 use lib.Dec.{eqb, ltb}
 use borrow.Author.Tests.{eqb-true, ltb-true}
 use Rattle.drive.specs.Types.{takesB, takesC}
-use Rattle.image.specs.Outcome.{done}
+use Rattle.outcome.specs.Outcome.{done}
 use Rattle.image.specs.Rows.{noHeader, withFormat, withDrive, withModel, withB, withC, withBlocks, formatRow, typeRow, slotBRow, slotCRow, startRow, countInRange, countRow, judged}
 use Rattle.image.specs.Scan.{Source, taken, scan}
 use Rattle.number.proofs.Choice.{clash, first-way}

@@ -7,10 +7,10 @@ use Prim.Native.Nat.{ℕ, _*_, _<_, _≤_}
 use native.Mathlib.Omega.{arith}
 use lib.ListN.{length, drop, length-drop}
 use Rattle.drive.specs.Types.{types, takesB, takesC}
-use Rattle.image.specs.Outcome.{done}
+use Rattle.outcome.specs.Outcome.{done}
 use Rattle.image.specs.Rows.{mostBlocks}
 use Rattle.image.specs.Scan.{fromImage, headerOf, blocksOf, blockLength}
-use Rattle.image.specs.declared.Outcome.the-variants.{Done}
+use Rattle.outcome.specs.declared.Outcome.the-variants.{Done}
 use Rattle.image.specs.declared.Header.{Header}
 use Rattle.image.specs.declared.reader.HeaderRead.{HeaderRead}
 use Rattle.image.proofs.Accepted.{value, accepted-header, headerWith}

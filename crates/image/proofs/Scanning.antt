@@ -12,7 +12,7 @@ use borrow.Author.Tests.{ltb-true, leb-true}
 use Rattle.drive.specs.Types.{takesB, takesC}
 use Prim.Native.Nat.{ℕ, zero, suc, _+_, _*_, _<_, _≤_}
 use native.Mathlib.Numerals.{add-one}
-use Rattle.image.specs.Outcome.{done}
+use Rattle.outcome.specs.Outcome.{done}
 use Rattle.number.specs.Number.{numberAt, firstByte, secondByte}
 use Rattle.number.proofs.Choice.{both, either}
 use Rattle.image.specs.Scan.{Source, fromImage, taken, more, scan}

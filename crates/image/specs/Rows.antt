@@ -8,8 +8,8 @@ use lib.Dec.{eqb, ltb, leb}
 use Rattle.drive.specs.Types.{types, takesB, takesC}
 use Rattle.drive.specs.declared.Drive.{Drive}
 use Rattle.image.specs.declared.Header.{Header}
-use Rattle.image.specs.declared.Outcome.{Outcome}
-use Rattle.image.specs.declared.Outcome.the-variants.{Done, OutOfRange}
+use Rattle.outcome.specs.declared.Outcome.{Outcome}
+use Rattle.outcome.specs.declared.Outcome.the-variants.{Done, OutOfRange}
 use Rattle.image.specs.declared.reader.Scan.{Scan}
 
 -- limits: the one format, the most blocks

@@ -1,9 +1,9 @@
 // Reads and judges the header of an image, then its length, in document 01's order ("Refused because of the input").
 // Each number is one row of `judge`, so that a later format's number is one row more.
 use crate::Header;
-use crate::Outcome;
 use drive::Drive;
 use number::Number;
+use outcome::Outcome;
 ghost use mathlib.Core.Path.{_≡_};
 ghost use Prim.Native.Nat.{_≤_};
 ghost use lib.ListN.{length};

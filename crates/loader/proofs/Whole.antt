@@ -4,7 +4,7 @@ use mathlib.Core.Path.{_≡_, sym, ap, _∙_}
 use mathlib.Core.Bool.{true, false}
 use mathlib.Core.List.{List}
 use borrow.Author.Tests.{le-ltb}
-use Rattle.image.specs.Outcome.{done}
+use Rattle.outcome.specs.Outcome.{done}
 use Rattle.image.specs.Scan.{headerOf, blocksOf}
 use Rattle.image.specs.declared.reader.HeaderRead.{HeaderRead}
 use Rattle.image.proofs.HeaderLaws.{header-good}

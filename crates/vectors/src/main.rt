@@ -2,13 +2,13 @@
 // What it prints is held to the file stdout, whose answers are document 01's. Each function shows what it does, and gives it back.
 use arith::Quotient;
 use drive::Drive;
-use drive::PinKind;
 use drive::Presence;
-use image::Outcome;
 use image::reader;
 use image::reader::HeaderRead;
 use libc::STDOUT_FILENO;
 use number::Number;
+use outcome::Outcome;
+use pins::PinKind;
 use writer::Written;
 ghost use mathlib.Core.Path.{_≡_};
 ghost use mathlib.Core.List.{[], _∷_};
@@ -21,8 +21,8 @@ ghost use Rattle.le.specs.LittleEndian.{leBytes};
 ghost use Rattle.number.specs.Number.{numberAt};
 ghost use Rattle.image.specs.Scan.{headerOf};
 ghost use Rattle.writer.specs.Writer.{written, outAfter};
-ghost use Rattle.drive.specs.declared.PinKind.the-variants.{Input, OutputWritten, OutputRead};
-ghost use Rattle.image.specs.declared.Outcome.the-variants.{Done, EndsEarly, NotShortest, OutOfRange, LeftOver, NoRoom};
+ghost use Rattle.pins.specs.declared.PinKind.the-variants.{Input, OutputWritten, OutputRead};
+ghost use Rattle.outcome.specs.declared.Outcome.the-variants.{Done, EndsEarly, NotShortest, OutOfRange, LeftOver, NoRoom};
 ghost use Rattle.number.specs.declared.Number.{Number};
 ghost use Rattle.vectors.specs.Pins.{presentPins, shownPin};
 

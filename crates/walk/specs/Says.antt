@@ -4,7 +4,7 @@ use Prim.Native.Nat.{ℕ, _<_, _≤_}
 use mathlib.Core.Path.{_≡_}
 use mathlib.Core.Bool.{true, false}
 use mathlib.Core.List.{List}
-use Rattle.image.specs.Outcome.{done}
+use Rattle.outcome.specs.Outcome.{done}
 use Rattle.image.specs.Scan.{headerOf, blocksOf}
 use Rattle.image.specs.declared.Header.{Header}
 use Rattle.point.specs.declared.Point.{Point}

@@ -2,7 +2,7 @@
 // state buffer). No code here: specs/ says what walks are and what a verdict says of them, and computes the verdict; the crate loader
 // finds it.
 use fault::Fault;
-use image::Outcome;
+use outcome::Outcome;
 use point::Point;
 
 // What an image and marks come to: accepted, or the first refusal with its place.

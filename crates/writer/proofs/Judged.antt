@@ -10,11 +10,11 @@ use lib.Dec.{ltb}
 use borrow.Author.Tests.{ltb-false, le-ltb}
 use Rattle.drive.specs.Types.{slotB, slotC}
 use Rattle.drive.proofs.Laws.{board-small}
-use Rattle.image.specs.Outcome.{done}
+use Rattle.outcome.specs.Outcome.{done}
 use Rattle.image.specs.Scan.{scan, firstRefusal}
 use Rattle.writer.specs.Writer.{given, HaveForms, firstNumbers, imageOf, overlaid, roomOutcome, writtenWith, fitted, written, outAfter}
-use Rattle.image.specs.declared.Outcome.the-variants.{Done}
-use Rattle.image.specs.declared.Outcome.{Outcome}
+use Rattle.outcome.specs.declared.Outcome.the-variants.{Done}
+use Rattle.outcome.specs.declared.Outcome.{Outcome}
 use Rattle.number.specs.declared.Number.{Number}
 use Rattle.number.specs.declared.Number as number
 use Rattle.image.specs.declared.reader.Scan.{Scan}

@@ -5,13 +5,13 @@ use mathlib.Core.Bool.{cond}
 use mathlib.Core.List.{List, [], _∷_, _++_}
 use lib.ListN.{length, getD, drop}
 use lib.Dec.{ltb}
-use Rattle.image.specs.Outcome.{done}
+use Rattle.outcome.specs.Outcome.{done}
 use Rattle.number.specs.Number.{numberLimit, numberBytes}
 use Rattle.image.specs.Scan.{Source, scan, firstRefusal, rowCount, blockLength}
 use Rattle.number.specs.declared.Number.{Number}
 use Rattle.number.specs.declared.Number.the-variants.{Value}
-use Rattle.image.specs.declared.Outcome.{Outcome}
-use Rattle.image.specs.declared.Outcome.the-variants.{Done, EndsEarly, LeftOver, NoRoom}
+use Rattle.outcome.specs.declared.Outcome.{Outcome}
+use Rattle.outcome.specs.declared.Outcome.the-variants.{Done, EndsEarly, LeftOver, NoRoom}
 use Rattle.image.specs.declared.Header.{Header}
 use Rattle.image.specs.declared.reader.Scan.{Scan}
 use Rattle.writer.specs.declared.Written.{Written}

@@ -1,8 +1,8 @@
 // The image writer: document 01, "Refused because of the input", its last paragraph. It judges the header's numbers as the reader
 // does, then the length of the blocks (1, 4), then the room (14); it does not judge blocks.
-use image::Outcome;
 use image::reader;
 use image::reader::Scan;
+use outcome::Outcome;
 ghost use mathlib.Core.Path.{_≡_};
 ghost use Prim.Native.Nat.{_+_, _<_, _≤_};
 ghost use lib.ListN.{length};

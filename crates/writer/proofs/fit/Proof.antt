@@ -4,7 +4,7 @@ use borrow.Author.Needs.{needs}
 use mathlib.Core.Path.{sym, ap, _∙_}
 use native.Mathlib.Omega.{arith}
 use borrow.Author.Tests.{not-true, not-false}
-use Rattle.image.specs.Outcome.{done}
+use Rattle.outcome.specs.Outcome.{done}
 use Rattle.image.specs.Scan.{firstRefusal}
 use Rattle.writer.specs.Writer.{roomOutcome, writtenWith, fitted}
 use Rattle.image.proofs.Read.{neither}

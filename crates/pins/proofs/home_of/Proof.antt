@@ -2,10 +2,10 @@
 -- Assumes nothing.
 use mathlib.Core.Path.{sym, _∙_}
 use borrow.Author.Needs.{needs}
-use Rattle.drive.specs.Pins.{homeOf}
-use Rattle.drive.proofs.Homes.{read-8, read-other}
-use Rattle.drive.proofs.home_of.Statement.{statement}
-use Rattle.drive.proofs.home_of.Tie as tie
+use Rattle.pins.specs.Homes.{homeOf}
+use Rattle.pins.proofs.Homes.{read-8, read-other}
+use Rattle.pins.proofs.home_of.Statement.{statement}
+use Rattle.pins.proofs.home_of.Tie as tie
 
 enum-told : tie.Need-enum-told
 enum-told c = search needs

@@ -6,10 +6,10 @@ use mathlib.Core.Path.{_≡_, refl, sym, _∙_}
 use Prim.Native.Nat.{_≤_, _-_}
 use native.Mathlib.Omega.{arith}
 use lib.ListN.{length, drop}
-use Rattle.drive.specs.Pins.{homeIn, rowsOf}
-use Rattle.drive.proofs.Homes.{found-in, below, above, no-row}
-use Rattle.drive.proofs.home_in.Statement.{statement}
-use Rattle.drive.proofs.home_in.Tie as tie
+use Rattle.pins.specs.Homes.{homeIn, rowsOf}
+use Rattle.pins.proofs.Homes.{found-in, below, above, no-row}
+use Rattle.pins.proofs.home_in.Statement.{statement}
+use Rattle.pins.proofs.home_in.Tie as tie
 
 abbrev Inv-loop : tie.InvT-loop
 Inv-loop first last homes pin i₀ i =

@@ -1,10 +1,10 @@
 -- `home_numbered` meets its contract: each arm is an element of the definition's list, and the other numbers are 0 or past it.
 -- Assumes nothing.
 use mathlib.Core.Path.{sym, ap}
-use Rattle.drive.specs.Pins.{homeNumbered}
-use Rattle.drive.proofs.Homes.{nowhere}
-use Rattle.drive.proofs.home_numbered.Statement.{statement}
-use Rattle.drive.proofs.home_numbered.Tie as tie
+use Rattle.pins.specs.Homes.{homeNumbered}
+use Rattle.pins.proofs.Homes.{nowhere}
+use Rattle.pins.proofs.home_numbered.Statement.{statement}
+use Rattle.pins.proofs.home_numbered.Tie as tie
 
 returns : tie.Need-returns
 unfolding homeNumbered

@@ -10,8 +10,8 @@ use lib.Dec.{leb}
 use lib.ListN.{length, getD, drop, drop-of-length-le}
 use lib.Seq.{drop-cons}
 use borrow.Author.Tests.{leb-true, le-leb, lt-leb}
-use Rattle.drive.specs.Pins.{Row, row, homeIn, outputsWritten, outputsRead, homeNumbered, rowsOf}
-use Rattle.drive.specs.declared.Home.the-variants.{Nowhere, Others}
+use Rattle.pins.specs.Homes.{Row, row, homeIn, outputsWritten, outputsRead, homeNumbered, rowsOf}
+use Rattle.pins.specs.declared.Home.the-variants.{Nowhere, Others}
 
 -- the rows from index i on
 module _ (first last homes : List ℕ) (same : length last ≡ length first) (also : length homes ≡ length first) where
