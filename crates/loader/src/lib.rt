@@ -6,7 +6,6 @@ use walk::Verdict;
 ghost use mathlib.Core.Path.{_≡_};
 ghost use Prim.Native.Nat.{_≤_};
 ghost use lib.ListN.{length};
-ghost use Rattle.walk.specs.Program.{blockNumber};
 ghost use Rattle.walk.specs.Index.{marksLength};
 ghost use Rattle.walk.specs.Verdict.{blocksVerdict, verdictOf, acceptedBlocks};
 ghost use Rattle.loader.specs.After.{After};
@@ -52,7 +51,7 @@ fn judge_blocks(header: Header, blocks: &[u8], marks: &mut [u8]) -> Verdict
 {
     let b = first_refused(header, blocks);
     if b < header.count {
-        return Verdict::Block(block_number(header, blocks, b), b as usize);
+        return Verdict::Block(fetch::block_number(header, blocks, b), b as usize);
     }
     search::judge_walks(header, blocks, marks, MARKS_LENGTH)
 }
@@ -63,18 +62,10 @@ fn first_refused(header: Header, blocks: &[u8]) -> u16
 {
     let mut b: u16 = 0;
     while b < header.count {
-        if block_number(header, blocks, b) != 0 {
+        if fetch::block_number(header, blocks, b) != 0 {
             return b;
         }
         b += 1;
     }
     b
-}
-
-// The refusal of a block by 5 to 8, 0 for none.
-fn block_number(header: Header, blocks: &[u8], b: u16) -> u32
-    ensures { λ r. ⌜ r ≡ blockNumber header (now (blocks .entry)) b ⌝ }
-{
-    let decoded = command::decode(header, program::block_at(blocks, b));
-    decoded.number()
 }

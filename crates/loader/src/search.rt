@@ -200,7 +200,7 @@ fn lower(header: Header, blocks: &[u8], i: usize, found: usize) -> usize
 {
     let p = point_at(i);
     let block = p.block as usize;
-    let fault = program::fault_at(header, blocks, p);
+    let fault = fetch::fault_at(header, blocks, p);
     if !fault.is_foreign() {
         return found;
     }
@@ -219,7 +219,7 @@ fn least_bad(header: Header, blocks: &[u8], marks: &[u8]) -> usize
     let mut i = 0;
     while i < MARKS_LENGTH {
         if marks[i] != NOT_SEEN {
-            let fault = program::fault_at(header, blocks, point_at(i));
+            let fault = fetch::fault_at(header, blocks, point_at(i));
             if fault.is_bad() {
                 return i;
             }
@@ -237,7 +237,7 @@ fn verdict_by(header: Header, blocks: &[u8], foreign: usize, bad: usize) -> Verd
     }
     if bad < MARKS_LENGTH {
         let p = point_at(bad);
-        return Verdict::Bad(program::fault_at(header, blocks, p), p);
+        return Verdict::Bad(fetch::fault_at(header, blocks, p), p);
     }
     Verdict::Accepted
 }

@@ -1,17 +1,12 @@
-// The blocks of an image as a graph of points: the command at a block, what a point breaks, and the points that follow it. Blocks are any bytes:
-// a byte past their end is read as 0.
-use fault::Fault;
+// The blocks of an image as a graph of points: the points that follow a point, by their numbers in the marks. Blocks are any bytes.
 use flow::Flow;
 use image::Header;
 use image::reader;
-use operands::Command;
 use point::Point;
 ghost use mathlib.Core.Path.{_≡_};
 ghost use mathlib.Core.Bool.{cond};
 ghost use mathlib.Core.List.{[], _∷_};
-ghost use lib.ListN.{getD};
 ghost use Rattle.point.specs.Fault.{point};
-ghost use Rattle.walk.specs.Program.{blockAt, commandAt, faultAt};
 ghost use Rattle.walk.specs.Index.{indexOf};
 ghost use Rattle.walk.specs.Successors.{goes, successors, indices};
 ghost use Rattle.program.specs.Numbers.{numbers};
@@ -37,52 +32,12 @@ pub enum Following {
 pub fn follow(header: Header, blocks: &[u8], p: Point) -> Following
     ensures { λ r. ⌜ numbers r ≡ indices (successors header (now (blocks .entry)) p) ⌝ }
 {
-    let c = command_at(blocks, p.block);
+    let c = fetch::command_at(blocks, p.block);
     let fault = p.fault(header, c);
     if fault.number() != 0 {
         return Following::Nothing;
     }
     follow_flow(p, Flow::of(c))
-}
-
-// What the command at a point breaks there.
-pub fn fault_at(header: Header, blocks: &[u8], p: Point) -> Fault
-    ensures { λ r. ⌜ r ≡ faultAt header (now (blocks .entry)) p ⌝ }
-{
-    p.fault(header, command_at(blocks, p.block))
-}
-
-// The command at a block, without judging it.
-pub fn command_at(blocks: &[u8], b: u16) -> Command
-    ensures { λ r. ⌜ r ≡ commandAt (now (blocks .entry)) b ⌝ }
-{
-    operands::read(block_at(blocks, b))
-}
-
-// The eight bytes of a block.
-pub fn block_at(blocks: &[u8], b: u16) -> [u8; 8]
-    ensures { λ r. ⌜ r ≡ blockAt (now (blocks .entry)) b ⌝ }
-{
-    let at = reader::BLOCK_LENGTH * (b as usize);
-    [
-        byte_at(blocks, at),
-        byte_at(blocks, at + 1),
-        byte_at(blocks, at + 2),
-        byte_at(blocks, at + 3),
-        byte_at(blocks, at + 4),
-        byte_at(blocks, at + 5),
-        byte_at(blocks, at + 6),
-        byte_at(blocks, at + 7),
-    ]
-}
-
-fn byte_at(bytes: &[u8], at: usize) -> u8
-    ensures { λ r. ⌜ r ≡ getD (now (bytes .entry)) at 0 ⌝ }
-{
-    if at < bytes.len() {
-        return bytes[at];
-    }
-    0
 }
 
 // The number of a point in the marks.

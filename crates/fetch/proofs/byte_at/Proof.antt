@@ -4,8 +4,8 @@ use mathlib.Core.List.{List}
 use lib.ListN.{List·getD-eq-default}
 use denote.Ref.{now}
 use borrow.Author.Needs.{needs}
-use Rattle.program.proofs.byte_at.Statement.{statement}
-use Rattle.program.proofs.byte_at.Tie as tie
+use Rattle.fetch.proofs.byte_at.Statement.{statement}
+use Rattle.fetch.proofs.byte_at.Tie as tie
 
 shared-slice-read-result : tie.Need-shared-slice-read-result
 shared-slice-read-result c = search needs

@@ -5,8 +5,8 @@ use Rattle.point.specs.Fault.{faultOf}
 use Rattle.walk.specs.Program.{faultAt}
 use Rattle.point.specs.Fault.{faultOf}
 use borrow.Author.Needs.{needs}
-use Rattle.program.proofs.fault_at.Statement.{statement}
-use Rattle.program.proofs.fault_at.Tie as tie
+use Rattle.fetch.proofs.fault_at.Statement.{statement}
+use Rattle.fetch.proofs.fault_at.Tie as tie
 
 command-at-requires : tie.Need-command-at-requires
 command-at-requires c κs = search needs

@@ -2,8 +2,8 @@
 use mathlib.Core.Path.{ap, _∙_}
 use Rattle.command.specs.Judged.{decoded, blockRefusal}
 use borrow.Author.Needs.{needs}
-use Rattle.loader.proofs.block_number.Statement.{statement}
-use Rattle.loader.proofs.block_number.Tie as tie
+use Rattle.fetch.proofs.block_number.Statement.{statement}
+use Rattle.fetch.proofs.block_number.Tie as tie
 
 block-at-requires : tie.Need-block-at-requires
 block-at-requires c κs = search needs

@@ -1,7 +1,7 @@
 -- `block_at` meets its contract: eight bytes, one after the other. Assumes nothing.
 use borrow.Author.Needs.{needs}
-use Rattle.program.proofs.block_at.Statement.{statement}
-use Rattle.program.proofs.block_at.Tie as tie
+use Rattle.fetch.proofs.block_at.Statement.{statement}
+use Rattle.fetch.proofs.block_at.Tie as tie
 
 mul-at : tie.Need-mul-at
 mul-at c = search needs

@@ -3,8 +3,8 @@ use mathlib.Core.Path.{ap, _∙_}
 use Rattle.operands.specs.Operands.{operands}
 use Rattle.walk.specs.Program.{commandAt}
 use borrow.Author.Needs.{needs}
-use Rattle.program.proofs.command_at.Statement.{statement}
-use Rattle.program.proofs.command_at.Tie as tie
+use Rattle.fetch.proofs.command_at.Statement.{statement}
+use Rattle.fetch.proofs.command_at.Tie as tie
 
 block-at-requires : tie.Need-block-at-requires
 block-at-requires c κs = search needs
