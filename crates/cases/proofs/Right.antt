@@ -4,6 +4,8 @@ use mathlib.Core.Path.{_≡_, refl, ap, sym, _∙_}
 use mathlib.Core.Logic.{inl, inr}
 use mathlib.Core.List.{List, [], _∷_, map, tail}
 use lib.ListN.{getD}
+use Rattle.arith.specs.Wrap as wrap
+use Rattle.arith.specs.Ops as ops
 use Rattle.drive.specs.Types as types
 use Rattle.pins.specs.Homes as homes
 use Rattle.drive.specs.Pins as pins
@@ -21,17 +23,29 @@ use Rattle.walk.specs.Index.{marksLength, indexOf, pointAt}
 use Rattle.walk.specs.Successors as successors
 use Rattle.walk.specs.Graph.{In, least}
 use Rattle.walk.specs.Verdict as verdict
+use Rattle.state.specs.State as state
+use Rattle.machine.specs.Effect as effect
+use Rattle.machine.specs.Engine as engine
+use Rattle.machine.specs.Run.{outs}
 use Rattle.walk.proofs.Fast.{closureFast, walksFast, blocksFast, readFast, verdictFast, fast-is}
-use Rattle.cases.specs.Table.{Question, Answer, answerOf, ask, Row, table}
+use Rattle.cases.specs.Table.{Question, Answer, answerOf, waitOf, ask, Row, table}
 
 -- the answer by the fast twin
 abbrev quick : Question → Answer
 quick (Question.verdict bytes) = answerOf (verdictFast bytes marksLength)
 quick (Question.number bytes) = ask (Question.number bytes)
+quick (Question.waited model time turns) = ask (Question.waited model time turns)
+quick (Question.divided a b) = ask (Question.divided a b)
+quick (Question.dividedBy a b) = ask (Question.dividedBy a b)
+quick (Question.requested bytes starts) = ask (Question.requested bytes starts)
 
 quick-is : (q : Question) → quick q ≡ ask q
 quick-is (Question.verdict bytes) = ap answerOf (fast-is bytes marksLength)
 quick-is (Question.number bytes) = refl
+quick-is (Question.waited model time turns) = refl
+quick-is (Question.divided a b) = refl
+quick-is (Question.dividedBy a b) = refl
+quick-is (Question.requested bytes starts) = refl
 
 -- the answers that are given, and those that the rows say
 abbrev given : List Row → List Answer
@@ -42,7 +56,8 @@ expected = map (λ r. r .answer)
 
 computed : given table ≡ expected table
 unfolding table
-    types.takes
+    wrap.word wrap.wrap ops.quotient
+    types.takes types.cycleOf
     homes.outputsWritten homes.homeIn homes.homeOf pins.onBoard pins.presence pins.pinOf pins.refusalOf
     number.secondByte number.firstByte number.numberAt
     header.formatRow header.typeRow header.slotBRow header.slotCRow header.countInRange header.countRow header.judged
@@ -51,14 +66,17 @@ unfolding table
     operands.laidOut operands.operands operands.usedBytes operands.allZero operands.unusedZero
     judged.deviceRefusal judged.inRange judged.judgedBy judged.decodedBy judged.decoded
     flow.flowBy flow.flowOf
-    tasks.foreign tasks.permitted
-    fault.flowFault fault.faultOf
+    tasks.foreign tasks.permitted fault.flowFault fault.faultOf
     program.commandAt program.faultAt
     indexOf pointAt
     successors.successors successors.indices successors.nextOf
     least
     verdict.leastForeign verdict.leastBad verdict.verdictBy
     closureFast walksFast blocksFast readFast verdictFast
+    state.freshValues state.fresh
+    effect.divides effect.deedIn effect.effectOf
+    engine.performed engine.fits engine.taskStep engine.step
+    outs waitOf
 computed = refl
 
 -- a row of a list whose answers are right

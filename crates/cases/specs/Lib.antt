@@ -1,2 +1,3 @@
 pub mod Images
 pub mod Table
+pub mod Example

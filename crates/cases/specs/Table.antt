@@ -1,15 +1,29 @@
 -- Document 01's cases as one table of questions and answers ("Examples and faults to shut out"). The questions are put to the definitions that
 -- stand in the contracts. Assumes nothing.
-use Prim.Native.Nat.{ℕ}
-use mathlib.Core.List.{List, [], _∷_}
+use Prim.Native.Nat.{ℕ, zero, suc, _+_}
+use mathlib.Core.List.{List, [], _∷_, map}
+use lib.ListN.{replicate}
+use lib.IntN.{ℤ, pos, negsuc}
 use Rattle.rows.specs.Rows.{hex}
 use Rattle.number.specs.Number.{numberAt}
 use Rattle.number.specs.declared.Number.{Number}
 use Rattle.number.specs.declared.Number.the-variants.{Value, EndsEarly, NotShortest}
+use Rattle.operands.specs.Operands.{command}
+use Rattle.operands.specs.declared.Command.{Command}
 use Rattle.walk.specs.Index.{marksLength}
 use Rattle.walk.specs.Verdict.{verdictOf, verdictNumber, verdictPlace, verdictTask, verdictDepth}
 use Rattle.walk.specs.declared.Verdict.{Verdict}
-use Rattle.cases.specs.Images.{block, plain, header, image, imageAt, blockA, chain}
+use Rattle.state.specs.State.{cells, startAxis, freshValues, withVariable}
+use Rattle.machine.specs.Given.{Given, Inputs}
+use Rattle.machine.specs.Effect.{effectOf, variable}
+use Rattle.machine.specs.Engine.{Out}
+use Rattle.machine.specs.Run.{outs}
+use Rattle.machine.specs.Theorem.{loaded}
+use Rattle.machine.specs.declared.Motion.{Motion}
+use Rattle.machine.specs.declared.Motion.the-variants.{None, MoveTo}
+use Rattle.machine.specs.declared.Outcome.{Outcome}
+use Rattle.machine.specs.declared.Outcome.the-variants.{GoOn, Stay, Jump, Call, Return, Start, Restart, End, Halt}
+use Rattle.cases.specs.Images.{block, plain, toward, header, image, imageAt, blockA, chain}
 
 -- ---- questions and answers
 
@@ -18,12 +32,22 @@ pub data Question : Type 0 where
   verdict : List ℕ → Question
   -- the number at place 0 of these bytes
   number : List ℕ → Question
+  -- 59 with an operand, on a type of drive, at its turn k; turn 0 is the step that first meets it
+  waited : ℕ → ℕ → ℕ → Question
+  -- what 85 makes of a variable and an operand, and 8D of two variables
+  divided : ℤ → ℤ → Question
+  dividedBy : ℤ → ℤ → Question
+  -- the motion requests of BIAS steps of an image, with these levels of the start input
+  requested : List ℕ → List ℕ → Question
 
 pub data Answer : Type 0 where
   -- document 01's number, then byte or block, task and depth; all 0 for an image that is accepted
   refusal : ℕ → ℕ → ℕ → ℕ → Answer
   value : ℕ → Answer
   noNumber : Answer
+  outcome : Outcome → Answer
+  whole : ℤ → Answer
+  motions : List Motion → Answer
 
 abbrev pub accepted : Answer
 accepted = refusal 0 0 0 0
@@ -36,9 +60,46 @@ valueOf (Value v next) = value v
 valueOf EndsEarly = noNumber
 valueOf NotShortest = noNumber
 
+-- what a command of BIAS is given where all inputs are low, with a wait pending
+abbrev pub lowAt : ℕ → ℕ → ℕ → Given
+lowAt model time turns = record { model = model; levels = []; start = 0; reached = 0; time = time; turns = turns }
+
+abbrev pub waitsOn : ℕ → ℕ → ℕ → ℕ → Outcome
+waitsOn model word time turns = effectOf (lowAt model time turns) (command (hex 5 9) 0 0 0 word (pos 0)) freshValues .outcome
+
+-- once more, where it stayed
+abbrev pub again : ℕ → ℕ → Outcome → Outcome
+again model word (Stay time turns) = waitsOn model word time turns
+again model word GoOn = GoOn
+again model word (Jump a) = Jump a
+again model word (Call a) = Call a
+again model word Return = Return
+again model word (Start u a) = Start u a
+again model word Restart = Restart
+again model word End = End
+again model word (Halt n) = Halt n
+
+unfoldable pub waitOf : ℕ → ℕ → ℕ → Outcome
+waitOf model word zero = waitsOn model word 0 0
+waitOf model word (suc k) = again model word (waitOf model word k)
+
+-- variable 0 after a command, where variables 1 and 2 hold these
+abbrev pub resultOf : Command → ℤ → ℤ → ℤ
+resultOf c a b = variable (effectOf (lowAt 2 0 0) c (withVariable 1 a (withVariable 2 b freshValues)) .values) 0
+
+abbrev pub biasStep : ℕ → Inputs
+biasStep start = record { task = 0; levels = replicate cells 0; start = start; reached = 0 }
+
+abbrev pub motionsOf : List Out → List Motion
+motionsOf = map (λ (o : Out). o .motion)
+
 abbrev pub ask : Question → Answer
 ask (verdict bytes) = answerOf (verdictOf bytes marksLength)
 ask (number bytes) = valueOf (numberAt bytes 0)
+ask (waited model word turn) = outcome (waitOf model word turn)
+ask (divided a b) = whole (resultOf (command (hex 8 5) 0 1 0 0 b) a b)
+ask (dividedBy a b) = whole (resultOf (command (hex 8 13) 0 1 2 0 (pos 0)) a b)
+ask (requested bytes starts) = motions (motionsOf (outs bytes (loaded bytes) (map biasStep starts)))
 
 -- ---- the table
 
@@ -48,6 +109,13 @@ pub record Row : Type 0 where
 
 abbrev pub row : Question → Answer → Row
 row q a = record { question = q; answer = a }
+
+-- a move to the stored position, for ever; and one with the start mark set before it
+abbrev pub mover : List ℕ
+mover = image (plain (hex 0 0) ∷ blockA ∷ [])
+
+abbrev pub marked : List ℕ
+marked = image (plain (hex 0 14) ∷ plain (hex 0 0) ∷ toward (hex 5 5) 1 ∷ [])
 
 unfoldable pub table : List Row
 table =
@@ -71,14 +139,27 @@ table =
     row (verdict (image (block (hex 7 2) (hex 0 8) 1 0 ∷ []))) (refusal 6 0 0 0) ∷
     -- I: 72 0C 01 and A's block: accepted
     row (verdict (image (block (hex 7 2) (hex 0 12) 1 0 ∷ blockA ∷ []))) accepted ∷
+    -- J: a wait of 1000 ms (59 F4 01) passes at k = 527 on type 2, and not before
+    row (waited 2 (hex 15 4 + 256) 527) (outcome GoOn) ∷
+    row (waited 2 (hex 15 4 + 256) 526) (outcome (Stay 1000 526)) ∷
+    -- J: at 1185 on type 4, and not before
+    row (waited 4 (hex 15 4 + 256) 1185) (outcome GoOn) ∷
+    row (waited 4 (hex 15 4 + 256) 1184) (outcome (Stay 1000 1184)) ∷
     -- K: DC 0B is 1500
     row (number (hex 13 12 ∷ hex 0 11 ∷ [])) (value 1500) ∷
     -- K: 80 00 is no number
     row (number (hex 8 0 ∷ hex 0 0 ∷ [])) noNumber ∷
     -- K: 80 00 gives 2: as the start of A, at byte 4
     row (verdict (header (hex 8 0 ∷ hex 0 0 ∷ 1 ∷ blockA))) (refusal 2 4 0 0) ∷
+    -- L: -7 by 2 is -3
+    row (divided (negsuc 6) (pos 2)) (whole (negsuc 2)) ∷
+    row (dividedBy (negsuc 6) (pos 2)) (whole (negsuc 2)) ∷
     -- a chain of 8 nested calls: accepted
     row (verdict (chain 8)) accepted ∷
     -- of 9: 10, at the ninth call: block 16, depth 8
     row (verdict (chain 9)) (refusal 10 16 0 8) ∷
+    -- faults: a start input that is high at load is no slope; one that is low and then high is
+    row (requested mover (1 ∷ 1 ∷ 0 ∷ 1 ∷ [])) (motions (None ∷ None ∷ None ∷ MoveTo startAxis ∷ [])) ∷
+    -- the start mark of 0E starts a move without a slope, which clears it
+    row (requested marked (1 ∷ 1 ∷ 1 ∷ 1 ∷ [])) (motions (None ∷ MoveTo startAxis ∷ None ∷ None ∷ [])) ∷
     []

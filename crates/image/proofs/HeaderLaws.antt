@@ -1,28 +1,17 @@
 -- What the header of an image that is not refused promises to whoever goes on with it.
 -- Assumes nothing.
 use mathlib.Core.Path.{_≡_, ap, _∙_}
-use mathlib.Core.Bool.{true}
 use mathlib.Core.List.{List}
-use Prim.Native.Nat.{ℕ, _*_, _<_, _≤_}
+use Prim.Native.Nat.{ℕ, _*_}
 use native.Mathlib.Omega.{arith}
-use lib.ListN.{length, drop, length-drop}
-use Rattle.drive.specs.Types.{types, takesB, takesC}
+use lib.ListN.{length, length-drop}
 use Rattle.outcome.specs.Outcome.{done}
-use Rattle.image.specs.Rows.{mostBlocks}
+use Rattle.image.specs.Good.{Good}
 use Rattle.image.specs.Scan.{fromImage, headerOf, blocksOf, blockLength}
 use Rattle.outcome.specs.declared.Outcome.the-variants.{Done}
-use Rattle.image.specs.declared.Header.{Header}
 use Rattle.image.specs.declared.reader.HeaderRead.{HeaderRead}
 use Rattle.image.proofs.Accepted.{value, accepted-header, headerWith}
 use Rattle.image.proofs.Read.{read-fine}
-
-pub record Good (h : Header) : Type 0 where
-  pub format : h .format ≡ 1
-  pub model : h .drive .model < types
-  pub boardB : takesB (h .drive .model) (h .drive .b) ≡ true
-  pub boardC : takesC (h .drive .model) (h .drive .c) ≡ true
-  pub count : (0 < h .count) × (h .count ≤ mostBlocks)
-  pub start : h .start < h .count
 
 module _ (image : List ℕ) (ok : headerOf image .outcome ≡ Done) where
   abbrev v : ℕ → ℕ

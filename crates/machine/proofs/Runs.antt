@@ -1,5 +1,4 @@
--- Every list of steps from a fresh accepted load: the engine is the reference machine in every answer and request and in the state afterwards, and each
--- task that runs is at a permitted block, at most as deep as the limit. Assumes nothing.
+-- The theorem over every list of steps (specs/Theorem.antt), from what holds of one step. Assumes nothing.
 use Prim.Native.Nat.{ℕ, zero, suc, _<_}
 use mathlib.Core.Path.{_≡_, refl}
 use mathlib.Core.List.{List, [], _∷_}
@@ -7,19 +6,27 @@ use native.Mathlib.Omega.{arith}
 use lib.ListN.{getD}
 use Rattle.flow.specs.Flow.{taskCount}
 use Rattle.walk.specs.Walk.{Walk}
-use Rattle.walk.specs.Verdict.{verdictOf}
 use Rattle.walk.specs.declared.Verdict.the-variants as verdict
-use Rattle.state.specs.State.{runs, fresh, freshValues, running, neverStarted}
+use Rattle.state.specs.State.{runs, noTask, taskAt, fresh, freshValues, running, neverStarted}
 use Rattle.state.specs.declared.Values.{Values}
 use Rattle.state.specs.declared.State.{State}
 use Rattle.machine.specs.Given.{Inputs}
-use Rattle.machine.specs.Engine.{step, taskAt, noTask, pointOf}
+use Rattle.machine.specs.Engine.{step, pointOf}
 use Rattle.machine.specs.Reference.{Machine, turn, begun, idle, thread}
 use Rattle.machine.specs.Alike.{SameTask, SameValues, Alike}
 use Rattle.machine.specs.Run.{outs, stateAfter, dids, machineAfter, SameHanded, Permitted}
+use Rattle.machine.specs.Each.{Calls, noCalls, callsAfter, EveryStep}
+use Rattle.machine.specs.Theorem.{loaded, Bytes, EveryRun}
 use Rattle.machine.proofs.Accepted.{Accepted, accepted, hd, body, within}
 use Rattle.machine.proofs.Sound.{Sound, never-sound}
-use Rattle.machine.proofs.StepAgrees.{Agree, step-same}
+use Rattle.machine.proofs.StepCase.{Agree}
+use Rattle.machine.proofs.StepAgrees.{step-same}
+use Rattle.image.proofs.HeaderLaws.{header-good}
+use Rattle.walk.proofs.Judged.{is-done}
+use Rattle.state.specs.Good.{Good}
+use Rattle.state.proofs.Fresh.{fresh-good}
+use Rattle.machine.proofs.Keeps.{keeps-good}
+use Rattle.machine.proofs.StepParts.{Counts, step-parts}
 
 values-same : (v w : Values) → v ≡ w → SameValues v w
 values-same v w e = rw e (record {
@@ -100,18 +107,33 @@ module _ (image : List ℕ) where
         let w = within image ok (pointOf t (taskAt s t)) q in
         record { block = w .block; sound = ok .blocks (taskAt s t .block) (w .block); fine = ok .fine (pointOf t (taskAt s t)) q; depth = w .depth }
 
-  -- parts 1, 2 and 3 of the theorem, for every list of steps from an accepted load
-  pub record Runs (xs : List Inputs) : Type 0 where
-    pub answers : SameHanded (outs image (fresh (hd image)) xs) (dids image (begun image) xs)
-    pub same : Alike (stateAfter image (fresh (hd image)) xs) (machineAfter image (begun image) xs)
-    pub stays : (t : ℕ) → t < taskCount → taskAt (stateAfter image (fresh (hd image)) xs) t .status ≡ runs → Permitted image t (taskAt (stateAfter image (fresh (hd image)) xs) t)
+    each : (s : State) (m : Machine) (calls : Calls) → Agree image s m → Counts calls (m .threads) → (xs : List Inputs) → EveryStep image calls s xs
+    each s m calls g n [] = EveryStep.none
+    each s m calls g n (x ∷ xs) =
+        let k = step-parts image ok s m g calls n x in
+        EveryStep.more (k .0) (each (step image s x .state) (turn image m x .machine) (callsAfter image s x calls) (step-same image ok s m g x .agree) (k .1) xs)
 
-  pub every-run : (n : ℕ) → verdictOf image n ≡ verdict.Accepted → (xs : List Inputs) → Runs xs
-  every-run n e xs =
-      let ok = accepted image n e in
-      let g = kept ok (fresh (hd image)) (begun image) fresh-agree xs in
-      record {
-        answers = handed ok (fresh (hd image)) (begun image) fresh-agree xs;
-        same = alike ok _ _ g;
-        stays = permitted ok _ _ g;
-      }
+  goods : Bytes image → (s : State) → Good s → (xs : List Inputs) → Good (stateAfter image s xs)
+  unfolding stateAfter
+  goods b s g [] = g
+  goods b s g (x ∷ xs) = goods b (step image s x .state) (keeps-good image b s g x) xs
+
+  fresh-counts : Counts noCalls (begun image .threads)
+  unfolding begun
+  fresh-counts zero = refl
+  fresh-counts (suc zero) = refl
+  fresh-counts (suc (suc zero)) = refl
+  fresh-counts (suc (suc (suc u))) = refl
+
+-- the theorem
+pub every-run : EveryRun
+every-run image n e xs =
+    let ok = accepted image n e in
+    let g = kept image ok (loaded image) (begun image) (fresh-agree image) xs in
+    record {
+      answers = handed image ok (loaded image) (begun image) (fresh-agree image) xs;
+      alike = alike image ok _ _ g;
+      permitted = permitted image ok _ _ g;
+      steps = each image ok (loaded image) (begun image) noCalls (fresh-agree image) (fresh-counts image) xs;
+      good = λ b. goods image b (loaded image) (fresh-good (hd image) (header-good image (is-done _ (ok .read)))) xs;
+    }

@@ -21,7 +21,7 @@ returns-set stack i (suc d) x l = rw (getD-set-other stack i d x 0 (omega arith)
 returns-call : (stack : List ℕ) (d x : ℕ) → d < length stack → returnsOf (set stack d x) (d + 1) ≡ x ∷ returnsOf stack d
 returns-call stack d x l = rw (add-one d, getD-set-same stack d x 0 l, returns-set stack d d x (omega arith))
 
-returns-return : (stack : List ℕ) (d : ℕ) → (d ≡ 0 → ⊥) → returnsOf stack d ≡ getD stack (d - 1) 0 ∷ returnsOf stack (d - 1)
+pub returns-return : (stack : List ℕ) (d : ℕ) → (d ≡ 0 → ⊥) → returnsOf stack d ≡ getD stack (d - 1) 0 ∷ returnsOf stack (d - 1)
 returns-return stack zero n = absurd (n refl)
 returns-return stack (suc d) n = let e : suc d - 1 ≡ d = omega arith in rw e
 

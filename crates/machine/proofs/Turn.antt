@@ -17,11 +17,11 @@ use Rattle.walk.specs.Walk.{Reaches}
 use Rattle.walk.specs.Graph.{In}
 use Rattle.walk.specs.Successors.{goes as walked}
 use Rattle.operands.specs.declared.Command.{Command}
-use Rattle.state.specs.State.{runs, ended, halted}
+use Rattle.state.specs.State.{runs, ended, halted, noTask}
 use Rattle.state.specs.declared.Task.{Task}
-use Rattle.machine.specs.Engine.{noTask, goTo, stayWith, callTo, returnFrom, startAnew, restarted, stopped, pointOf}
+use Rattle.machine.specs.Engine.{goTo, stayWith, callTo, returnFrom, startAnew, restarted, stopped, tasksAfter, pointOf}
 use Rattle.machine.specs.Reference.{Thread, thread, off, goes, back, anew, idle, follows}
-use Rattle.machine.specs.Ways.{may}
+use Rattle.machine.specs.Ways.{May}
 use Rattle.machine.specs.Alike.{SameTask}
 use Rattle.machine.specs.declared.Outcome.{Outcome}
 use Rattle.machine.specs.declared.Outcome.the-variants.{GoOn, Stay, Jump, Call, Return, Start, Restart, End, Halt}
@@ -29,21 +29,10 @@ use Rattle.machine.proofs.Accepted.{Accepted, hd, body, within, passing
 use Rattle.machine.proofs.Outcomes.{on-in, jump-in, call-in, behind-in, call-deep, return-deep, start-in, start-on}
 use Rattle.machine.proofs.Sound.{Sound, go-sound, stay-sound, call-sound, return-sound, restart-sound, stop-sound, start-sound}
 use Rattle.machine.proofs.Same.{go-same, stay-same, call-same, return-same, restart-same, stop-same, start-same}
-use Rattle.machine.proofs.StayLaw.{timeless}
+use Rattle.machine.proofs.Laws.{timeless}
 
--- the engine's tasks after an outcome, as a list (Engine.goesOn, without the rest of the state)
-abbrev pub after : ℕ → ℕ → Task → Outcome → List Task → List Task
-after first t k GoOn l = set l t (goTo (k .block + 1) k)
-after first t k (Stay time turns) l = set l t (stayWith time turns k)
-after first t k (Jump a) l = set l t (goTo a k)
-after first t k (Call a) l = set l t (callTo a k)
-after first t k Return l = set l t (returnFrom k)
-after first t k (Start u a) l = set (set l t (goTo (k .block + 1) k)) u (startAnew first u a)
-after first t k Restart l = set l t (restarted k)
-after first t k End l = set l t (stopped ended k)
-after first t k (Halt n) l = set l t (stopped halted k)
-
-at-set : {A : Type 0} (l : List A) (d : A) (t : ℕ) (x : A) (P : ℕ → A → Type 0) → t < length l → P t x → ((u : ℕ) → (u ≡ t → ⊥) → P u (getD l u d))
+-- what holds after a store holds of what was stored, and of the other places as before
+pub at-set : {A : Type 0} (l : List A) (d : A) (t : ℕ) (x : A) (P : ℕ → A → Type 0) → t < length l → P t x → ((u : ℕ) → (u ≡ t → ⊥) → P u (getD l u d))
     → (u : ℕ) → P u (getD (set l t x) u d)
 at-set l d t x P h px other u = go (ℕ-discrete u t)
   where
@@ -51,7 +40,8 @@ at-set l d t x P h px other u = go (ℕ-discrete u t)
     go (yes e) = rw (e, getD-set-same l t x d h) px
     go (no n) = rw (getD-set-other l t u x d n) (other u n)
 
-set-set : {A : Type 0} (l : List A) (t : ℕ) (x y : A) → set (set l t x) t y ≡ set l t y
+-- of two stores to a place the second counts
+pub set-set : {A : Type 0} (l : List A) (t : ℕ) (x y : A) → set (set l t x) t y ≡ set l t y
 set-set [] t x y = refl
 set-set (a ∷ l) zero x y = refl
 set-set (a ∷ l) (suc t) x y = ap (λ m. a ∷ m) (set-set l t x y)
@@ -123,7 +113,7 @@ module _ (image : List ℕ) where
     behind = ap (λ (n : ℕ). n + 1) (b .same t l .block r)
 
     -- another task starts, or the own one does
-    starts : (u a : ℕ) → u < taskCount → may (flowOf c) (Start u a) ≡ true → Dec (u ≡ t)
+    starts : (u a : ℕ) → u < taskCount → May (flowOf c) (Start u a) → Dec (u ≡ t)
         → Both (set (set ts t (goTo (k .block + 1) k)) u (startAnew (h .start) u a)) (set (set ps t (goes (p .block + 1) p)) u (anew u a ps))
     starts u a i m (no n) =
         put-both (set ts t (goTo (k .block + 1) k)) (set ps t (goes (p .block + 1) p)) u (startAnew (h .start) u a) (anew u a ps)
@@ -135,7 +125,7 @@ module _ (image : List ℕ) where
         (put-here (startAnew (h .start) t a) (anew t a ps) (start-sound h bs t a (rw e at (next _ (start-in (pointOf t k) (flowOf c) u a m))))
         (start-same (h .start) t a ps (sym (b .first))) (λ z. rw z (b .first)))
 
-    pub turned : (o : Outcome) → may (flowOf c) o ≡ true → timeless (c .code) o ≡ true → Both (after (h .start) t k o ts) (follows t p o ps)
+    pub turned : (o : Outcome) → May (flowOf c) o → timeless (c .code) o ≡ true → Both (tasksAfter (h .start) t k o ts) (follows t p o ps)
     unfolding follows
     turned GoOn m w = went (k .block + 1) (p .block + 1) behind (next _ (on-in (pointOf t k) (flowOf c) m))
     turned (Stay time turns) m w =

@@ -5,11 +5,10 @@ use mathlib.Core.List.{List, [], _∷_}
 use lib.Dec.{eqb}
 use lib.ListN.{getD}
 use Rattle.flow.specs.Flow.{taskCount}
-use Rattle.state.specs.State.{runs}
+use Rattle.state.specs.State.{runs, taskAt}
 use Rattle.state.specs.declared.Task.{Task}
 use Rattle.state.specs.declared.Values.{Values}
 use Rattle.state.specs.declared.State.{State}
-use Rattle.machine.specs.Engine.{taskAt}
 use Rattle.machine.specs.Reference.{Thread, Machine, idle}
 
 -- the first `depth` entries of a call stack as a list, the latest first

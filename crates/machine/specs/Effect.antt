@@ -20,9 +20,10 @@ use Rattle.command.specs.Judged.{mostSpeed, mostRamp}
 use Rattle.operands.specs.declared.Command.{Command}
 use Rattle.flow.specs.Flow.{bias, plc, mathematics}
 use Rattle.state.specs.State.{withVariable, withFlag, withOutput, withAxis, withMark, withPosition, withSpeed, withAcceleration, withDeceleration}
+use Rattle.state.specs.Wait.{due, mostTime}
 use Rattle.state.specs.declared.Axis.{Axis}
 use Rattle.state.specs.declared.Values.{Values}
-use Rattle.machine.specs.Given.{Given, level, inputAt, due}
+use Rattle.machine.specs.Given.{Given, inputAt}
 use Rattle.machine.specs.declared.Motion.{Motion}
 use Rattle.machine.specs.declared.Motion.the-variants.{None, MoveTo, MoveBy, Forward, Backward, Stop}
 use Rattle.machine.specs.declared.Outcome.{Outcome}
@@ -127,9 +128,6 @@ flagNumber flags k zero = 0
 flagNumber flags k (suc n) = getD flags k 0 + 2 * flagNumber flags (k + 1) n
 
 -- 5A: the content is T in ms; types before the 637+ count 2 ms and leave an odd one out (DECISIONS R4)
-abbrev pub mostTime : ℕ
-mostTime = 65535
-
 abbrev pub timeOf : ℕ → ℕ → ℕ
 timeOf model n = cond (ltb model type637Plus) (n - n % 2) n
 

@@ -2,7 +2,7 @@
 -- bounded length for each task. 16 is the buffer's. Assumes nothing.
 use Prim.Native.Nat.{ℕ, _+_, _-_}
 use mathlib.Core.Bool.{Bool, _&&_, _||_, not, cond}
-use mathlib.Core.List.{List, []}
+use mathlib.Core.List.{List}
 use lib.Dec.{eqb, ltb}
 use lib.ListN.{length, getD, set}
 use Rattle.outcome.specs.Outcome.{done}
@@ -14,7 +14,7 @@ use Rattle.fault.specs.Fault.{faultNumber}
 use Rattle.point.specs.Fault.{point}
 use Rattle.point.specs.declared.Point.{Point}
 use Rattle.walk.specs.Program.{commandAt, faultAt, blockNumber}
-use Rattle.state.specs.State.{cells, runs, ended, halted, emptyStack, task, withValues, withTask, withNotes}
+use Rattle.state.specs.State.{cells, runs, ended, halted, emptyStack, task, taskAt, withNotes}
 use Rattle.state.specs.declared.Task.{Task}
 use Rattle.state.specs.declared.Values.{Values}
 use Rattle.state.specs.declared.State.{State}
@@ -57,25 +57,18 @@ restarted k = task runs (k .start) (k .start) 0 emptyStack 0 0
 abbrev pub stopped : ℕ → Task → Task
 stopped status k = task status (k .block) (k .start) (k .depth) (k .stack) 0 0
 
--- past the array's end there is this: all 0, and no stack
-abbrev pub noTask : Task
-noTask = task 0 0 0 0 [] 0 0
+-- ---- the three tasks after a command's outcome, for the task t that is at k; `first` is the program start
 
-abbrev pub taskAt : State → ℕ → Task
-taskAt s t = getD (s .tasks) t noTask
-
--- ---- a command's outcome, for the task t that is at k
-
-unfoldable pub goesOn : State → ℕ → Task → Outcome → State
-goesOn s t k GoOn = withTask t (goTo (k .block + 1) k) s
-goesOn s t k (Stay time turns) = withTask t (stayWith time turns k) s
-goesOn s t k (Jump a) = withTask t (goTo a k) s
-goesOn s t k (Call a) = withTask t (callTo a k) s
-goesOn s t k Return = withTask t (returnFrom k) s
-goesOn s t k (Start u a) = withTask u (startAnew (s .header .start) u a) (withTask t (goTo (k .block + 1) k) s)
-goesOn s t k Restart = withTask t (restarted k) s
-goesOn s t k End = withTask t (stopped ended k) s
-goesOn s t k (Halt n) = withTask t (stopped halted k) s
+abbrev pub tasksAfter : ℕ → ℕ → Task → Outcome → List Task → List Task
+tasksAfter first t k GoOn l = set l t (goTo (k .block + 1) k)
+tasksAfter first t k (Stay time turns) l = set l t (stayWith time turns k)
+tasksAfter first t k (Jump a) l = set l t (goTo a k)
+tasksAfter first t k (Call a) l = set l t (callTo a k)
+tasksAfter first t k Return l = set l t (returnFrom k)
+tasksAfter first t k (Start u a) l = set (set l t (goTo (k .block + 1) k)) u (startAnew first u a)
+tasksAfter first t k Restart l = set l t (restarted k)
+tasksAfter first t k End l = set l t (stopped ended k)
+tasksAfter first t k (Halt n) l = set l t (stopped halted k)
 
 -- ---- a step
 
@@ -121,7 +114,11 @@ given s k x = record {
 
 unfoldable pub performed : State → Inputs → Task → Effect → Out
 performed s x k e = record {
-  state = goesOn (withValues (noted (x .task) (x .start) (e .values)) s) (x .task) k (e .outcome);
+  state = record {
+    values = noted (x .task) (x .start) (e .values);
+    header = s .header;
+    tasks = tasksAfter (s .header .start) (x .task) k (e .outcome) (s .tasks);
+  };
   motion = e .motion;
   answer = answerTo (e .outcome) (pointOf (x .task) k);
 }

@@ -1,10 +1,9 @@
 -- What a step is given besides the image and the state, and what a command may read of it (document 01, "Running"). Assumes nothing.
-use Prim.Native.Nat.{ℕ, _*_}
-use mathlib.Core.Bool.{Bool, cond}
+use Prim.Native.Nat.{ℕ}
+use mathlib.Core.Bool.{cond}
 use mathlib.Core.List.{List}
-use lib.Dec.{eqb, leb}
+use lib.Dec.{eqb}
 use lib.ListN.{getD}
-use Rattle.drive.specs.Types.{cycleOf}
 
 -- the host's part of a step: the task number, a byte for each input pin, the start input's level and "position reached"
 pub record Inputs : Type 0 where
@@ -29,7 +28,3 @@ pub record Given : Type 0 where
 -- the level of an input pin
 abbrev pub inputAt : Given → ℕ → ℕ
 inputAt g pin = level (getD (g .levels) pin 0)
-
--- a wait of T ms is over after k turns: k cycles are at least T, in microseconds
-abbrev pub due : ℕ → ℕ → ℕ → Bool
-due model time turns = leb (1000 * time) (turns * cycleOf model)

@@ -5,3 +5,6 @@ pub mod Reference
 pub mod Ways
 pub mod Alike
 pub mod Run
+pub mod Each
+pub mod Theorem
+pub mod Numbers

@@ -1,9 +1,10 @@
 -- The state by value: document 01, "Running", and what load leaves. antt has no record update, so each setter is written once. Assumes nothing.
 use Prim.Native.Nat.{ℕ}
 use mathlib.Core.List.{List, [], _∷_}
-use lib.ListN.{replicate, set}
+use lib.ListN.{replicate, getD, set}
 use lib.IntN.{ℤ, pos}
 use Rattle.image.specs.declared.Header.{Header}
+use Rattle.command.specs.Judged.{flagCount}
 use Rattle.point.specs.Fault.{mostDepth}
 use Rattle.state.specs.declared.Task.{Task}
 use Rattle.state.specs.declared.Axis.{Axis}
@@ -13,7 +14,7 @@ use Rattle.state.specs.declared.State.{State}
 
 -- variables, flags, outputs: as many of each
 abbrev pub cells : ℕ
-cells = 256
+cells = flagCount
 
 -- statuses of a task
 abbrev pub never : ℕ
@@ -37,6 +38,10 @@ task status block start depth stack time turns =
 
 abbrev pub neverStarted : Task
 neverStarted = task never 0 0 0 emptyStack 0 0
+
+-- past the array's end there is this: all 0, and no stack
+abbrev pub noTask : Task
+noTask = task never 0 0 0 [] 0 0
 
 -- begun at a block, which is its start block too, with an empty call stack and no wait
 abbrev pub running : ℕ → Task
@@ -103,10 +108,7 @@ withAcceleration n a = record { position = a .position; speed = a .speed; accele
 abbrev pub withDeceleration : ℕ → Axis → Axis
 withDeceleration n a = record { position = a .position; speed = a .speed; acceleration = a .acceleration; deceleration = n }
 
--- ---- setters of the state
+-- ---- the task of a number
 
-abbrev pub withValues : Values → State → State
-withValues v s = record { values = v; header = s .header; tasks = s .tasks }
-
-abbrev pub withTask : ℕ → Task → State → State
-withTask t k s = record { values = s .values; header = s .header; tasks = set (s .tasks) t k }
+abbrev pub taskAt : State → ℕ → Task
+taskAt s t = getD (s .tasks) t noTask

@@ -3,6 +3,8 @@
 use image::Header;
 ghost use mathlib.Core.Path.{_≡_};
 ghost use Rattle.state.specs.State.{neverStarted, running, freshValues, fresh};
+ghost use Rattle.state.specs.State.{withVariable, withFlag, withOutput, withAxis, withMark, withNotes};
+ghost use Rattle.state.specs.State.{withPosition, withSpeed, withAcceleration, withDeceleration};
 
 // Variables, flags and outputs: 256 of each.
 pub const CELLS: usize = 256;
@@ -94,6 +96,40 @@ impl Task {
     }
 }
 
+impl Axis {
+    // Another stored position.
+    pub fn with_position(mut self, position: i32) -> Axis
+        ensures { λ r. ⌜ r ≡ withPosition position self ⌝ }
+    {
+        self.position = position;
+        self
+    }
+
+    // Another stored speed.
+    pub fn with_speed(mut self, speed: u16) -> Axis
+        ensures { λ r. ⌜ r ≡ withSpeed speed self ⌝ }
+    {
+        self.speed = speed;
+        self
+    }
+
+    // Another stored acceleration.
+    pub fn with_acceleration(mut self, acceleration: u16) -> Axis
+        ensures { λ r. ⌜ r ≡ withAcceleration acceleration self ⌝ }
+    {
+        self.acceleration = acceleration;
+        self
+    }
+
+    // Another stored deceleration.
+    pub fn with_deceleration(mut self, deceleration: u16) -> Axis
+        ensures { λ r. ⌜ r ≡ withDeceleration deceleration self ⌝ }
+    {
+        self.deceleration = deceleration;
+        self
+    }
+}
+
 impl Values {
     // As load leaves them: all cells 0, the parameters at their least, no start mark, the start input taken as high.
     pub fn fresh() -> Values
@@ -117,6 +153,54 @@ impl Values {
             mark: 0,
             notes: notes,
         }
+    }
+
+    // A variable set.
+    pub fn with_variable(mut self, index: u8, value: i32) -> Values
+        ensures { λ r. ⌜ r ≡ withVariable index value self ⌝ }
+    {
+        self.variables[index as usize] = value;
+        self
+    }
+
+    // A flag set.
+    pub fn with_flag(mut self, index: u8, level: u8) -> Values
+        ensures { λ r. ⌜ r ≡ withFlag index level self ⌝ }
+    {
+        self.flags[index as usize] = level;
+        self
+    }
+
+    // An output's level set.
+    pub fn with_output(mut self, index: u8, level: u8) -> Values
+        ensures { λ r. ⌜ r ≡ withOutput index level self ⌝ }
+    {
+        self.outputs[index as usize] = level;
+        self
+    }
+
+    // The axis replaced.
+    pub fn with_axis(mut self, axis: Axis) -> Values
+        ensures { λ r. ⌜ r ≡ withAxis axis self ⌝ }
+    {
+        self.axis = axis;
+        self
+    }
+
+    // The start mark set or cleared.
+    pub fn with_mark(mut self, mark: u8) -> Values
+        ensures { λ r. ⌜ r ≡ withMark mark self ⌝ }
+    {
+        self.mark = mark;
+        self
+    }
+
+    // The notes replaced.
+    pub fn with_notes(mut self, notes: Notes) -> Values
+        ensures { λ r. ⌜ r ≡ withNotes notes self ⌝ }
+    {
+        self.notes = notes;
+        self
     }
 }
 

@@ -1,0 +1,61 @@
+-- A program in which much happens at once: three tasks, calls inside calls, a wait, a task that halts, and a return to start that starts the others
+-- again; and a list of steps of it. The theorem over lists of steps is not empty: it speaks of this (proofs/Example.antt). Assumes nothing.
+use Prim.Native.Nat.{ℕ}
+use mathlib.Core.List.{List, [], _∷_, map}
+use lib.ListN.{replicate}
+use Rattle.rows.specs.Rows.{hex}
+use Rattle.point.specs.Fault.{point}
+use Rattle.state.specs.State.{cells, runs}
+use Rattle.machine.specs.Given.{Inputs}
+use Rattle.machine.specs.Effect.{zeroDivisor}
+use Rattle.machine.specs.declared.Answer.{Answer}
+use Rattle.machine.specs.declared.Answer.the-variants.{Done, NoTask, NotRunning, Halted}
+use Rattle.cases.specs.Images.{block, plain, toward, image}
+
+abbrev pub program : List ℕ
+program =
+    image
+    (toward (hex 5 4) 8 ∷  -- 0, BIAS: start the PLC
+    toward (hex 9 0) 12 ∷  -- 1: start mathematics
+    toward (hex 5 2) 5 ∷  -- 2: call
+    toward (hex 5 9) 1 ∷  -- 3: wait for 2 ms
+    plain (hex 5 1) ∷  -- 4: return to start
+    toward (hex 5 2) 7 ∷  -- 5: a sub-program, which calls another
+    plain (hex 5 3) ∷  -- 6
+    plain (hex 5 3) ∷  -- 7: the other
+    toward (hex 5 2) 10 ∷  -- 8, PLC: call
+    toward (hex 5 5) 8 ∷  -- 9
+    block (hex 6 0) 1 1 0 ∷  -- 10: a sub-program, which sets flag 1
+    plain (hex 5 3) ∷  -- 11
+    block (hex 8 13) 1 2 3 ∷  -- 12, mathematics: variable 1 = variable 2 / variable 3, which is 0
+    toward (hex 5 5) 12 ∷  -- 13
+    [])
+
+-- a step of a task, with all inputs low
+abbrev pub stepOf : ℕ → Inputs
+stepOf t = record { task = t; levels = replicate cells 0; start = 0; reached = 0 }
+
+-- the tasks that step, in this order; there is no task 3
+abbrev pub order : List ℕ
+order = 0 ∷ 0 ∷ 0 ∷ 1 ∷ 0 ∷ 1 ∷ 1 ∷ 0 ∷ 2 ∷ 0 ∷ 0 ∷ 0 ∷ 0 ∷ 2 ∷ 3 ∷ 0 ∷ 0 ∷ 0 ∷ []
+
+abbrev pub steps : List Inputs
+steps = map stepOf order
+
+-- what is answered: mathematics halts by 19, its next step is refused by 18, that of task 3 by 15
+abbrev pub answers : List Answer
+answers =
+    Done ∷ Done ∷ Done ∷ Done ∷ Done ∷ Done ∷ Done ∷ Done ∷ Halted zeroDivisor (point 2 12 0) ∷ Done ∷ Done ∷ Done ∷ Done ∷ NotRunning ∷ NoTask 3 ∷ Done ∷ Done ∷ Done ∷ []
+
+-- what is left of a task
+pub record Place : Type 0 where
+  pub status : ℕ
+  pub block : ℕ
+  pub depth : ℕ
+
+abbrev pub place : ℕ → ℕ → Place
+place block depth = record { status = runs; block = block; depth = depth }
+
+-- BIAS has come back to its start and started the others again
+abbrev pub places : List Place
+places = place 2 0 ∷ place 8 0 ∷ place 12 0 ∷ []

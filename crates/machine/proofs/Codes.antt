@@ -1,0 +1,123 @@
+-- Codes and flows: which command it was, from the flow that an outcome is in; and the open calls after it. Assumes nothing.
+use Prim.Native.Nat.{ℕ, zero, suc, _+_, _<_}
+use mathlib.Core.Path.{_≡_, refl, sym, _∙_}
+use mathlib.Core.Bool.{Bool, true, false, _&&_, not, cond}
+use mathlib.Core.List.{[], _∷_}
+use native.Mathlib.Omega.{arith}
+use native.Mathlib.Decide.{ℕ-discrete}
+use lib.Dec.{eqb}
+use borrow.Author.Tests.{eqb-true, eqb-false, eq-eqb, not-true}
+use Rattle.number.proofs.Choice.{clash, both}
+use Rattle.rows.specs.Rows.{hex, rowOf, return, startBias, startPlc, startMathematics, ending}
+use Rattle.rows.specs.Rows.{call as called}
+use Rattle.operands.specs.declared.Command.{Command}
+use Rattle.flow.specs.Flow.{bias, plc, mathematics, flowBy, flowOf}
+use Rattle.flow.specs.Tasks.{foreign}
+use Rattle.flow.specs.declared.Flow.{Flow}
+use Rattle.flow.specs.declared.Flow.the-variants as flow
+use Rattle.flow.proofs.Laws.{foreign-exactly}
+use Rattle.walk.specs.Walk.{starts}
+use Rattle.walk.proofs.Moves.{Flows, flowing, startF}
+use Rattle.machine.specs.Each.{Calls, noCalls, withCalls, withoutLatest, counts}
+use Rattle.machine.specs.Ways.{May}
+use Rattle.machine.specs.declared.Outcome.the-variants.{Return, Start, End}
+
+-- the open calls after a command of this flow
+abbrev pub countF : Flow → ℕ → ℕ → Calls → Calls
+countF (flow.Call a) t b calls = withCalls t (b ∷ calls t) calls
+countF flow.Return t b calls = withCalls t (withoutLatest (calls t)) calls
+countF (flow.Start u a) t b calls = withCalls u [] calls
+countF flow.Restart t b calls = withCalls t [] calls
+countF flow.Next t b calls = calls
+countF flow.Wait t b calls = calls
+countF (flow.Jump a) t b calls = calls
+countF (flow.Branch a) t b calls = calls
+countF flow.End t b calls = calls
+
+abbrev endF : Flow → Bool
+endF flow.End = true
+endF flow.Next = false
+endF flow.Wait = false
+endF (flow.Jump a) = false
+endF (flow.Branch a) = false
+endF (flow.Call a) = false
+endF flow.Return = false
+endF (flow.Start u a) = false
+endF flow.Restart = false
+
+-- by the number of the flow
+module _ (x word t b : ℕ) (calls : Calls) where
+  countN : ℕ → Calls
+  countN n =
+      cond (eqb n called) (withCalls t (b ∷ calls t) calls)
+      (cond (eqb n return) (withCalls t (withoutLatest (calls t)) calls)
+      (cond (eqb n startPlc) (withCalls plc [] calls)
+      (cond (eqb n startBias) (withCalls bias [] calls)
+      (cond (eqb n startMathematics) (withCalls mathematics [] calls)
+      (cond (eqb n ending && eqb x 0) (withCalls t [] calls) calls)))))
+
+  -- what one flow comes to, by both ways of counting
+  record Counted (n : ℕ) : Type 0 where
+    count : countN n ≡ countF (flowBy n x word) t b calls
+    ends : endF (flowBy n x word) ≡ (eqb n ending && not (eqb x 0))
+
+  ending-by : (m : Bool) → (cond m (withCalls t [] calls) calls ≡ countF (cond m flow.Restart flow.End) t b calls) × (endF (cond m flow.Restart flow.End) ≡ not m)
+  ending-by true = (refl, refl)
+  ending-by false = (refl, refl)
+
+  counted : (n : ℕ) → 0 < n → n < 11 → Counted n
+  unfolding countN flowBy
+  counted zero l m = absurd (omega arith)
+  counted (suc zero) l m = record { count = refl; ends = refl }
+  counted (suc (suc zero)) l m = record { count = refl; ends = refl }
+  counted (suc (suc (suc zero))) l m = record { count = refl; ends = refl }
+  counted (suc (suc (suc (suc zero)))) l m = record { count = refl; ends = refl }
+  counted (suc (suc (suc (suc (suc zero))))) l m = record { count = refl; ends = refl }
+  counted (suc (suc (suc (suc (suc (suc zero)))))) l m = record { count = refl; ends = refl }
+  counted (suc (suc (suc (suc (suc (suc (suc zero))))))) l m = record { count = refl; ends = refl }
+  counted (suc (suc (suc (suc (suc (suc (suc (suc zero)))))))) l m = record { count = refl; ends = refl }
+  counted (suc (suc (suc (suc (suc (suc (suc (suc (suc zero))))))))) l m = record { count = refl; ends = refl }
+  counted (suc (suc (suc (suc (suc (suc (suc (suc (suc (suc zero)))))))))) l m = let e = ending-by (eqb x 0) in record { count = e .0; ends = e .1 }
+  counted (suc (suc (suc (suc (suc (suc (suc (suc (suc (suc (suc n))))))))))) l m = absurd (omega arith)
+
+-- a command whose code and flow go together
+module _ (c : Command) (f : Flows (c .code) (rowOf (c .code) .flow)) where
+  pub counts-flow : (t b : ℕ) (calls : Calls) → counts c t b calls ≡ countF (flowOf c) t b calls
+  unfolding counts flowOf countN
+  counts-flow t b calls =
+      rw (f .calls, f .returns, f .begins-plc, f .begins-bias, f .begins-mathematics, f .ends)
+      (counted (c .x) (c .word) t b calls (rowOf (c .code) .flow) (f .some) (f .known) .count)
+
+  -- a 53 returns
+  pub return-flow : c .code ≡ hex 5 3 → flowOf c ≡ flow.Return
+  unfolding flowOf flowBy
+  return-flow e = rw (eqb-true (rowOf (c .code) .flow) return (sym (f .returns) ∙ eq-eqb (c .code) (hex 5 3) e)) refl
+
+  -- a start of a task names it
+  pub start-code : (u a : ℕ) → May (flowOf c) (Start u a) → starts (c .code) u ≡ true
+  unfolding flowOf
+  start-code u a m =
+      rw (f .begins-bias, f .begins-plc, f .begins-mathematics)
+      (flowing (c .x) (c .word) (rowOf (c .code) .flow) (f .some) (f .known) .start u ∙ names (flowOf c) m)
+    where
+      names : (g : Flow) → May g (Start u a) → startF g u ≡ true
+      names _ May.start = eq-eqb u u refl
+
+  -- an end is a 51 of its own task's mode
+  pub end-code : (t : ℕ) → foreign t c ≡ false → May (flowOf c) End → (c .code ≡ hex 5 1) × (c .x ≡ t + 1)
+  unfolding flowOf
+  end-code t own m = (code, mode (ℕ-discrete (c .x) (t + 1)))
+    where
+      ends : (g : Flow) → May g End → endF g ≡ true
+      ends _ May.end = refl
+
+      known : (eqb (rowOf (c .code) .flow) ending && not (eqb (c .x) 0)) ≡ true
+      known = sym (counted (c .x) (c .word) 0 0 noCalls (rowOf (c .code) .flow) (f .some) (f .known) .ends) ∙ ends (flowOf c) m
+
+      code : c .code ≡ hex 5 1
+      code = eqb-true (c .code) (hex 5 1) (f .ends ∙ both _ _ known .0)
+
+      mode : Dec (c .x ≡ t + 1) → c .x ≡ t + 1
+      mode (yes e) = e
+      mode (no n) =
+          clash (sym (foreign-exactly t c .1 (record { code = code; mode = eqb-false (c .x) 0 (not-true (eqb (c .x) 0) (both (eqb (rowOf (c .code) .flow) ending) (not (eqb (c .x) 0)) known .1)); other = n })) ∙ own)

@@ -1,0 +1,36 @@
+-- What a step leaves of the values: one that is refused leaves all as it is, any other notes the start level as the reference machine does. Assumes nothing.
+use Prim.Native.Nat.{ℕ}
+use mathlib.Core.Path.{_≡_, refl}
+use mathlib.Core.Bool.{Bool, true, false, cond}
+use lib.Dec.{eqb}
+use Rattle.flow.specs.Flow.{bias}
+use Rattle.state.specs.State.{withNotes}
+use Rattle.state.specs.declared.Task.{Task}
+use Rattle.state.specs.declared.Values.{Values}
+use Rattle.state.specs.declared.State.{State}
+use Rattle.machine.specs.Given.{Inputs, level}
+use Rattle.machine.specs.Engine.{noted, performed, refuse}
+use Rattle.machine.specs.Reference.{keeps}
+use Rattle.machine.specs.declared.Answer.{Answer}
+use Rattle.machine.specs.declared.Effect.{Effect}
+
+notes-same : (t start : ℕ) (v : Values) → noted t start v ≡ keeps t start v
+notes-same t start v = go (eqb t bias)
+  where
+    go : (b : Bool) → cond b (withNotes (record { level = level start }) v) v ≡ record {
+      variables = v .variables;
+      flags = v .flags;
+      outputs = v .outputs;
+      axis = v .axis;
+      mark = v .mark;
+      notes = cond b (record { level = level start }) (v .notes);
+    }
+    go true = refl
+    go false = refl
+
+pub noted-alike : (s : State) (x : Inputs) (k : Task) (e : Effect) → performed s x k e .state .values ≡ keeps (x .task) (x .start) (e .values)
+unfolding performed
+noted-alike s x k e = notes-same (x .task) (x .start) (e .values)
+
+pub refused-alike : (s : State) (a : Answer) → refuse s a .state ≡ s
+refused-alike s a = refl

@@ -1,0 +1,28 @@
+-- When a move starts, in document 01's words: the start mark stands, or the start input is high and was low at the preceding BIAS step. Assumes nothing.
+use mathlib.Core.Path.{_≡_, refl, sym}
+use mathlib.Core.Bool.{Bool, true, false, _&&_, _||_, not}
+use mathlib.Core.Logic.{_⊎_, inl, inr, _↔_}
+use lib.Dec.{eqb}
+use borrow.Author.Tests.{eqb-true, eqb-false, eq-eqb, ne-eqb}
+use Rattle.number.proofs.Choice.{clash}
+use Rattle.state.specs.declared.Values.{Values}
+use Rattle.machine.specs.Given.{Given}
+use Rattle.machine.specs.Effect.{started}
+
+pub started-exactly : (g : Given) (v : Values) → (started g v ≡ true) ↔ ((v .mark ≡ 0 → ⊥) ⊎ ((g .start ≡ 0 → ⊥) × (v .notes .level ≡ 0)))
+started-exactly g v = (to (eqb (v .mark) 0) refl (eqb (g .start) 0) refl (eqb (v .notes .level) 0) refl, from)
+  where
+    to : (a : Bool) → eqb (v .mark) 0 ≡ a → (b : Bool) → eqb (g .start) 0 ≡ b → (c : Bool) → eqb (v .notes .level) 0 ≡ c
+        → (not a || (not b && c)) ≡ true → (v .mark ≡ 0 → ⊥) ⊎ ((g .start ≡ 0 → ⊥) × (v .notes .level ≡ 0))
+    to false i b j c k e = inl (eqb-false (v .mark) 0 i)
+    to true i false j true k e = inr (eqb-false (g .start) 0 j, eqb-true (v .notes .level) 0 k)
+    to true i false j false k e = clash (sym e)
+    to true i true j c k e = clash (sym e)
+
+    from : (v .mark ≡ 0 → ⊥) ⊎ ((g .start ≡ 0 → ⊥) × (v .notes .level ≡ 0)) → started g v ≡ true
+    from (inl n) = rw (ne-eqb (v .mark) 0 n) refl
+    from (inr (n, e)) = rw (ne-eqb (g .start) 0 n, eq-eqb (v .notes .level) 0 e) (always (eqb (v .mark) 0))
+      where
+        always : (a : Bool) → (not a || true) ≡ true
+        always true = refl
+        always false = refl

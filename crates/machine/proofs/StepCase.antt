@@ -1,0 +1,227 @@
+-- What a step comes to in a run, for the engine and the reference machine at once: both refuse it, or both execute the command. Assumes nothing.
+use Prim.Native.Nat.{ℕ, zero, suc, _<_}
+use mathlib.Core.Path.{_≡_, refl, sym, ap, subst, _∙_}
+use mathlib.Core.Bool.{Bool, true, false, not, cond}
+use mathlib.Core.List.{List, [], _∷_}
+use mathlib.Core.Logic.{⊎-elim}
+use native.Mathlib.Omega.{arith}
+use lib.Dec.{T, eqb, ltb}
+use lib.ListN.{length, getD}
+use borrow.Author.Tests.{eqb-true, eqb-false, eq-eqb, ne-eqb, not-true, ltb-true, ltb-false, lt-ltb, le-ltb}
+use Rattle.image.specs.Scan.{headerOf, blocksOf}
+use Rattle.image.specs.declared.Header.{Header}
+use Rattle.rows.specs.Rows.{rows, rowIn, rowOf, noRow}
+use Rattle.rows.specs.declared.Row.{Row as Columns}
+use Rattle.rows.proofs.Laws.{every, every-row}
+use Rattle.operands.specs.declared.Command.{Command}
+use Rattle.flow.specs.Flow.{taskCount, flowOf}
+use Rattle.flow.specs.Tasks.{permitted}
+use Rattle.walk.specs.Program.{commandAt}
+use Rattle.walk.specs.Walk.{Reaches}
+use Rattle.walk.proofs.Moves.{carried}
+use Rattle.walk.proofs.Within.{Passes}
+use Rattle.state.specs.State.{cells, runs, taskAt}
+use Rattle.state.specs.declared.Task.{Task}
+use Rattle.state.specs.declared.State.{State}
+use Rattle.machine.specs.Given.{Inputs, level}
+use Rattle.machine.specs.Effect.{effectOf}
+use Rattle.machine.specs.Engine.{pointOf, given, performed, sameHeader, fits, refuse, taskStep, step}
+use Rattle.machine.specs.Reference.{Thread, Machine, idle, does, stays, lost, tries, acts, turn}
+use Rattle.machine.specs.Alike.{returnsOf, SameTask}
+use Rattle.machine.specs.Each.{commandOf, executed}
+use Rattle.machine.specs.Ways.{May}
+use Rattle.machine.specs.declared.Answer.{Answer}
+use Rattle.machine.specs.declared.Answer.the-variants.{Done, NoTask, Inputs as BadInputs, NotRunning}
+use Rattle.machine.specs.declared.Effect.{Effect}
+use Rattle.machine.specs.declared.Outcome.{Outcome}
+use Rattle.machine.specs.declared.Outcome.the-variants.{GoOn, Stay, Jump, Call, Return, Start, Restart, End, Halt}
+use Rattle.machine.proofs.Laws.{Law}
+use Rattle.machine.proofs.RowLaw.{every-law}
+use Rattle.machine.proofs.Accepted.{Accepted, hd, body, within, passing}
+use Rattle.machine.proofs.Outcomes.{return-deep}
+use Rattle.machine.proofs.Turn.{Both}
+
+length-returns : (stack : List ℕ) (d : ℕ) → length (returnsOf stack d) ≡ d
+length-returns stack zero = refl
+length-returns stack (suc d) = ap suc (length-returns stack d)
+
+-- a code that some task may use has a layout
+has-layout : ℕ → Columns → Bool
+has-layout code r = not (eqb (r .layout) 0)
+
+all-laid-out : T (every has-layout rows)
+unfolding has-layout rows
+all-laid-out = tt
+
+pub layout-some : (code task : ℕ) → permitted code task ≡ true → rowOf code .layout ≡ 0 → ⊥
+unfolding rowOf has-layout
+layout-some code task a e =
+    ⊎-elim (λ (n : rowIn rows code ≡ noRow). let f = carried code task a .some in let z = ap (λ (r : Columns). r .flow) n in omega arith)
+    (λ t. eqb-false _ 0 (not-true _ t) e)
+    (every-row has-layout rows all-laid-out code)
+
+module _ (image : List ℕ) where
+  abbrev h : Header
+  h = hd image
+
+  abbrev bs : List ℕ
+  bs = body image
+
+  -- what holds of both states along a run
+  pub record Agree (s : State) (m : Machine) : Type 0 where
+    pub header : s .header ≡ h
+    pub both : Both image (s .tasks) (m .threads)
+    pub values : s .values ≡ m .values
+
+  -- what the command of the step's task comes to
+  abbrev pub effectHere : State → Inputs → Effect
+  effectHere s x = effectOf (given s (taskAt s (x .task)) x) (commandOf image s x) (s .values)
+
+  abbrev pub threadOf : Machine → Inputs → Thread
+  threadOf m x = getD (m .threads) (x .task) idle
+
+  -- a step that is executed: where its task is, that its command breaks nothing there, and what it comes to
+  pub record Ran (s : State) (m : Machine) (x : Inputs) : Type 0 where
+    pub task : x .task < taskCount
+    pub running : taskAt s (x .task) .status ≡ runs
+    pub depth : taskAt s (x .task) .depth ≡ length (threadOf m x .returns)
+    pub passes : Passes h (commandOf image s x) (pointOf (x .task) (taskAt s (x .task)))
+    pub law : Law (commandOf image s x .code) (commandOf image s x) (given s (taskAt s (x .task)) x) (s .values) (effectHere s x)
+    pub engine : step image s x ≡ performed s x (taskAt s (x .task)) (effectHere s x)
+    pub reference : turn image m x ≡ does m x (threadOf m x) (effectHere s x)
+
+  pub data Case (s : State) (m : Machine) (x : Inputs) : Type 0 where
+    refused : (a : Answer) → executed a ≡ false → step image s x ≡ refuse s a → turn image m x ≡ stays m a → Case s m x
+    ran : Ran s m x → Case s m x
+
+  same-header : (a : Header) → sameHeader a a ≡ true
+  same-header a =
+      rw (
+        eq-eqb (a .format) (a .format) refl,
+        eq-eqb (a .drive .model) (a .drive .model) refl,
+        eq-eqb (a .drive .b) (a .drive .b) refl,
+        eq-eqb (a .drive .c) (a .drive .c) refl,
+        eq-eqb (a .start) (a .start) refl,
+        eq-eqb (a .count) (a .count) refl,
+      )
+
+  module _ (ok : Accepted image) (s : State) (m : Machine) (g : Agree s m) (x : Inputs) (l : x .task < taskCount) (r : taskAt s (x .task) .status ≡ runs) where
+    abbrev t : ℕ
+    t = x .task
+
+    abbrev k : Task
+    k = taskAt s t
+
+    abbrev p : Thread
+    p = getD (m .threads) t idle
+
+    abbrev c : Command
+    c = commandAt bs (k .block)
+
+    here : Reaches h bs (pointOf t k)
+    here = g .both .sound t l .reach r
+
+    same : SameTask k p
+    same = g .both .same t l
+
+    -- 17 lets every step of a run pass
+    fits-here : fits image s t k ≡ true
+    unfolding fits
+    fits-here =
+        rw (
+          ok .read,
+          g .header,
+          same-header h,
+          ok .blocks (k .block) (within image ok (pointOf t k) here .block),
+          ok .fine (pointOf t k) here,
+          g .both .sound t l .wait r,
+        )
+
+    carried-here : rowOf (c .code) .layout ≡ 0 → ⊥
+    carried-here = layout-some (c .code) t (passing image ok (pointOf t k) here .allowed)
+
+    depth-here : k .depth ≡ length (p .returns)
+    depth-here = sym (length-returns (k .stack) (k .depth)) ∙ ap length (same .returns r)
+
+    -- what the command comes to
+    abbrev e : Effect
+    e = effectHere s x
+
+    law : Law (c .code) c (given s k x) (s .values) e
+    law = every-law (given s k x) c (s .values) carried-here
+
+    in-flow : May (flowOf c) (e .outcome)
+    unfolding flowOf
+    in-flow = law .outcome .flow
+
+    not-lost : (o : Outcome) → May (flowOf c) o → lost o (p .returns) ≡ false
+    not-lost GoOn f = refl
+    not-lost (Stay time turns) f = refl
+    not-lost (Jump a) f = refl
+    not-lost (Call a) f = refl
+    not-lost Return f =
+        some (p .returns)
+        (λ e. eqb-false (k .depth) 0 (sym (return-deep (pointOf t k) (flowOf c) f) ∙ passing image ok (pointOf t k) here .called) (depth-here ∙ e))
+      where
+        some : (xs : List ℕ) → (length xs ≡ 0 → ⊥) → lost Return xs ≡ false
+        some [] n = absurd (n refl)
+        some (y ∷ ys) n = refl
+    not-lost (Start u a) f = refl
+    not-lost Restart f = refl
+    not-lost End f = refl
+    not-lost (Halt n) f = refl
+
+    -- the reference machine sees the same wait and values
+    effect-same : effectOf
+        (record { model = headerOf image .header .drive .model; levels = x .levels; start = level (x .start); reached = level (x .reached); time = p .time; turns = p .turns })
+        (commandAt (blocksOf image) (k .block)) (m .values)
+        ≡ e
+    effect-same = rw (← same .time r, ← same .turns r, ← g .values, g .header)
+
+    tries-is : tries m x p e ≡ does m x p e
+    unfolding tries
+    tries-is = ap (λ (b : Bool). cond b (stays m Done) (does m x p e)) (not-lost (e .outcome) in-flow)
+
+    acts-is : acts image m x p ≡ does m x p e
+    unfolding acts
+    acts-is =
+        rw (lt-ltb (p .block) (h .count) (subst (λ (b : ℕ). b < h .count) (same .block r) (within image ok (pointOf t k) here .block)), ← same .block r, ne-eqb _ 0 carried-here)
+        (ap (tries m x p) effect-same ∙ tries-is)
+
+    ran-here : step image s x ≡ performed s x k e → turn image m x ≡ acts image m x p → Case s m x
+    ran-here i j = Case.ran (record {
+      task = l;
+      running = r;
+      depth = depth-here;
+      passes = passing image ok (pointOf t k) here;
+      law = law;
+      engine = i;
+      reference = j ∙ acts-is;
+    })
+
+  -- ---- the whole step
+
+  module _ (ok : Accepted image) (s : State) (m : Machine) (g : Agree s m) (x : Inputs) where
+    running-case : (l : x .task < taskCount) (a : Bool) → eqb (taskAt s (x .task) .status) runs ≡ a → step image s x ≡ taskStep image s x (taskAt s (x .task))
+        → turn image m x ≡ cond a (acts image m x (threadOf m x)) (stays m NotRunning) → Case s m x
+    unfolding taskStep
+    running-case l true e i j =
+        ran-here ok s m g x l (eqb-true _ runs e) (i ∙ rw (e, fits-here ok s m g x l (eqb-true _ runs e))) j
+    running-case l false e i j = Case.refused NotRunning refl (i ∙ rw e) j
+
+    inputs-case : (l : x .task < taskCount) (a : Bool) → eqb (length (x .levels)) cells ≡ a
+        → step image s x ≡ cond a (taskStep image s x (taskAt s (x .task))) (refuse s (BadInputs (length (x .levels))))
+        → turn image m x ≡ cond a (cond (threadOf m x .runs) (acts image m x (threadOf m x)) (stays m NotRunning)) (stays m (BadInputs (length (x .levels)))) → Case s m x
+    inputs-case l true e i j = running-case l (eqb (taskAt s (x .task) .status) runs) refl i (j ∙ rw (g .both .same (x .task) l .running) refl)
+    inputs-case l false e i j = Case.refused (BadInputs (length (x .levels))) refl i j
+
+    pub step-case : Case s m x
+    unfolding step turn
+    step-case = go (ltb (x .task) taskCount) refl
+      where
+        go : (a : Bool) → ltb (x .task) taskCount ≡ a → Case s m x
+        go true e =
+            let l = ltb-true (x .task) taskCount e in
+            let i : step image s x ≡ cond (eqb (length (x .levels)) cells) (taskStep image s x (taskAt s (x .task))) (refuse s (BadInputs (length (x .levels)))) = rw e in
+            inputs-case l (eqb (length (x .levels)) cells) refl i (rw (le-ltb 2 (x .task) (omega arith)))
+        go false e = let l = ltb-false (x .task) taskCount e in Case.refused (NoTask (x .task)) refl (rw e) (rw (lt-ltb 2 (x .task) (omega arith)))

@@ -1,0 +1,113 @@
+-- What holds at every step of a run, by itself (design, "Demand 3", parts 4 to 6): a return goes behind its task's own latest open call, a task
+-- stops only itself and for a named reason, and no step moves another task but by 54, 57 and 90. Assumes nothing.
+use Prim.Native.Nat.{ℕ, _+_, _<_}
+use mathlib.Core.Path.{_≡_}
+use mathlib.Core.Bool.{Bool, true, false, _&&_, cond}
+use mathlib.Core.Logic.{_⊎_}
+use mathlib.Core.List.{List, [], _∷_}
+use lib.Dec.{eqb}
+use lib.IntN.{pos}
+use Rattle.image.specs.Scan.{blocksOf}
+use Rattle.rows.specs.Rows.{hex}
+use Rattle.command.specs.Judged.{mostSpeed, mostRamp}
+use Rattle.operands.specs.declared.Command.{Command}
+use Rattle.flow.specs.Flow.{bias, plc, mathematics, taskCount}
+use Rattle.walk.specs.Program.{commandAt}
+use Rattle.walk.specs.Walk.{starts}
+use Rattle.state.specs.State.{runs, ended, halted, taskAt}
+use Rattle.state.specs.declared.Values.{Values}
+use Rattle.state.specs.declared.State.{State}
+use Rattle.machine.specs.Given.{Inputs}
+use Rattle.state.specs.Wait.{mostTime}
+use Rattle.machine.specs.Effect.{variable, within, zeroDivisor, outOfRange}
+use Rattle.machine.specs.Engine.{step, pointOf, noted, stopped}
+use Rattle.machine.specs.declared.Motion.the-variants.{None}
+use Rattle.machine.specs.declared.Answer.{Answer}
+use Rattle.machine.specs.declared.Answer.the-variants.{Done, NoTask, Inputs as BadInputs, NotRunning, Differs, Halted}
+
+-- the command at the block where a step's task stands
+abbrev pub commandOf : List ℕ → State → Inputs → Command
+commandOf image s x = commandAt (blocksOf image) (taskAt s (x .task) .block)
+
+-- the command was executed: the step was neither refused nor did it halt its task
+abbrev pub executed : Answer → Bool
+executed Done = true
+executed (NoTask t) = false
+executed (BadInputs n) = false
+executed NotRunning = false
+executed (Differs p) = false
+executed (Halted n p) = false
+
+-- ---- part 4: returns
+
+-- the open calls of each task, by its number: the blocks of its 52s that no 53 has come back from, the latest first
+abbrev pub Calls : Type 0
+Calls = ℕ → List ℕ
+
+abbrev pub noCalls : Calls
+noCalls t = []
+
+abbrev pub withCalls : ℕ → List ℕ → Calls → Calls
+withCalls t l calls u = cond (eqb u t) l (calls u)
+
+abbrev pub withoutLatest : List ℕ → List ℕ
+withoutLatest [] = []
+withoutLatest (b ∷ bs) = bs
+
+-- as a command counts that task t executed at block b: 52 opens a call, 53 takes the latest off, 54, 57 and 90 leave the task that they start
+-- without any, and so does a return to start (51, mode 0) its own
+unfoldable pub counts : Command → ℕ → ℕ → Calls → Calls
+counts c t b calls =
+    cond (eqb (c .code) (hex 5 2)) (withCalls t (b ∷ calls t) calls)
+    (cond (eqb (c .code) (hex 5 3)) (withCalls t (withoutLatest (calls t)) calls)
+    (cond (eqb (c .code) (hex 5 4)) (withCalls plc [] calls)
+    (cond (eqb (c .code) (hex 5 7)) (withCalls bias [] calls)
+    (cond (eqb (c .code) (hex 9 0)) (withCalls mathematics [] calls)
+    (cond (eqb (c .code) (hex 5 1) && eqb (c .x) 0) (withCalls t [] calls) calls)))))
+
+-- after a step
+unfoldable pub callsAfter : List ℕ → State → Inputs → Calls → Calls
+callsAfter image s x calls =
+    cond (executed (step image s x .answer)) (counts (commandOf image s x) (x .task) (taskAt s (x .task) .block) calls) calls
+
+-- a block is the one behind the latest call
+pub data Behind : List ℕ → ℕ → Type 0 where
+  latest : {b : ℕ} {bs : List ℕ} → Behind (b ∷ bs) (b + 1)
+
+-- ---- part 5: why a task stops
+
+-- 19 or 20, of a command c that task t executes: 8D, and the divisor variable holds 0; 31 to 33, and the variable is out of the parameter's
+-- range; 5A at its first step (no wait is pending), and the variable is out of the range of times
+pub data Reason (c : Command) (v : Values) (time : ℕ) : ℕ → Type 0 where
+  divisor : c .code ≡ hex 8 13 → variable v (c .z) ≡ pos 0 → Reason c v time zeroDivisor
+  speed : c .code ≡ hex 3 1 → within 1 mostSpeed (variable v (c .x)) ≡ false → Reason c v time outOfRange
+  acceleration : c .code ≡ hex 3 2 → within 1 mostRamp (variable v (c .x)) ≡ false → Reason c v time outOfRange
+  deceleration : c .code ≡ hex 3 3 → within 1 mostRamp (variable v (c .x)) ≡ false → Reason c v time outOfRange
+  waiting : c .code ≡ hex 5 10 → time ≡ 0 → within 0 mostTime (variable v (c .x)) ≡ false → Reason c v time outOfRange
+
+-- the step's task stopped: it halted by 19 or 20 at its point, keeping block, start and call stack, with no value changed but that BIAS's start level
+-- is noted, and no motion asked for; or it ended by a 51 of its own mode, keeping the same
+pub data Stopped (image : List ℕ) (s : State) (x : Inputs) : Type 0 where
+  byRefusal : (n : ℕ) → Reason (commandOf image s x) (s .values) (taskAt s (x .task) .time) n
+      → step image s x .answer ≡ Halted n (pointOf (x .task) (taskAt s (x .task))) → step image s x .state .values ≡ noted (x .task) (x .start) (s .values)
+      → taskAt (step image s x .state) (x .task) ≡ stopped halted (taskAt s (x .task)) → step image s x .motion ≡ None → Stopped image s x
+  byItself : commandOf image s x .code ≡ hex 5 1 → commandOf image s x .x ≡ x .task + 1 → step image s x .answer ≡ Done
+      → taskAt (step image s x .state) (x .task) ≡ stopped ended (taskAt s (x .task)) → Stopped image s x
+
+-- ---- a step, and every step of a list
+
+pub record Step (image : List ℕ) (calls : Calls) (s : State) (x : Inputs) : Type 0 where
+  -- part 4
+  pub returns : executed (step image s x .answer) ≡ true → commandOf image s x .code ≡ hex 5 3 → Behind (calls (x .task)) (taskAt (step image s x .state) (x .task) .block)
+  -- part 5
+  pub stops : (t : ℕ) → t < taskCount → taskAt s t .status ≡ runs → (taskAt (step image s x .state) t .status ≡ runs → ⊥) → (t ≡ x .task) × Stopped image s x
+  -- part 6: status, block, start, call stack and wait of another task stay, or 54, 57 or 90 names it
+  pub others : (t : ℕ) → t < taskCount → (t ≡ x .task → ⊥)
+      → (taskAt (step image s x .state) t ≡ taskAt s t) ⊎ ((executed (step image s x .answer) ≡ true) × (starts (commandOf image s x .code) t ≡ true))
+  -- and the header stays
+  pub header : step image s x .state .header ≡ s .header
+
+pub data EveryStep (image : List ℕ) : Calls → State → List Inputs → Type 0 where
+  none : {calls : Calls} {s : State} → EveryStep image calls s []
+  more : {calls : Calls} {s : State} {x : Inputs} {xs : List Inputs} → Step image calls s x
+      → EveryStep image (callsAfter image s x calls) (step image s x .state) xs → EveryStep image calls s (x ∷ xs)

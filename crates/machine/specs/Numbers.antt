@@ -1,0 +1,73 @@
+-- Document 01's number and place of an answer, and the numbers of a motion request as the C border has them (design, "The C border"). What an answer or a
+-- request does not have is 0. Assumes nothing.
+use Prim.Native.Nat.{ℕ}
+use lib.IntN.{pos}
+use Rattle.state.specs.declared.Axis.{Axis}
+use Rattle.machine.specs.declared.Motion.{Motion}
+use Rattle.machine.specs.declared.Motion.the-variants.{None, MoveTo, MoveBy, Forward, Backward, Stop}
+use Rattle.machine.specs.declared.Answer.{Answer}
+use Rattle.machine.specs.declared.Answer.the-variants.{Done, NoTask, Inputs as BadInputs, NotRunning, Differs, Halted}
+
+abbrev pub answerNumber : Answer → ℕ
+answerNumber Done = 0
+answerNumber (NoTask t) = 15
+answerNumber (BadInputs n) = 15
+answerNumber NotRunning = 18
+answerNumber (Differs p) = 17
+answerNumber (Halted n p) = n
+
+-- of 15 the task number or the inputs' length; of 17, 19 and 20 the block before the step
+abbrev pub answerPlace : Answer → ℕ
+answerPlace Done = 0
+answerPlace (NoTask t) = t
+answerPlace (BadInputs n) = n
+answerPlace NotRunning = 0
+answerPlace (Differs p) = p .block
+answerPlace (Halted n p) = p .block
+
+abbrev pub answerTask : Answer → ℕ
+answerTask Done = 0
+answerTask (NoTask t) = 0
+answerTask (BadInputs n) = 0
+answerTask NotRunning = 0
+answerTask (Differs p) = p .task
+answerTask (Halted n p) = p .task
+
+abbrev pub answerDepth : Answer → ℕ
+answerDepth Done = 0
+answerDepth (NoTask t) = 0
+answerDepth (BadInputs n) = 0
+answerDepth NotRunning = 0
+answerDepth (Differs p) = p .depth
+answerDepth (Halted n p) = p .depth
+
+-- ---- requests
+
+abbrev pub motionNumber : Motion → ℕ
+motionNumber None = 0
+motionNumber (MoveTo a) = 1
+motionNumber (MoveBy a) = 2
+motionNumber (Forward a) = 3
+motionNumber (Backward a) = 4
+motionNumber (Stop mode ramp) = 5
+
+-- the parameters that a move carries
+abbrev pub noAxis : Axis
+noAxis = record { position = pos 0; speed = 0; acceleration = 0; deceleration = 0 }
+
+-- and a stop: its deceleration alone
+abbrev pub motionAxis : Motion → Axis
+motionAxis None = noAxis
+motionAxis (MoveTo a) = a
+motionAxis (MoveBy a) = a
+motionAxis (Forward a) = a
+motionAxis (Backward a) = a
+motionAxis (Stop mode ramp) = record { position = pos 0; speed = 0; acceleration = 0; deceleration = ramp }
+
+abbrev pub motionMode : Motion → ℕ
+motionMode None = 0
+motionMode (MoveTo a) = 0
+motionMode (MoveBy a) = 0
+motionMode (Forward a) = 0
+motionMode (Backward a) = 0
+motionMode (Stop mode ramp) = mode

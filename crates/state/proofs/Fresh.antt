@@ -1,0 +1,78 @@
+-- What load leaves is a good state. Assumes nothing.
+use Prim.Native.Nat.{ℕ, zero, suc, _<_}
+use mathlib.Core.Path.{_≡_, refl}
+use mathlib.Core.List.{[], _∷_}
+use native.Mathlib.Omega.{arith}
+use lib.ListN.{getD, replicate}
+use lib.IntN.{pos}
+use mir.Syntax.{w32}
+use mir.Val.{SFits}
+use Rattle.image.specs.Good.{Good as GoodHeader}
+use Rattle.image.specs.declared.Header.{Header}
+use Rattle.flow.specs.Flow.{taskCount}
+use Rattle.point.specs.Fault.{mostDepth}
+use Rattle.state.specs.State.{cells, noTask, fresh, freshValues, running, neverStarted}
+use Rattle.state.specs.Good.{GoodWait, GoodTask, GoodValues, Good}
+
+-- a list that holds one thing throughout holds it everywhere, where that is also what stands past its end
+pub getD-replicate : {A : Type 0} (n : ℕ) (x : A) (i : ℕ) → getD (replicate n x) i x ≡ x
+getD-replicate zero x i = refl
+getD-replicate (suc n) x zero = refl
+getD-replicate (suc n) x (suc i) = getD-replicate n x i
+
+small-fits : SFits w32 (pos 0)
+small-fits = record { sfits = omega arith }
+
+pub values-good : GoodValues freshValues
+unfolding freshValues
+values-good = record {
+  variables = refl;
+  signed = λ i. rw (getD-replicate cells (pos 0) i) small-fits;
+  flags = refl;
+  flag = λ i. rw (getD-replicate {A = ℕ} cells 0 i) (omega arith);
+  outputs = refl;
+  output = λ i. rw (getD-replicate {A = ℕ} cells 0 i) (omega arith);
+  axis = record {
+    position = small-fits;
+    speed = record { positive = omega arith; bounded = omega arith };
+    acceleration = record { positive = omega arith; bounded = omega arith };
+    deceleration = record { positive = omega arith; bounded = omega arith };
+  };
+  mark = omega arith;
+  level = omega arith;
+}
+
+module _ (h : Header) (g : GoodHeader h) where
+  started : GoodTask h (running (h .start))
+  started = record {
+    status = omega arith;
+    block = g .start;
+    start = g .start;
+    depth = omega arith;
+    long = refl;
+    under = λ i l. absurd (omega arith);
+    above = λ i l. getD-replicate {A = ℕ} mostDepth 0 i;
+    wait = GoodWait.none;
+  }
+
+  idle : GoodTask h neverStarted
+  idle = record {
+    status = omega arith;
+    block = g .count .0;
+    start = g .count .0;
+    depth = omega arith;
+    long = refl;
+    under = λ i l. absurd (omega arith);
+    above = λ i l. getD-replicate {A = ℕ} mostDepth 0 i;
+    wait = GoodWait.none;
+  }
+
+  pub fresh-good : Good (fresh h)
+  unfolding fresh
+  fresh-good = record { header = g; values = values-good; three = refl; task = tasks; first = refl }
+    where
+      tasks : (t : ℕ) → t < taskCount → GoodTask h (getD (running (h .start) ∷ neverStarted ∷ neverStarted ∷ []) t noTask)
+      tasks zero l = started
+      tasks (suc zero) l = idle
+      tasks (suc (suc zero)) l = idle
+      tasks (suc (suc (suc t))) l = absurd (omega arith)

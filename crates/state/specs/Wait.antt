@@ -1,0 +1,17 @@
+-- Waits for a time (document 01, "Running"): T ms and k turns of the task. Assumes nothing.
+use Prim.Native.Nat.{ℕ, _*_}
+use mathlib.Core.Bool.{Bool}
+use lib.Dec.{leb}
+use Rattle.drive.specs.Types.{cycleOf}
+
+-- a wait of T ms is over after k turns: k cycles are at least T, in microseconds
+abbrev pub due : ℕ → ℕ → ℕ → Bool
+due model time turns = leb (1000 * time) (turns * cycleOf model)
+
+-- the most that an operand of 59 says, in 2 ms, and a variable of 5A, in ms
+abbrev pub mostTime : ℕ
+mostTime = 65535
+
+-- the longest wait in ms
+abbrev pub longest : ℕ
+longest = 2 * mostTime
