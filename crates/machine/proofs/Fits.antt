@@ -1,11 +1,10 @@
 -- What 5 to 8 promise of the command of a block that they let pass: its operands are in the ranges of its row, and numbers of their width. Assumes nothing.
-use Prim.Native.Nat.{ℕ, zero, suc, _+_, _*_, _%_, _<_, _≤_}
+use Prim.Native.Nat.{ℕ, _+_, _*_, _%_, _<_, _≤_}
 use mathlib.Core.Path.{_≡_, refl}
 use mathlib.Core.Bool.{Bool, true, false, cond}
 use mathlib.Core.List.{List, [], _∷_}
 use native.Mathlib.Omega.{arith}
 use lib.Dec.{eqb}
-use lib.ListN.{getD}
 use lib.IntN.{pos}
 use borrow.Author.Tests.{eqb-false}
 use mir.Syntax.{w32}
@@ -19,6 +18,7 @@ use Rattle.operands.specs.Operands.{byteAt, wordAt, valueAt, bareOf, layouts, l
 use Rattle.command.specs.Judged.{decoded, decodedBy, judgedBy, blockRefusal, inRange, deviceRefusal}
 use Rattle.operands.specs.declared.Command.{Command}
 use Rattle.command.specs.declared.Decoded.the-variants.{Sound, NotCarried, NotOnDrive, OutOfRange, NotZero}
+use Rattle.machine.proofs.Every.{All, end, _&_, at-place}
 use Rattle.machine.proofs.Laws.{Ranged, Fit}
 
 -- every byte of a block, and what is read past its end, is below 256
@@ -31,16 +31,6 @@ record Laid (f : List ℕ → Command) : Type 0 where
   code : (b : List ℕ) → f b .code ≡ byteAt b 0
   word : (b : List ℕ) → BlockBytes b → f b .word ≤ 65535
   value : (b : List ℕ) → BlockBytes b → SFits w32 (f b .value)
-
-infixr 5 _&_
-data Each : List (List ℕ → Command) → Type 0 where
-  end : Each []
-  _&_ : {f : List ℕ → Command} {fs : List (List ℕ → Command)} → Laid f → Each fs → Each (f ∷ fs)
-
-each : (d : List ℕ → Command) → Laid d → (fs : List (List ℕ → Command)) → Each fs → (n : ℕ) → Laid (getD fs n d)
-each d l [] Each.end n = l
-each d l (f ∷ fs) (Each._&_ k ks) zero = k
-each d l (f ∷ fs) (Each._&_ k ks) (suc n) = each d l fs ks n
 
 word-small : (b : List ℕ) → BlockBytes b → (k : ℕ) → wordAt b k ≤ 65535
 word-small b h k = let x = h k in let y = h (k + 1) in omega arith
@@ -62,7 +52,7 @@ no-word = omega arith
 half-word : (b : List ℕ) → BlockBytes b → 256 * (byteAt b 6 % 16) + byteAt b 7 ≤ 65535
 half-word b h = let x = h 6 in let y = h 7 in omega arith
 
-all-laid : Each layouts
+all-laid : All Laid layouts
 all-laid =
     record { code = λ _. refl; word = λ _ _. no-word; value = λ _ _. no-value } &  -- bare
     record { code = λ _. refl; word = λ _ _. no-word; value = λ _ _. no-value } &  -- bare
@@ -80,7 +70,7 @@ all-laid =
 
 laid : (n : ℕ) → Laid (laidOut n)
 unfolding laidOut
-laid n = each bareOf (record { code = λ _. refl; word = λ _ _. no-word; value = λ _ _. no-value }) layouts all-laid n
+laid n = at-place Laid bareOf (record { code = λ _. refl; word = λ _ _. no-word; value = λ _ _. no-value }) layouts all-laid n
 
 -- ---- ranges
 

@@ -28,7 +28,8 @@ use Rattle.machine.specs.Each.{Reason}
 use Rattle.machine.specs.Ways.{May}
 use Rattle.machine.specs.declared.Motion.the-variants.{MoveTo, MoveBy, Forward, Backward}
 use Rattle.machine.specs.declared.Outcome.the-variants.{Jump, Call, Return, Start, Restart, End}
-use Rattle.machine.proofs.Rows.{All, end, _&_, Of, effect-of}
+use Rattle.machine.proofs.Every.{All, end, _&_}
+use Rattle.machine.proofs.Rows.{Of, effect-of}
 use Rattle.machine.proofs.Setters.{bit-level, level-level, up-to, small-fits, flags-fit, flag-good, output-good, axis-good, mark-good, position-good, speed-good, acceleration-good, deceleration-good}
 use Rattle.machine.proofs.Waits.{rounded}
 use Rattle.machine.proofs.Laws.{Ranged, Lawful, Law, simply, either, flows-law, effect-law, sets-law, assigns-law, jump-law, moves-law, stays-law, waits-lawful, parameter-law, divides-law, waits-variable-law}

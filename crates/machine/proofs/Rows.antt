@@ -13,12 +13,7 @@ use Rattle.rows.proofs.Laws.{every, every-row}
 use Rattle.operands.specs.declared.Command.{Command}
 use Rattle.machine.specs.Effect.{Deed, Row, deedIn}
 use Rattle.machine.specs.Effect.{rows as deeds}
-
--- each row of a list
-infixr 5 _&_
-pub data All (P : Row → Type 0) : List Row → Type 0 where
-  end : All P []
-  _&_ : {r : Row} {rs : List Row} → P r → All P rs → All P (r ∷ rs)
+use Rattle.machine.proofs.Every.{All}
 
 abbrev has : List Row → ℕ → Bool
 has [] code = false
