@@ -25,7 +25,7 @@ use Rattle.state.specs.State as state
 use Rattle.state.specs.declared.Task.{Task}
 use Rattle.machine.specs.Effect as effect
 use Rattle.machine.specs.Engine as engine
-use Rattle.machine.specs.Engine.{Out}
+use Rattle.machine.specs.declared.Out.{Out}
 use Rattle.machine.specs.Run.{outs, stateAfter}
 use Rattle.machine.specs.Theorem.{Run, loaded}
 use Rattle.machine.specs.declared.Answer.{Answer}

@@ -16,7 +16,7 @@ use Rattle.walk.specs.declared.Verdict.{Verdict}
 use Rattle.state.specs.State.{cells, startAxis, freshValues, withVariable}
 use Rattle.machine.specs.Given.{Given, Inputs}
 use Rattle.machine.specs.Effect.{effectOf, variable}
-use Rattle.machine.specs.Engine.{Out}
+use Rattle.machine.specs.declared.Out.{Out}
 use Rattle.machine.specs.Run.{outs}
 use Rattle.machine.specs.Theorem.{loaded}
 use Rattle.machine.specs.declared.Motion.{Motion}

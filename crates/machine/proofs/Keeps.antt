@@ -32,7 +32,8 @@ use Rattle.state.specs.declared.State.{State}
 use Rattle.state.proofs.Fresh.{getD-replicate}
 use Rattle.machine.specs.Given.{Inputs, level}
 use Rattle.machine.specs.Effect.{effectOf}
-use Rattle.machine.specs.Engine.{Out, goTo, stayWith, callTo, returnFrom, startAnew, restarted, stopped, tasksAfter, pointOf, given, performed, isLoaded, blockFits, waitFits, fits, refuse, taskStep, step}
+use Rattle.machine.specs.Engine.{goTo, stayWith, callTo, returnFrom, startAnew, restarted, stopped, tasksAfter, pointOf, given, performed, isLoaded, blockFits, waitFits, fits, refuse, taskStep, step}
+use Rattle.machine.specs.declared.Out.{Out}
 use Rattle.machine.specs.Reference.{keeps}
 use Rattle.machine.specs.Ways.{May}
 use Rattle.machine.specs.Theorem.{KeepsGood}
@@ -190,7 +191,7 @@ module _ (image : List ℕ) (bytes : (k : ℕ) → getD image k 0 < 256) where
 
 -- ---- a command that 17 lets pass
 
-no-fault : (f : Fault) → faultNumber f ≡ 0 → f ≡ Fine
+pub no-fault : (f : Fault) → faultNumber f ≡ 0 → f ≡ Fine
 no-fault Fine e = refl
 no-fault Foreign e = absurd (omega arith)
 no-fault Forbidden e = absurd (omega arith)
@@ -199,7 +200,7 @@ no-fault NoCall e = absurd (omega arith)
 no-fault PastEnd e = absurd (omega arith)
 
 module _ (image : List ℕ) (bytes : (k : ℕ) → getD image k 0 < 256) (s : State) (g : Good s) (x : Inputs) (l : x .task < taskCount)
-    (r : taskAt s (x .task) .status ≡ runs) (pass : fits image s (x .task) (taskAt s (x .task)) ≡ true) where
+    (r : taskAt s (x .task) .status ≡ runs) (pass : fits image (s .header) (x .task) (taskAt s (x .task)) ≡ true) where
   abbrev t : ℕ
   t = x .task
 
@@ -228,8 +229,8 @@ module _ (image : List ℕ) (bytes : (k : ℕ) → getD image k 0 < 256) (s : St
   block-fits : (eqb (blockNumber h bs (k .block)) 0 ≡ true) × (eqb (faultNumber (faultAt h bs p)) 0 ≡ true)
   unfolding fits
   block-fits =
-      let a = both (isLoaded image s) (blockFits s bs t k && waitFits bs k) pass in
-      let b = both (blockFits s bs t k) (waitFits bs k) (a .1) in
+      let a = both (isLoaded image h) (blockFits h bs t k && waitFits bs k) pass in
+      let b = both (blockFits h bs t k) (waitFits bs k) (a .1) in
       both (eqb (blockNumber h bs (k .block)) 0) (eqb (faultNumber (faultAt h bs p)) 0) (b .0)
 
   fault-free : faultAt h bs p ≡ Fine
@@ -319,7 +320,7 @@ keeps-good image bytes s g x =
     either (ltb (x .task) taskCount) _ _
     (λ i. either (eqb (length (x .levels)) cells) _ _
     (λ _. either (eqb (taskAt s (x .task) .status) runs) _ _
-    (λ j. either (fits image s (x .task) (taskAt s (x .task))) _ _
+    (λ j. either (fits image (s .header) (x .task) (taskAt s (x .task))) _ _
     (λ f. performed-good image bytes s g x (ltb-true _ _ i) (eqb-true _ _ j) f)
     (stays (Differs (pointOf (x .task) (taskAt s (x .task))))))
     (stays NotRunning))

@@ -18,3 +18,4 @@ pub mod Codes
 pub mod StepParts
 pub mod Keeps
 pub mod Runs
+pub mod Room

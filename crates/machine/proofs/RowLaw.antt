@@ -99,6 +99,7 @@ rows-keep =
     at (hex 5 8) _ (λ c e g v. stays-law (hex 5 8) c g v (isSet (g .reached)) May.over May.stay) &  -- 58
     at (hex 5 9) _ (λ c e g v. flows-law (hex 5 9) c g v (waits (2 * c .word) g) (waits-lawful (hex 5 9) c g v (2 * c .word) refl May.over (λ _ _. May.stay) (λ _ _ f. twice (c .word) (f .word)))) &  -- 59
     at (hex 5 10) _ (λ c e g v. waits-variable-law (hex 5 10) c g v refl May.over (λ _ _. May.stay) May.refuse (Reason.waiting e) (λ _. short (g .model) (variable v (c .x)))) &  -- 5A
+    at (hex 9 0) _ (λ c e g v. flows-law (hex 9 0) c g v (Start mathematics (c .word)) (simply (hex 9 0) c g v (Start mathematics (c .word)) refl May.start)) &  -- 90
     at (hex 6 0) _ (λ c e g v. sets-law (hex 6 0) c g v (withFlag (c .x) (c .y) v) May.on (λ n f d. flag-good v d (c .x) (c .y) (leb-true (c .y) mostLevel (ranges-at (hex 6 0) n c e (f .ranges))))) &  -- 60
     at (hex 6 1) _ (λ c e g v. jump-law (hex 6 1) c g v (compares (c .y) (flag v (c .x)) (c .z)) (c .word) May.branch May.pass) &  -- 61
     at (hex 6 2) _ (λ c e g v. sets-law (hex 6 2) c g v (withFlag (c .x) (flag v (c .y)) v) May.on (λ _ _ d. flag-good v d (c .x) (flag v (c .y)) (d .flag (c .y)))) &  -- 62
@@ -126,7 +127,6 @@ rows-keep =
     at (hex 8 11) _ (λ c e g v. assigns-law (hex 8 11) c g v (wrap w32 (variable v (c .y) -ℤ variable v (c .z))) May.on (λ _ _ _. wrap-fits w32 (variable v (c .y) -ℤ variable v (c .z)))) &  -- 8B
     at (hex 8 12) _ (λ c e g v. assigns-law (hex 8 12) c g v (wrap w32 (variable v (c .y) *ℤ variable v (c .z))) May.on (λ _ _ _. wrap-fits w32 (variable v (c .y) *ℤ variable v (c .z)))) &  -- 8C
     at (hex 8 13) _ (λ c e g v. divides-law (hex 8 13) c g v (variable v (c .y)) (variable v (c .z)) May.on May.halt (λ z _ _. Reason.divisor e z)) &  -- 8D
-    at (hex 9 0) _ (λ c e g v. flows-law (hex 9 0) c g v (Start mathematics (c .word)) (simply (hex 9 0) c g v (Start mathematics (c .word)) refl May.start)) &  -- 90
     end
 
 -- the law of every command that is carried

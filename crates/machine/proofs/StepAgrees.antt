@@ -9,7 +9,8 @@ use Rattle.state.specs.State.{taskAt}
 use Rattle.state.specs.declared.Task.{Task}
 use Rattle.state.specs.declared.State.{State}
 use Rattle.machine.specs.Given.{Inputs}
-use Rattle.machine.specs.Engine.{Out, pointOf, answerTo, performed, step}
+use Rattle.machine.specs.Engine.{pointOf, answerTo, performed, step}
+use Rattle.machine.specs.declared.Out.{Out}
 use Rattle.machine.specs.Reference.{Thread, Machine, Did, replies, does, turn}
 use Rattle.operands.specs.declared.Command.{Command}
 use Rattle.machine.specs.Each.{commandOf}

@@ -125,7 +125,7 @@ module _ (image : List ℕ) where
     same = g .both .same t l
 
     -- 17 lets every step of a run pass
-    fits-here : fits image s t k ≡ true
+    fits-here : fits image (s .header) t k ≡ true
     unfolding fits
     fits-here =
         rw (

@@ -25,7 +25,8 @@ use Rattle.state.specs.State.{runs, ended, halted, noTask, taskAt}
 use Rattle.state.specs.declared.Task.{Task}
 use Rattle.state.specs.declared.State.{State}
 use Rattle.machine.specs.Given.{Inputs}
-use Rattle.machine.specs.Engine.{Out, goTo, callTo, returnFrom, stayWith, restarted, startAnew, tasksAfter, pointOf, noted, answerTo, performed, step, stopped}
+use Rattle.machine.specs.Engine.{goTo, callTo, returnFrom, stayWith, restarted, startAnew, tasksAfter, pointOf, noted, answerTo, performed, step, stopped}
+use Rattle.machine.specs.declared.Out.{Out}
 use Rattle.machine.specs.Reference.{Thread, Machine, Did, idle, goes, back, anew, follows, does, turn}
 use Rattle.machine.specs.Each.{Calls, withCalls, withoutLatest, callsAfter, executed, commandOf, Behind, Stopped, Step}
 use Rattle.machine.specs.Ways.{May}

@@ -3,7 +3,7 @@
 -- what a step does. Sources are read before the target is written. Assumes nothing.
 use Prim.Native.Nat.{ℕ, zero, suc, _+_, _-_, _*_, _%_}
 use mathlib.Core.Bool.{Bool, true, false, _&&_, _||_, not, cond}
-use mathlib.Core.List.{List, [], _∷_}
+use mathlib.Core.List.{List, [], _∷_, _++_}
 use lib.Dec.{eqb, ltb}
 use lib.ListN.{getD}
 use lib.IntN.{ℤ, pos, negsuc, _+ℤ_, _-ℤ_, _*ℤ_}
@@ -146,8 +146,9 @@ pub record Row : Type 0 where
 abbrev pub row : ℕ → Deed → Row
 row code deed = record { code = code; deed = deed }
 
-abbrev pub rows : List Row
-rows =
+-- motion and parameters
+abbrev pub axisRows : List Row
+axisRows =
     row (hex 0 0) (moves MoveTo) ∷  -- 00, p. 30
     row (hex 0 1) (moves MoveBy) ∷  -- 01, p. 31
     row (hex 0 3) (moves Forward) ∷  -- 03, p. 34
@@ -167,6 +168,11 @@ rows =
     row (hex 4 1) (λ g c v. assigns c (pos (v .axis .speed)) v) ∷  -- 41, p. 101
     row (hex 4 2) (λ g c v. assigns c (pos (v .axis .acceleration)) v) ∷  -- 42, p. 102
     row (hex 4 3) (λ g c v. assigns c (pos (v .axis .deceleration)) v) ∷  -- 43, p. 103
+    []
+
+-- control
+abbrev pub controlRows : List Row
+controlRows =
     row (hex 5 0) (λ g c v. sets v) ∷  -- 50, p. 122
     row (hex 5 1) (λ g c v. flows v (cond (eqb (c .x) 0) Restart End)) ∷  -- 51, p. 123
     row (hex 5 2) (λ g c v. flows v (Call (c .word))) ∷  -- 52, p. 124
@@ -177,6 +183,12 @@ rows =
     row (hex 5 8) (λ g c v. flows v (cond (isSet (g .reached)) GoOn (Stay 0 0))) ∷  -- 58, p. 130
     row (hex 5 9) (λ g c v. flows v (waits (2 * c .word) g)) ∷  -- 59, p. 131
     row (hex 5 10) waitsVariable ∷  -- 5A, p. 132
+    row (hex 9 0) (λ g c v. flows v (Start mathematics (c .word))) ∷  -- 90, p. 185
+    []
+
+-- flags and pins
+abbrev pub levelRows : List Row
+levelRows =
     row (hex 6 0) (λ g c v. sets (withFlag (c .x) (c .y) v)) ∷  -- 60, p. 137
     row (hex 6 1) (λ g c v. jumpIf (compares (c .y) (flag v (c .x)) (c .z)) (c .word) v) ∷  -- 61, p. 138
     row (hex 6 2) (λ g c v. sets (withFlag (c .x) (flag v (c .y)) v)) ∷  -- 62, p. 139
@@ -191,6 +203,11 @@ rows =
     row (hex 7 1) (λ g c v. jumpIf (compares (c .y) (output v (c .x)) (c .z)) (c .word) v) ∷  -- 71, p. 156
     row (hex 7 2) (λ g c v. sets (withOutput (c .x) (c .y) v)) ∷  -- 72, p. 158
     row (hex 7 3) (λ g c v. sets (withOutput (c .x) (flag v (c .y)) v)) ∷  -- 73, p. 159
+    []
+
+-- variables
+abbrev pub variableRows : List Row
+variableRows =
     row (hex 8 0) (λ g c v. assigns c (c .value) v) ∷  -- 80, p. 167
     row (hex 8 1) (λ g c v. jumpIf (holds (c .y) (variable v (c .x)) (c .value)) (c .word) v) ∷  -- 81, p. 168
     row (hex 8 2) (λ g c v. assigns c (wrap w32 (variable v (c .y) +ℤ c .value)) v) ∷  -- 82, p. 170
@@ -204,8 +221,10 @@ rows =
     row (hex 8 11) (λ g c v. assigns c (wrap w32 (variable v (c .y) -ℤ variable v (c .z))) v) ∷  -- 8B, p. 180
     row (hex 8 12) (λ g c v. assigns c (wrap w32 (variable v (c .y) *ℤ variable v (c .z))) v) ∷  -- 8C, p. 181
     row (hex 8 13) (λ g c v. divides c (quotient (variable v (c .y)) (variable v (c .z))) v) ∷  -- 8D, p. 182
-    row (hex 9 0) (λ g c v. flows v (Start mathematics (c .word))) ∷  -- 90, p. 185
     []
+
+abbrev pub rows : List Row
+rows = axisRows ++ (controlRows ++ (levelRows ++ variableRows))
 
 -- a code that is not carried does nothing: the task stays
 abbrev pub nothing : Deed

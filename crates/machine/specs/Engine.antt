@@ -25,6 +25,7 @@ use Rattle.machine.specs.declared.Motion.the-variants.{None}
 use Rattle.machine.specs.declared.Outcome.{Outcome}
 use Rattle.machine.specs.declared.Outcome.the-variants.{GoOn, Stay, Jump, Call, Return, Start, Restart, End, Halt}
 use Rattle.machine.specs.declared.Effect.{Effect}
+use Rattle.machine.specs.declared.Out.{Out}
 use Rattle.machine.specs.declared.Answer.{Answer}
 use Rattle.machine.specs.declared.Answer.the-variants.{Done, NoTask, Inputs as BadInputs, NotRunning, Differs, Halted}
 
@@ -71,12 +72,6 @@ tasksAfter first t k End l = set l t (stopped ended k)
 tasksAfter first t k (Halt n) l = set l t (stopped halted k)
 
 -- ---- a step
-
--- what a step hands out
-pub record Out : Type 0 where
-  pub state : State
-  pub motion : Motion
-  pub answer : Answer
 
 -- a refused step changes nothing and asks for no motion
 abbrev pub refuse : State → Answer → Out
@@ -129,11 +124,11 @@ sameHeader a b =
     eqb (a .format) (b .format) && (eqb (a .drive .model) (b .drive .model) && (eqb (a .drive .b) (b .drive .b) && (eqb (a .drive .c) (b .drive .c)
     && (eqb (a .start) (b .start) && eqb (a .count) (b .count)))))
 
-abbrev pub isLoaded : List ℕ → State → Bool
-isLoaded image s = done (headerOf image .outcome) && sameHeader (headerOf image .header) (s .header)
+abbrev pub isLoaded : List ℕ → Header → Bool
+isLoaded image h = done (headerOf image .outcome) && sameHeader (headerOf image .header) h
 
-abbrev pub blockFits : State → List ℕ → ℕ → Task → Bool
-blockFits s bs t k = eqb (blockNumber (s .header) bs (k .block)) 0 && eqb (faultNumber (faultAt (s .header) bs (pointOf t k))) 0
+abbrev pub blockFits : Header → List ℕ → ℕ → Task → Bool
+blockFits h bs t k = eqb (blockNumber h bs (k .block)) 0 && eqb (faultNumber (faultAt h bs (pointOf t k))) 0
 
 abbrev pub isWait : ℕ → Bool
 isWait code = eqb code (hex 5 9) || eqb code (hex 5 10)
@@ -141,15 +136,19 @@ isWait code = eqb code (hex 5 9) || eqb code (hex 5 10)
 abbrev pub waitFits : List ℕ → Task → Bool
 waitFits bs k = not (isSet (k .time)) || isWait (commandAt bs (k .block) .code)
 
-unfoldable pub fits : List ℕ → State → ℕ → Task → Bool
-fits image s t k = isLoaded image s && (blockFits s (blocksOf image) t k && waitFits (blocksOf image) k)
+unfoldable pub fits : List ℕ → Header → ℕ → Task → Bool
+fits image h t k = isLoaded image h && (blockFits h (blocksOf image) t k && waitFits (blocksOf image) k)
+
+-- the command at the task's block
+abbrev pub carriedOut : List ℕ → State → Inputs → Task → Out
+carriedOut image s x k = performed s x k (effectOf (given s k x) (commandAt (blocksOf image) (k .block)) (s .values))
 
 -- 18, then 17, then the command
 unfoldable pub taskStep : List ℕ → State → Inputs → Task → Out
 taskStep image s x k =
     cond (eqb (k .status) runs)
-    (cond (fits image s (x .task) k)
-    (performed s x k (effectOf (given s k x) (commandAt (blocksOf image) (k .block)) (s .values)))
+    (cond (fits image (s .header) (x .task) k)
+    (carriedOut image s x k)
     (refuse s (Differs (pointOf (x .task) k))))
     (refuse s NotRunning)
 

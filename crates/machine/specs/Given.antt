@@ -4,6 +4,7 @@ use mathlib.Core.Bool.{cond}
 use mathlib.Core.List.{List}
 use lib.Dec.{eqb}
 use lib.ListN.{getD}
+use Rattle.machine.specs.declared.Moment.{Moment}
 
 -- the host's part of a step: the task number, a byte for each input pin, the start input's level and "position reached"
 pub record Inputs : Type 0 where
@@ -28,3 +29,11 @@ pub record Given : Type 0 where
 -- the level of an input pin
 abbrev pub inputAt : Given → ℕ → ℕ
 inputAt g pin = level (getD (g .levels) pin 0)
+
+-- the same of a record and the input levels, as the code has them
+abbrev pub givenAt : Moment → List ℕ → Given
+givenAt m levels = record { model = m .drive .model; levels = levels; start = m .start; reached = m .reached; time = m .time; turns = m .turns }
+
+-- the host's part of a step, from its parts
+abbrev pub inputsOf : ℕ → List ℕ → ℕ → ℕ → Inputs
+inputsOf task levels start reached = record { task = task; levels = levels; start = start; reached = reached }

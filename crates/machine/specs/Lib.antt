@@ -8,3 +8,4 @@ pub mod Run
 pub mod Each
 pub mod Theorem
 pub mod Numbers
+pub mod Deep

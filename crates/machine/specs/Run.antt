@@ -9,7 +9,8 @@ use Rattle.walk.specs.Program.{faultAt, blockNumber}
 use Rattle.state.specs.declared.Task.{Task}
 use Rattle.state.specs.declared.State.{State}
 use Rattle.machine.specs.Given.{Inputs}
-use Rattle.machine.specs.Engine.{Out, step, pointOf}
+use Rattle.machine.specs.Engine.{step, pointOf}
+use Rattle.machine.specs.declared.Out.{Out}
 use Rattle.machine.specs.Reference.{Machine, Did, turn}
 
 -- what the engine hands out, step by step, and the state after the list

@@ -1,7 +1,9 @@
 // What a step hands out, and what a command comes to. No code here: specs/ says what commands do, what the engine's step and the reference machine
 // (document 01: plain machine) are, and proofs/ that they agree.
+use drive::Drive;
 use point::Point;
 use state::Axis;
+use state::State;
 use state::Values;
 
 // The motion request of a step. A move carries the stored position, speed, acceleration and deceleration; a stop its mode and a deceleration.
@@ -56,4 +58,21 @@ pub enum Answer {
     Differs(Point),
     // 19 or 20 at this point
     Halted(u32, Point),
+}
+
+// What a command may read besides the values and the input levels: the drive, the start input and "position reached" as levels (0 or 1), and its
+// task's pending wait.
+pub struct Moment {
+    pub drive: Drive,
+    pub start: u8,
+    pub reached: u8,
+    pub time: u32,
+    pub turns: u32,
+}
+
+// What a step hands out.
+pub struct Out {
+    pub state: State,
+    pub motion: Motion,
+    pub answer: Answer,
 }

@@ -1,7 +1,9 @@
 // The state of a program that runs, by value (document 01, "Running"): variables, flags, output levels, the axis, the start mark, the notes of the
-// preceding BIAS step, and a record for each task with its own call stack. The buffer that firmware keeps comes with the engine.
+// preceding BIAS step, and a record for each task with its own call stack. The buffer that firmware keeps is read and written by the crates above (docs/STATE.md).
+use drive::Drive;
 use image::Header;
 ghost use mathlib.Core.Path.{_≡_};
+ghost use Rattle.state.specs.Wait.{due};
 ghost use Rattle.state.specs.State.{neverStarted, running, freshValues, fresh};
 ghost use Rattle.state.specs.State.{withVariable, withFlag, withOutput, withAxis, withMark, withNotes};
 ghost use Rattle.state.specs.State.{withPosition, withSpeed, withAcceleration, withDeceleration};
@@ -219,4 +221,17 @@ impl State {
             tasks: tasks,
         }
     }
+}
+
+// Whether a wait of so many ms is over after so many turns. No product is above 64 bits.
+pub fn is_due(drive: Drive, time: u32, turns: u32) -> bool
+    ensures { λ r. ⌜ r ≡ due (drive .model) time turns ⌝ }
+{
+    1000 * wide(time) <= wide(turns) * wide(drive.cycle())
+}
+
+fn wide(n: u32) -> u64
+    ensures { λ r. ⌜ r ≡ n ⌝ }
+{
+    n as u64
 }

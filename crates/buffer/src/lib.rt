@@ -1,0 +1,156 @@
+// 16: which buffers are a state.
+use drive::Drive;
+use image::Header;
+use places::LENGTH;
+use state::CELLS;
+use state::STACK_LENGTH;
+use state::State;
+use state::Task;
+use state::Values;
+ghost use mathlib.Core.Path.{_≡_};
+ghost use lib.Dec.{eqb};
+ghost use lib.ListN.{length};
+ghost use Rattle.command.specs.Judged.{upTo};
+ghost use Rattle.point.specs.Fault.{mostDepth};
+ghost use Rattle.state.specs.State.{cells};
+ghost use Rattle.layout.specs.Layout.{bufferLength, unusedLength};
+ghost use Rattle.layout.specs.Test.{allOf, levelIs, entryIs, headerIs, waitIs, taskIs, valuesAre, stateIs, unusedZero, isState};
+
+// Limits.
+const FORMAT_1: u8 = image::reader::FORMAT_1 as u8;
+
+const MOST_BLOCKS: u16 = image::reader::MOST_BLOCKS as u16;
+
+const UNUSED_AT: usize = layout::UNUSED_AT as usize;
+
+const UNUSED_LENGTH: usize = LENGTH - UNUSED_AT;
+
+// The most that an operand of 59 says, in 2 ms; the longest wait in ms.
+const MOST_TIME: u32 = 65535;
+
+const LONGEST: u32 = 2 * MOST_TIME;
+
+// Whether a buffer is a state.
+pub fn is_state(b: &[u8; LENGTH]) -> bool
+    ensures { λ r. ⌜ r ≡ isState (now (b .entry)) ⌝ }
+{
+    let s = reading::decode(b);
+    length_is(b) & (unused_zero(b) & state_is(s))
+}
+
+fn length_is(b: &[u8]) -> bool
+    ensures { λ r. ⌜ r ≡ eqb (length (now (b .entry))) bufferLength ⌝ }
+{
+    b.len() == LENGTH
+}
+
+// Whether the unused bytes are 0.
+pub fn unused_zero(b: &[u8; LENGTH]) -> bool
+    ensures { λ r. ⌜ r ≡ unusedZero (now (b .entry)) unusedLength ⌝ }
+{
+    let mut zero = true;
+    let mut k: usize = 0;
+    while k < UNUSED_LENGTH {
+        zero = zero & (b[UNUSED_AT + k] == 0);
+        k += 1;
+    }
+    zero
+}
+
+// Whether what a buffer was read as is a state.
+pub fn state_is(s: State) -> bool
+    ensures { λ r. ⌜ r ≡ stateIs s ⌝ }
+{
+    let header = s.header;
+    let values = s.values;
+    let tasks = s.tasks;
+    let bias = tasks[0];
+    let plc = tasks[1];
+    let mathematics = tasks[2];
+    header_is(header)
+        & (values_are(values)
+            & (task_is(header, bias) & (task_is(header, plc) & task_is(header, mathematics))))
+}
+
+// A header that load accepts.
+fn header_is(h: Header) -> bool
+    ensures { λ r. ⌜ r ≡ headerIs h ⌝ }
+{
+    let model = h.drive.model;
+    (h.format == FORMAT_1)
+        & ((model < Drive::TYPES)
+            & (Drive::takes_b(model, h.drive.b as u32)
+                & (Drive::takes_c(model, h.drive.c as u32)
+                    & (up_to(MOST_BLOCKS, h.count) & (h.start < h.count)))))
+}
+
+// Flags and outputs 0 or 1, parameters in their ranges, start mark and preceding start level 0 or 1.
+fn values_are(v: Values) -> bool
+    ensures { λ r. ⌜ r ≡ valuesAre v ⌝ }
+{
+    levels_are(&v.flags)
+        & (levels_are(&v.outputs)
+            & (up_to(command::ranges::MOST_SPEED, v.axis.speed)
+                & (up_to(command::ranges::MOST_RAMP, v.axis.acceleration)
+                    & (up_to(command::ranges::MOST_RAMP, v.axis.deceleration)
+                        & ((v.mark <= command::ranges::MOST_LEVEL)
+                            & (v.notes.level <= command::ranges::MOST_LEVEL))))))
+}
+
+fn levels_are(levels: &[u8; CELLS]) -> bool
+    ensures { λ r. ⌜ r ≡ allOf levelIs (now (levels .entry)) cells ⌝ }
+{
+    let mut pass = true;
+    let mut k: usize = 0;
+    while k < CELLS {
+        pass = pass & (levels[k] <= command::ranges::MOST_LEVEL);
+        k += 1;
+    }
+    pass
+}
+
+// 1 to the most.
+fn up_to(most: u16, v: u16) -> bool
+    ensures { λ r. ⌜ r ≡ upTo most v ⌝ }
+{
+    (0 < v) & (v <= most)
+}
+
+// Status, block and start, depth, call stack and wait of a task.
+fn task_is(h: Header, k: Task) -> bool
+    ensures { λ r. ⌜ r ≡ taskIs h k ⌝ }
+{
+    (k.status <= state::HALTED)
+        & ((k.block < h.count)
+            & ((k.start < h.count)
+                & ((k.depth <= point::MOST_DEPTH)
+                    & (stack_is(h.count, k.depth as usize, &k.stack)
+                        & wait_is(h.drive, k.time, k.turns)))))
+}
+
+fn stack_is(count: u16, depth: usize, stack: &[u16; STACK_LENGTH]) -> bool
+    ensures { λ r. ⌜ r ≡ allOf (entryIs count depth) (now (stack .entry)) mostDepth ⌝ }
+{
+    let mut pass = true;
+    let mut i: usize = 0;
+    while i < STACK_LENGTH {
+        pass = pass & entry_is(count, depth, i, stack[i]);
+        i += 1;
+    }
+    pass
+}
+
+// An entry of a call stack: under the depth a block, above it 0.
+fn entry_is(count: u16, depth: usize, i: usize, block: u16) -> bool
+    ensures { λ r. ⌜ r ≡ entryIs count depth i block ⌝ }
+{
+    ((i < depth) & (block < count)) | ((depth <= i) & (block == 0))
+}
+
+// No wait, or one from 1 ms up to the longest that is not over.
+fn wait_is(drive: Drive, time: u32, turns: u32) -> bool
+    ensures { λ r. ⌜ r ≡ waitIs (drive .model) time turns ⌝ }
+{
+    ((time == 0) & (turns == 0))
+        | ((0 < time) & ((time <= LONGEST) & !state::is_due(drive, time, turns)))
+}

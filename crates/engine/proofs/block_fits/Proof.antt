@@ -1,0 +1,23 @@
+-- `block_fits` meets its contract. Assumes nothing.
+use mathlib.Core.Path.{ap, ap₂, _∙_}
+use Prim.Native.Nat.{ℕ}
+use mathlib.Core.Bool.{_&&_}
+use lib.Dec.{eqb}
+use denote.Ref.{now}
+use Rattle.fault.specs.Fault.{faultNumber}
+use Rattle.walk.specs.Program.{faultAt}
+use Rattle.engine.proofs.block_fits.Statement.{statement}
+use Rattle.engine.proofs.block_fits.Tie as tie
+
+pub block-fits-spec : {M : Type 1} → statement M
+block-fits-spec =
+    tie.close
+    (tie.spec
+    (λ c κs. tt)
+    (λ c κs. tt)
+    (λ c κs. tt)
+    (λ c κs. tt)
+    (λ c.
+    let a = c .before .before .before .before .before .args in
+    ap₂ (λ (m n : ℕ). eqb m 0 && eqb n 0) (c .before .block-number .ensures)
+    (c .number .ensures ∙ ap faultNumber (c .before .before .fault-at .ensures ∙ ap (faultAt (a .header) (now (a .blocks))) (c .before .before .before .point-of .ensures)))))

@@ -1,0 +1,19 @@
+-- `wait_fits` meets its contract. Assumes nothing.
+use mathlib.Core.Path.{ap, ap₂, _∙_}
+use mathlib.Core.Bool.{_||_}
+use lib.Dec.{eqb}
+use Rattle.operands.specs.declared.Command.{Command}
+use Rattle.machine.specs.Engine.{isWait}
+use Rattle.engine.proofs.Laws.{not-not}
+use Rattle.engine.proofs.wait_fits.Statement.{statement}
+use Rattle.engine.proofs.wait_fits.Tie as tie
+
+pub wait-fits-spec : {M : Type 1} → statement M
+wait-fits-spec =
+    tie.close
+    (tie.spec
+    (λ c κs. tt)
+    (λ c κs. tt)
+    (λ c.
+    let a = c .before .before .before .before .args in
+    ap₂ _||_ (not-not (eqb (a .k .time) 0)) (c .is-wait .ensures ∙ ap (λ (k : Command). isWait (k .code)) (c .before .before .command-at .ensures))))

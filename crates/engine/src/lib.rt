@@ -1,0 +1,206 @@
+// One step of one task: the tests in document 01's order (15, 18, 17; 16 is the buffer's), then the command.
+use fault::Fault;
+use image::Header;
+use image::reader;
+use machine::Answer;
+use machine::Effect;
+use machine::Moment;
+use machine::Motion;
+use machine::Out;
+use machine::Outcome;
+use point::Point;
+use state::Notes;
+use state::State;
+use state::Task;
+use state::Values;
+ghost use mathlib.Core.Path.{_≡_};
+ghost use mathlib.Core.List.{[]};
+ghost use mathlib.Core.Bool.{true};
+ghost use Prim.Native.Nat.{_<_, _≤_};
+ghost use Rattle.point.specs.Fault.{mostDepth};
+ghost use lib.ListN.{length};
+ghost use Rattle.state.specs.State.{taskAt};
+ghost use Rattle.state.specs.Good.{Good};
+ghost use Rattle.machine.specs.Given.{inputsOf};
+ghost use Rattle.machine.specs.Deep.{Deep};
+ghost use Rattle.machine.specs.Engine.{refuse, sameHeader, isWait, isLoaded, blockFits, waitFits, fits, noted, answerTo, pointOf, performed, carriedOut, taskStep, step};
+
+// A step that is refused: nothing changes, and no motion is asked for.
+fn refuse(state: State, answer: Answer) -> Out
+    ensures { λ r. ⌜ r ≡ refuse state answer ⌝ }
+{
+    Out {
+        state: state,
+        motion: Motion::None,
+        answer: answer,
+    }
+}
+
+// Where a task is.
+fn point_of(t: u8, k: Task) -> Point
+    ensures { λ r. ⌜ r ≡ pointOf t k ⌝ }
+{
+    Point {
+        task: t,
+        block: k.block,
+        depth: k.depth,
+    }
+}
+
+// Whether two headers are the same.
+fn same_header(a: Header, b: Header) -> bool
+    ensures { λ r. ⌜ r ≡ sameHeader a b ⌝ }
+{
+    let p = a.drive;
+    let q = b.drive;
+    (a.format == b.format)
+        & ((p.model == q.model)
+            & ((p.b == q.b) & ((p.c == q.c) & ((a.start == b.start) & (a.count == b.count)))))
+}
+
+// Whether a code is a wait for a time.
+fn is_wait(code: u8) -> bool
+    ensures { λ r. ⌜ r ≡ isWait code ⌝ }
+{
+    (code == 0x59) | (code == 0x5A)
+}
+
+// The answer to a command that was carried out, or halted its task.
+fn answer_to(outcome: Outcome, p: Point) -> Answer
+    ensures { λ r. ⌜ r ≡ answerTo outcome p ⌝ }
+{
+    match outcome {
+        Outcome::GoOn => Answer::Done,
+        Outcome::Stay(time, turns) => Answer::Done,
+        Outcome::Jump(a) => Answer::Done,
+        Outcome::Call(a) => Answer::Done,
+        Outcome::Return => Answer::Done,
+        Outcome::Start(u, a) => Answer::Done,
+        Outcome::Restart => Answer::Done,
+        Outcome::End => Answer::Done,
+        Outcome::Halt(n) => Answer::Halted(n, p),
+    }
+}
+
+// A BIAS step notes the start input's level.
+fn noted(t: u8, start: u8, v: Values) -> Values
+    ensures { λ r. ⌜ r ≡ noted t start v ⌝ }
+{
+    if t == flow::BIAS {
+        let notes = Notes {
+            level: effect::level(start),
+        };
+        return v.with_notes(notes);
+    }
+    v
+}
+
+// 17: whether the lent image is the loaded one, the block at the pointer passes 5 to 12 there, and a pending wait stands at a wait.
+fn fits(image: &[u8], header: Header, t: u8, k: Task) -> bool
+    ensures { λ r. ⌜ r ≡ fits (now (image .entry)) header t k ⌝ }
+{
+    let loaded = is_loaded(image, header);
+    let blocks = reader::block_part(image);
+    loaded & (block_fits(header, blocks, t, k) & wait_fits(blocks, k))
+}
+
+// Whether the lent image has this header.
+fn is_loaded(image: &[u8], header: Header) -> bool
+    ensures { λ r. ⌜ r ≡ isLoaded (now (image .entry)) header ⌝ }
+{
+    let read = reader::read(image);
+    let outcome = read.outcome;
+    outcome.is_done() & same_header(read.header, header)
+}
+
+// Whether the block at a task's pointer passes 5 to 8, and 9 to 12 where the task is.
+fn block_fits(header: Header, blocks: &[u8], t: u8, k: Task) -> bool
+    ensures { λ r. ⌜ r ≡ blockFits header (now (blocks .entry)) t k ⌝ }
+{
+    let fault = fetch::fault_at(header, blocks, point_of(t, k));
+    (fetch::block_number(header, blocks, k.block) == 0) & (fault.number() == 0)
+}
+
+// Whether a pending wait stands at a wait.
+fn wait_fits(blocks: &[u8], k: Task) -> bool
+    ensures { λ r. ⌜ r ≡ waitFits (now (blocks .entry)) k ⌝ }
+{
+    let c = fetch::command_at(blocks, k.block);
+    (k.time == 0) | is_wait(c.code)
+}
+
+// What a command comes to: the values with the start level noted, the tasks after its outcome, its request, its answer.
+fn performed(mut state: State, t: u8, start: u8, k: Task, e: Effect) -> Out
+    requires { ⌜ k .block < 65535 ⌝ }
+    requires { ⌜ Deep (k .depth) (e .outcome) ⌝ }
+    ensures { λ r. ⌜ r ≡ performed state (inputsOf t [] start 0) k e ⌝ }
+{
+    let header = state.header;
+    let outcome = e.outcome;
+    let motion = e.motion;
+    let values = noted(t, start, e.values);
+    let before = state.tasks;
+    let after = tasks::after(header.start, t, k, outcome, before);
+    state.values = values;
+    state.tasks = after;
+    Out {
+        state: state,
+        motion: motion,
+        answer: answer_to(outcome, point_of(t, k)),
+    }
+}
+
+// The command at the task's block, carried out.
+fn carry_out(image: &[u8], s: State, t: u8, inputs: &[u8], start: u8, reached: u8, k: Task) -> Out
+    requires { ⌜ k .block < 65535 ⌝ }
+    requires { ⌜ k .depth ≤ mostDepth ⌝ }
+    requires { ⌜ k .turns < 4294967295 ⌝ }
+    requires { ⌜ fits (now image) (s .header) t k ≡ true ⌝ }
+    ensures { λ r. ⌜ r ≡ carriedOut (now (image .entry)) s (inputsOf t (now (inputs .entry)) start reached) k ⌝ }
+{
+    let c = fetch::command_at(reader::block_part(image), k.block);
+    let header = s.header;
+    let drive = header.drive;
+    let values = s.values;
+    let m = Moment {
+        drive: drive,
+        start: effect::level(start),
+        reached: effect::level(reached),
+        time: k.time,
+        turns: k.turns,
+    };
+    let e = perform::perform(m, inputs, c, values);
+    performed(s, t, start, k, e)
+}
+
+// 18, then 17, then the command.
+fn task_step(image: &[u8], s: State, t: u8, inputs: &[u8], start: u8, reached: u8) -> Out
+    requires { ⌜ Good s ⌝ }
+    requires { ⌜ t < 3 ⌝ }
+    ensures { λ r. ⌜ r ≡ taskStep (now (image .entry)) s (inputsOf t (now (inputs .entry)) start reached) (taskAt s t) ⌝ }
+{
+    let tasks = s.tasks;
+    let k = tasks[t as usize];
+    if k.status != state::RUNNING {
+        return refuse(s, Answer::NotRunning);
+    }
+    if !fits(image, s.header, t, k) {
+        return refuse(s, Answer::Differs(point_of(t, k)));
+    }
+    carry_out(image, s, t, inputs, start, reached, k)
+}
+
+// One step of a task, on a good state: 15 first, the task number, then the length of the input levels.
+pub fn step(image: &[u8], s: State, task: u32, inputs: &[u8], start: u8, reached: u8) -> Out
+    requires { ⌜ Good s ⌝ }
+    ensures { λ r. ⌜ r ≡ step (now (image .entry)) s (inputsOf task (now (inputs .entry)) start reached) ⌝ }
+{
+    if task >= 3 {
+        return refuse(s, Answer::NoTask(task));
+    }
+    let n = inputs.len();
+    if n != state::CELLS {
+        return refuse(s, Answer::Inputs(n));
+    }
+    task_step(image, s, task as u8, inputs, start, reached)
+}

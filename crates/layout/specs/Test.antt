@@ -1,0 +1,64 @@
+-- 16: which buffers are a state (design, "The state buffer"). The tests are made of the state that the buffer is read as; only its length and its unused
+-- bytes are the buffer's own. Assumes nothing.
+use Prim.Native.Nat.{ℕ, zero, suc, _+_}
+use mathlib.Core.Bool.{Bool, true, _&&_, _||_, not}
+use mathlib.Core.List.{List}
+use lib.Dec.{eqb, ltb, leb}
+use lib.ListN.{length, getD}
+use Rattle.drive.specs.Types.{types, takesB, takesC}
+use Rattle.image.specs.Rows.{format1, countInRange}
+use Rattle.image.specs.declared.Header.{Header}
+use Rattle.command.specs.Judged.{mostSpeed, mostRamp, mostLevel, upTo}
+use Rattle.flow.specs.Flow.{bias, plc, mathematics}
+use Rattle.point.specs.Fault.{mostDepth}
+use Rattle.state.specs.State.{cells, halted, taskAt}
+use Rattle.state.specs.Wait.{due, longest}
+use Rattle.state.specs.declared.Task.{Task}
+use Rattle.state.specs.declared.Axis.{Axis}
+use Rattle.state.specs.declared.Values.{Values}
+use Rattle.state.specs.declared.State.{State}
+use Rattle.layout.specs.Layout.{bufferLength, unusedAt, unusedLength}
+use Rattle.layout.specs.Decoded.{decoded}
+
+-- each of the first n of a list passes a test of its place and content
+unfoldable pub allOf : (ℕ → ℕ → Bool) → List ℕ → ℕ → Bool
+allOf test l zero = true
+allOf test l (suc n) = allOf test l n && test n (getD l n 0)
+
+abbrev pub headerIs : Header → Bool
+headerIs h =
+    eqb (h .format) format1 && (ltb (h .drive .model) types && (takesB (h .drive .model) (h .drive .b) && (takesC (h .drive .model) (h .drive .c)
+    && (countInRange (h .count) && ltb (h .start) (h .count)))))
+
+-- none, or from 1 ms up to the longest and not over
+abbrev pub waitIs : ℕ → ℕ → ℕ → Bool
+waitIs model time turns = (eqb time 0 && eqb turns 0) || (ltb 0 time && (leb time longest && not (due model time turns)))
+
+-- an entry of a call stack: under the depth a block, above it 0
+abbrev pub entryIs : ℕ → ℕ → ℕ → ℕ → Bool
+entryIs count depth i b = (ltb i depth && ltb b count) || (leb depth i && eqb b 0)
+
+abbrev pub taskIs : Header → Task → Bool
+taskIs h k =
+    leb (k .status) halted && (ltb (k .block) (h .count) && (ltb (k .start) (h .count) && (leb (k .depth) mostDepth
+    && (allOf (entryIs (h .count) (k .depth)) (k .stack) mostDepth && waitIs (h .drive .model) (k .time) (k .turns)))))
+
+abbrev pub levelIs : ℕ → ℕ → Bool
+levelIs i x = leb x mostLevel
+
+abbrev pub valuesAre : Values → Bool
+valuesAre v =
+    allOf levelIs (v .flags) cells && (allOf levelIs (v .outputs) cells && (upTo mostSpeed (v .axis .speed) && (upTo mostRamp (v .axis .acceleration)
+    && (upTo mostRamp (v .axis .deceleration) && (leb (v .mark) mostLevel && leb (v .notes .level) mostLevel)))))
+
+unfoldable pub stateIs : State → Bool
+stateIs s =
+    headerIs (s .header) && (valuesAre (s .values) && (taskIs (s .header) (taskAt s bias) && (taskIs (s .header) (taskAt s plc) && taskIs (s .header) (taskAt s mathematics))))
+
+-- the unused bytes are 0
+unfoldable pub unusedZero : List ℕ → ℕ → Bool
+unusedZero b zero = true
+unusedZero b (suc n) = unusedZero b n && eqb (getD b (unusedAt + n) 0) 0
+
+unfoldable pub isState : List ℕ → Bool
+isState b = eqb (length b) bufferLength && (unusedZero b unusedLength && stateIs (decoded b))

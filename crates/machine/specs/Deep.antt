@@ -1,0 +1,16 @@
+-- What an outcome needs of a task's depth: room for a call, and something to return to. Assumes nothing.
+use Prim.Native.Nat.{ℕ, _<_, _≤_}
+use Rattle.point.specs.Fault.{mostDepth}
+use Rattle.machine.specs.declared.Outcome.{Outcome}
+use Rattle.machine.specs.declared.Outcome.the-variants.{GoOn, Stay, Jump, Call, Return, Start, Restart, End, Halt}
+
+abbrev pub Deep : ℕ → Outcome → Type 0
+Deep depth (Call a) = depth < mostDepth
+Deep depth Return = (0 < depth) × (depth ≤ mostDepth)
+Deep depth GoOn = Unit {0}
+Deep depth (Stay time turns) = Unit {0}
+Deep depth (Jump a) = Unit {0}
+Deep depth (Start u a) = Unit {0}
+Deep depth Restart = Unit {0}
+Deep depth End = Unit {0}
+Deep depth (Halt n) = Unit {0}

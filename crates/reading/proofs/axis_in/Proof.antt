@@ -1,0 +1,53 @@
+-- `reading::axis_in` meets its contract, field by field. Assumes nothing.
+use mir.Syntax.{w32}
+use Rattle.arith.proofs.Range.{got}
+use borrow.Author.Needs.{needs}
+use Rattle.reading.proofs.axis_in.Statement.{statement}
+use Rattle.reading.proofs.axis_in.Tie as tie
+
+signed-requires : tie.Need-signed-requires
+signed-requires c κs = search needs
+
+add-word : tie.Need-add-word
+add-word c = search needs
+
+word-requires : tie.Need-word-requires
+word-requires c κs = search needs
+
+add-word-2 : tie.Need-add-word-2
+add-word-2 c = search needs
+
+word-requires-2 : tie.Need-word-requires-2
+word-requires-2 c κs = search needs
+
+add-word-3 : tie.Need-add-word-3
+add-word-3 c = search needs
+
+word-requires-3 : tie.Need-word-requires-3
+word-requires-3 c κs = search needs
+
+returns : tie.Need-returns
+returns c =
+    let k2 = c .before in
+    let k1 = k2 .before in
+    let k0 = k1 .before in
+    λ i.
+    record {
+      position = got w32 (k0 .signed .ok) (k0 .signed .ensures) i;
+      speed = k1 .word .ensures i;
+      acceleration = k2 .word2 .ensures i;
+      deceleration = c .word3 .ensures i;
+    }
+
+pub axis-in-spec : {M : Type 1} → statement M
+axis-in-spec =
+    tie.close
+    (tie.spec
+    signed-requires
+    add-word
+    word-requires
+    add-word-2
+    word-requires-2
+    add-word-3
+    word-requires-3
+    returns)

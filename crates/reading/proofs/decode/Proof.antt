@@ -1,0 +1,78 @@
+-- `reading::decode` meets its contract, stretch by stretch. Assumes nothing.
+use Prim.Native.Nat.{ℕ}
+use mathlib.Core.Path.{ap, _∙_}
+use mathlib.Core.List.{List, [], _∷_}
+use denote.Ref.{now}
+use Rattle.image.specs.declared.Header.{Header}
+use Rattle.layout.specs.Layout.{taskPlace}
+use Rattle.layout.specs.Decoded.{taskIn, decoded}
+use borrow.Author.Needs.{needs}
+use Rattle.reading.proofs.decode.Statement.{statement}
+use Rattle.reading.proofs.decode.Tie as tie
+
+values-in-requires : tie.Need-values-in-requires
+values-in-requires c κs = search needs
+
+header-in-requires : tie.Need-header-in-requires
+header-in-requires c κs = search needs
+
+task-in-requires : tie.Need-task-in-requires
+task-in-requires c κs = search needs
+
+add-task-in : tie.Need-add-task-in
+add-task-in c = search needs
+
+word-requires : tie.Need-word-requires
+word-requires c κs = search needs
+
+task-in-requires-2 : tie.Need-task-in-requires-2
+task-in-requires-2 c κs = search needs
+
+mul-task-in : tie.Need-mul-task-in
+mul-task-in c = search needs
+
+add-task-in-2 : tie.Need-add-task-in-2
+add-task-in-2 c = search needs
+
+add-word : tie.Need-add-word
+add-word c = search needs
+
+word-requires-2 : tie.Need-word-requires-2
+word-requires-2 c κs = search needs
+
+task-in-requires-3 : tie.Need-task-in-requires-3
+task-in-requires-3 c κs = search needs
+
+returns : tie.Need-returns
+unfolding decoded
+returns c =
+    let k5 = c .before in
+    let k4 = k5 .before in
+    let k3 = k4 .before in
+    let k2 = k3 .before in
+    let k1 = k2 .before in
+    let k0 = k1 .before in
+    let b : List ℕ = now (k0 .before .args .b) in
+    let h = k1 .header-in .ensures in
+    let bias = k2 .task-in .ensures ∙ ap (λ (x : Header). taskIn b (taskPlace 0) (x .start)) h in
+    let plc = k4 .task-in2 .ensures ∙ ap (taskIn b (taskPlace 1)) (k3 .word .ensures) in
+    let mathematics = c .task-in3 .ensures ∙ ap (taskIn b (taskPlace 2)) (k5 .word2 .ensures) in
+    λ i.
+    record { values = k0 .values-in .ensures i; header = h i; tasks = bias i ∷ plc i ∷ mathematics i ∷ [] }
+
+pub decode-spec : {M : Type 1} → statement M
+decode-spec =
+    tie.close
+    (tie.spec
+    values-in-requires
+    header-in-requires
+    task-in-requires
+    add-task-in
+    word-requires
+    task-in-requires-2
+    mul-task-in
+    add-task-in-2
+    add-word
+    word-requires-2
+    task-in-requires-3
+    returns)

@@ -1,0 +1,64 @@
+-- `reading::levels_in` meets its contract: a table filled from the front. Assumes nothing.
+use Prim.Native.Nat.{ℕ, _+_, _*_, _-_, _≤_}
+use native.Mathlib.Omega.{arith}
+use mathlib.Core.Path.{_≡_, refl}
+use denote.Ref.{now}
+use lib.ListN.{length, getD, take, length-set}
+use Rattle.places.specs.Places.{table, numberAt, signedAt}
+use Rattle.places.proofs.Tables.{none, more, all}
+use Rattle.layout.specs.Decoded.{levelsIn}
+use borrow.Author.Needs.{needs}
+use Rattle.reading.proofs.levels_in.Statement.{statement}
+use Rattle.reading.proofs.levels_in.Tie as tie
+
+abbrev Inv-loop : tie.InvT-loop
+Inv-loop b at r₀ k₀ r k = (k ≤ 256) × ((length r ≡ 256) × (take k r ≡ table k (λ (j : ℕ). getD b (at + j) 0)))
+
+abbrev μ-loop : tie.MeasureT-loop
+μ-loop b at r₀ k₀ r k = 256 - k
+
+loop-holds : tie.Need-loop-holds Inv-loop μ-loop
+loop-holds c = (search needs, (search needs, none _))
+
+add-r : tie.Need-add-r Inv-loop μ-loop
+add-r c = search needs
+
+element-copy-out-r : tie.Need-element-copy-out-r Inv-loop μ-loop
+element-copy-out-r c = search needs
+
+array-write-r : tie.Need-array-write-r Inv-loop μ-loop
+array-write-r c = search needs
+
+add-k : tie.Need-add-k Inv-loop μ-loop
+add-k c = search needs
+
+loop-less : tie.Need-loop-less Inv-loop μ-loop
+loop-less c = search needs
+
+loop-again : tie.Need-loop-again Inv-loop μ-loop
+loop-again c =
+    let l = c .before .before .loop in
+    let a = c .before .before .before .args in
+    (search needs, (simp length-set (search needs), more (l .r) (l .k) (λ (j : ℕ). getD (now (a .b)) (a .at + j) 0) _ (omega arith) (l .inv .1 .1) (refl)))
+
+returns : tie.Need-returns Inv-loop μ-loop
+unfolding levelsIn
+returns c =
+    let l = c .before .loop in
+    let a = c .before .before .args in
+    all (l .r) (l .k) 256 (λ (j : ℕ). getD (now (a .b)) (a .at + j) 0) (l .inv .0) (c .loop-test .left) (l .inv .1 .0) (l .inv .1 .1)
+
+pub levels-in-spec : {M : Type 1} → statement M
+levels-in-spec =
+    tie.close
+    (tie.spec
+    Inv-loop
+    μ-loop
+    loop-holds
+    add-r
+    element-copy-out-r
+    array-write-r
+    add-k
+    loop-less
+    loop-again
+    returns)

@@ -1,0 +1,67 @@
+-- `reading::values_in` meets its contract, field by field. Assumes nothing.
+use borrow.Author.Needs.{needs}
+use Rattle.reading.proofs.values_in.Statement.{statement}
+use Rattle.reading.proofs.values_in.Tie as tie
+
+variables-in-requires : tie.Need-variables-in-requires
+variables-in-requires c κs = search needs
+
+cast-levels-in : tie.Need-cast-levels-in
+cast-levels-in c = search needs
+
+levels-in-requires : tie.Need-levels-in-requires
+levels-in-requires c κs = search needs
+
+cast-levels-in-2 : tie.Need-cast-levels-in-2
+cast-levels-in-2 c = search needs
+
+levels-in-requires-2 : tie.Need-levels-in-requires-2
+levels-in-requires-2 c κs = search needs
+
+axis-in-requires : tie.Need-axis-in-requires
+axis-in-requires c κs = search needs
+
+add-byte : tie.Need-add-byte
+add-byte c = search needs
+
+byte-requires : tie.Need-byte-requires
+byte-requires c κs = search needs
+
+add-byte-2 : tie.Need-add-byte-2
+add-byte-2 c = search needs
+
+byte-requires-2 : tie.Need-byte-requires-2
+byte-requires-2 c κs = search needs
+
+returns : tie.Need-returns
+returns c =
+    let k4 = c .before in
+    let k3 = k4 .before in
+    let k2 = k3 .before in
+    let k1 = k2 .before in
+    let k0 = k1 .before in
+    λ i.
+    record {
+      variables = k0 .variables-in .ensures i;
+      flags = k1 .levels-in .ensures i;
+      outputs = k2 .levels-in2 .ensures i;
+      axis = k3 .axis-in .ensures i;
+      mark = c .byte2 .ensures i;
+      notes = record { level = k4 .byte .ensures i };
+    }
+
+pub values-in-spec : {M : Type 1} → statement M
+values-in-spec =
+    tie.close
+    (tie.spec
+    variables-in-requires
+    cast-levels-in
+    levels-in-requires
+    cast-levels-in-2
+    levels-in-requires-2
+    axis-in-requires
+    add-byte
+    byte-requires
+    add-byte-2
+    byte-requires-2
+    returns)

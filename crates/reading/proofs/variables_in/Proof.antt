@@ -1,0 +1,78 @@
+-- `reading::variables_in` meets its contract: a table filled from the front. Assumes nothing.
+use Prim.Native.Nat.{ℕ, _+_, _*_, _-_, _≤_}
+use native.Mathlib.Omega.{arith}
+use mathlib.Core.Path.{_≡_, refl}
+use denote.Ref.{now}
+use lib.ListN.{length, getD, take, length-set}
+use Rattle.places.specs.Places.{table, numberAt, signedAt}
+use Rattle.places.proofs.Tables.{none, more, all}
+use mir.Syntax.{w32}
+use Rattle.arith.proofs.Range.{got}
+use Rattle.layout.specs.Decoded.{variablesIn}
+use borrow.Author.Needs.{needs}
+use Rattle.reading.proofs.variables_in.Statement.{statement}
+use Rattle.reading.proofs.variables_in.Tie as tie
+
+abbrev Inv-loop : tie.InvT-loop
+Inv-loop b r₀ k₀ r k = (k ≤ 256) × ((length r ≡ 256) × (take k r ≡ table k (λ (j : ℕ). signedAt b (0 + 4 * j))))
+
+abbrev μ-loop : tie.MeasureT-loop
+μ-loop b r₀ k₀ r k = 256 - k
+
+loop-holds : tie.Need-loop-holds Inv-loop μ-loop
+loop-holds c = (search needs, (search needs, none _))
+
+cast-signed : tie.Need-cast-signed Inv-loop μ-loop
+cast-signed c = search needs
+
+mul-signed : tie.Need-mul-signed Inv-loop μ-loop
+mul-signed c = search needs
+
+add-signed : tie.Need-add-signed Inv-loop μ-loop
+add-signed c = search needs
+
+signed-requires : tie.Need-signed-requires Inv-loop μ-loop
+signed-requires c κs = search needs
+
+mul-r : tie.Need-mul-r Inv-loop μ-loop
+mul-r c = search needs
+
+array-set-from-r : tie.Need-array-set-from-r Inv-loop μ-loop
+array-set-from-r c = search needs
+
+add-k : tie.Need-add-k Inv-loop μ-loop
+add-k c = search needs
+
+loop-less : tie.Need-loop-less Inv-loop μ-loop
+loop-less c = search needs
+
+loop-again : tie.Need-loop-again Inv-loop μ-loop
+loop-again c =
+    let l = c .before .before .loop in
+    let a = c .before .before .before .args in
+    (search needs, (simp length-set (search needs), more (l .r) (l .k) (λ (j : ℕ). signedAt (now (a .b)) (0 + 4 * j)) _ (omega arith) (l .inv .1 .1) (got w32 (c .signed .ok) (c .signed .ensures))))
+
+returns : tie.Need-returns Inv-loop μ-loop
+unfolding variablesIn
+returns c =
+    let l = c .before .loop in
+    let a = c .before .before .args in
+    all (l .r) (l .k) 256 (λ (j : ℕ). signedAt (now (a .b)) (0 + 4 * j)) (l .inv .0) (c .loop-test .left) (l .inv .1 .0) (l .inv .1 .1)
+
+pub variables-in-spec : {M : Type 1} → statement M
+variables-in-spec =
+    tie.close
+    (tie.spec
+    Inv-loop
+    μ-loop
+    loop-holds
+    cast-signed
+    mul-signed
+    add-signed
+    signed-requires
+    mul-r
+    array-set-from-r
+    add-k
+    loop-less
+    loop-again
+    returns)

@@ -1,0 +1,145 @@
+// A buffer read as a state, stretch by stretch.
+use drive::Drive;
+use image::Header;
+use places::LENGTH;
+use state::Axis;
+use state::CELLS;
+use state::Notes;
+use state::STACK_LENGTH;
+use state::State;
+use state::Task;
+use state::Values;
+ghost use mathlib.Core.Path.{_≡_};
+ghost use Prim.Native.Nat.{_+_, _*_, _≤_};
+ghost use Rattle.point.specs.Fault.{mostDepth};
+ghost use Rattle.state.specs.State.{cells};
+ghost use Rattle.layout.specs.Layout.{bufferLength, taskLength};
+ghost use Rattle.layout.specs.Decoded.{variablesIn, levelsIn, headerIn, axisIn, valuesIn, stackIn, taskIn, decoded};
+
+// The state that a buffer holds.
+pub fn decode(b: &[u8; LENGTH]) -> State
+    ensures { λ r. ⌜ r ≡ decoded (now (b .entry)) ⌝ }
+{
+    let values = values_in(b);
+    let header = header_in(b);
+    let bias = task_in(b, layout::TASKS_AT, header.start);
+    let plc = task_in(
+        b,
+        layout::TASKS_AT + layout::TASK_LENGTH,
+        places::word(b, layout::STARTS_AT),
+    );
+    let mathematics = task_in(
+        b,
+        layout::TASKS_AT + 2 * layout::TASK_LENGTH,
+        places::word(b, layout::STARTS_AT + 2),
+    );
+    let tasks = [bias, plc, mathematics];
+    State {
+        values: values,
+        header: header,
+        tasks: tasks,
+    }
+}
+
+fn values_in(b: &[u8; LENGTH]) -> Values
+    ensures { λ r. ⌜ r ≡ valuesIn (now (b .entry)) ⌝ }
+{
+    let variables = variables_in(b);
+    let flags = levels_in(b, layout::FLAGS_AT as usize);
+    let outputs = levels_in(b, layout::OUTPUTS_AT as usize);
+    let axis = axis_in(b);
+    let notes = Notes {
+        level: places::byte(b, layout::AXIS_AT + 11),
+    };
+    Values {
+        variables: variables,
+        flags: flags,
+        outputs: outputs,
+        axis: axis,
+        mark: places::byte(b, layout::AXIS_AT + 10),
+        notes: notes,
+    }
+}
+
+fn variables_in(b: &[u8; LENGTH]) -> [i32; CELLS]
+    ensures { λ r. ⌜ r ≡ variablesIn (now (b .entry)) ⌝ }
+{
+    let mut r = [0i32; CELLS];
+    let mut k: usize = 0;
+    while k < CELLS {
+        r[k] = places::signed(b, layout::VARIABLES_AT + 4 * (k as u16));
+        k += 1;
+    }
+    r
+}
+
+// Flags, or outputs.
+fn levels_in(b: &[u8; LENGTH], at: usize) -> [u8; CELLS]
+    requires { ⌜ at + cells ≤ bufferLength ⌝ }
+    ensures { λ r. ⌜ r ≡ levelsIn (now (b .entry)) at ⌝ }
+{
+    let mut r = [0u8; CELLS];
+    let mut k: usize = 0;
+    while k < CELLS {
+        r[k] = b[at + k];
+        k += 1;
+    }
+    r
+}
+
+fn header_in(b: &[u8; LENGTH]) -> Header
+    ensures { λ r. ⌜ r ≡ headerIn (now (b .entry)) ⌝ }
+{
+    let drive = Drive {
+        model: places::byte(b, layout::HEADER_AT + 1),
+        b: places::byte(b, layout::HEADER_AT + 2),
+        c: places::byte(b, layout::HEADER_AT + 3),
+    };
+    Header {
+        format: places::byte(b, layout::HEADER_AT),
+        drive: drive,
+        start: places::word(b, layout::HEADER_AT + 4),
+        count: places::word(b, layout::HEADER_AT + 6),
+    }
+}
+
+fn axis_in(b: &[u8; LENGTH]) -> Axis
+    ensures { λ r. ⌜ r ≡ axisIn (now (b .entry)) ⌝ }
+{
+    Axis {
+        position: places::signed(b, layout::AXIS_AT),
+        speed: places::word(b, layout::AXIS_AT + 4),
+        acceleration: places::word(b, layout::AXIS_AT + 6),
+        deceleration: places::word(b, layout::AXIS_AT + 8),
+    }
+}
+
+// The task whose record stands at a place.
+fn task_in(b: &[u8; LENGTH], at: u16, start: u16) -> Task
+    requires { ⌜ at + taskLength ≤ bufferLength ⌝ }
+    ensures { λ r. ⌜ r ≡ taskIn (now (b .entry)) at start ⌝ }
+{
+    let stack = stack_in(b, at + layout::STACK_AT);
+    Task {
+        status: places::byte(b, at),
+        block: places::word(b, at + 2),
+        start: start,
+        depth: places::byte(b, at + 1),
+        stack: stack,
+        time: places::long(b, at + layout::TIME_AT),
+        turns: places::long(b, at + layout::TIME_AT + 4),
+    }
+}
+
+fn stack_in(b: &[u8; LENGTH], at: u16) -> [u16; STACK_LENGTH]
+    requires { ⌜ at + 2 * mostDepth ≤ bufferLength ⌝ }
+    ensures { λ r. ⌜ r ≡ stackIn (now (b .entry)) at ⌝ }
+{
+    let mut r = [0u16; STACK_LENGTH];
+    let mut i: usize = 0;
+    while i < STACK_LENGTH {
+        r[i] = places::word(b, at + 2 * (i as u16));
+        i += 1;
+    }
+    r
+}

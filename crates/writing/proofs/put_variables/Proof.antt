@@ -1,0 +1,83 @@
+-- `writing::put_variables` meets its contract: after k turns the bytes of k variables are put. Assumes nothing.
+use Prim.Native.Nat.{ℕ, _+_, _*_, _-_, _≤_}
+use native.Mathlib.Omega.{arith}
+use mathlib.Core.Path.{_≡_, refl, ap, _∙_}
+use lib.ListN.{getD}
+use lib.IntN.{ℤ, pos}
+use mir.Syntax.{w32}
+use mir.Facts.{toZ-ofZ}
+use Rattle.places.specs.Places.{puts, runs, signedBytes}
+use Rattle.places.proofs.Runs.{runs-none, runs-more, runs-all}
+use Rattle.layout.specs.Encoded.{variableBytes}
+use borrow.Author.Needs.{needs}
+use Rattle.writing.proofs.put_variables.Statement.{statement}
+use Rattle.writing.proofs.put_variables.Tie as tie
+
+abbrev Inv-loop : tie.InvT-loop
+Inv-loop b₀ variables k₀ b k = (k ≤ 256) × (b ≡ puts b₀ 0 (runs k (λ (j : ℕ). signedBytes (getD variables j (pos 0)))))
+
+abbrev μ-loop : tie.MeasureT-loop
+μ-loop b₀ variables k₀ b k = 256 - k
+
+loop-holds : tie.Need-loop-holds Inv-loop μ-loop
+loop-holds c = (search needs, runs-none _ _ _)
+
+cast-put-signed : tie.Need-cast-put-signed Inv-loop μ-loop
+cast-put-signed c = search needs
+
+mul-put-signed : tie.Need-mul-put-signed Inv-loop μ-loop
+mul-put-signed c = search needs
+
+add-put-signed : tie.Need-add-put-signed Inv-loop μ-loop
+add-put-signed c = search needs
+
+mul-put-signed-2 : tie.Need-mul-put-signed-2 Inv-loop μ-loop
+mul-put-signed-2 c = search needs
+
+element-copy-out-put-signed : tie.Need-element-copy-out-put-signed Inv-loop μ-loop
+element-copy-out-put-signed c = search needs
+
+put-signed-requires : tie.Need-put-signed-requires Inv-loop μ-loop
+put-signed-requires c κs = search needs
+
+add-k : tie.Need-add-k Inv-loop μ-loop
+add-k c = search needs
+
+loop-less : tie.Need-loop-less Inv-loop μ-loop
+loop-less c = search needs
+
+loop-again : tie.Need-loop-again Inv-loop μ-loop
+loop-again c =
+    let st = c .before .before .before .before .before in
+    let l = c .before .before .before .before .loop in
+    let z = toZ-ofZ {w = w32} {z = getD (st .args .variables .now) (l .k) (pos 0)} (record { sfits = c .before .put-signed-arg2 .given }) in (
+      search needs,
+      c .put-signed .ensures
+          ∙ ap (λ (y : ℤ). puts (l .b) (0 + 4 * l .k) (signedBytes y)) z
+          ∙ runs-more (λ (j : ℕ). signedBytes (getD (st .args .variables .now) j (pos 0))) 4 (λ j. refl) (st .args .b .now) 0 (l .k) (l .b) (l .inv .1),
+    )
+
+returns : tie.Need-returns Inv-loop μ-loop
+unfolding variableBytes
+returns c =
+    let st = c .before .before in
+    let l = c .before .loop in
+    runs-all (λ (j : ℕ). signedBytes (getD (st .args .variables .now) j (pos 0))) (st .args .b .now) 0 (l .k) 256 (l .b) (l .inv .0) (c .loop-test .left) (l .inv .1)
+
+pub put-variables-spec : {M : Type 1} → statement M
+put-variables-spec =
+    tie.close
+    (tie.spec
+    Inv-loop
+    μ-loop
+    loop-holds
+    cast-put-signed
+    mul-put-signed
+    add-put-signed
+    mul-put-signed-2
+    element-copy-out-put-signed
+    put-signed-requires
+    add-k
+    loop-less
+    loop-again
+    returns)
