@@ -1,5 +1,7 @@
 // Commands of motion (00, 01, 03, 04, 0E, 0F, 1F) and of the stored parameters (20 to 23, 30 to 33, 40 to 43): one function for each, and the one that
 // finds it.
+use command::ranges::MOST_RAMP;
+use command::ranges::MOST_SPEED;
 use machine::Effect;
 use machine::Moment;
 use machine::Motion;
@@ -206,14 +208,6 @@ fn natural(most: u16, content: i32) -> u16
     content as u16
 }
 
-// The most of each parameter.
-const MOST_SPEED: u16 = 12000;
-
-const MOST_RAMP: u16 = 64000;
-
-// The refusal of a content out of range.
-const OUT_OF_RANGE: u32 = 20;
-
 // 31: speed = variable x.
 fn load_speed(c: Command, v: Values) -> Effect
     ensures { λ r. ⌜ r ≡ cond (within 1 mostSpeed (variable v (c .x))) (sets (withAxis (withSpeed (natural (variable v (c .x))) (v .axis)) v)) (halts outOfRange v) ⌝ }
@@ -223,7 +217,7 @@ fn load_speed(c: Command, v: Values) -> Effect
         let axis = v.axis;
         return effect::sets(v.with_axis(axis.with_speed(natural(MOST_SPEED, content))));
     }
-    effect::halts(OUT_OF_RANGE, v)
+    effect::halts(effect::OUT_OF_RANGE, v)
 }
 
 // 32: acceleration = variable x.
@@ -235,7 +229,7 @@ fn load_acceleration(c: Command, v: Values) -> Effect
         let axis = v.axis;
         return effect::sets(v.with_axis(axis.with_acceleration(natural(MOST_RAMP, content))));
     }
-    effect::halts(OUT_OF_RANGE, v)
+    effect::halts(effect::OUT_OF_RANGE, v)
 }
 
 // 33: deceleration = variable x.
@@ -247,5 +241,5 @@ fn load_deceleration(c: Command, v: Values) -> Effect
         let axis = v.axis;
         return effect::sets(v.with_axis(axis.with_deceleration(natural(MOST_RAMP, content))));
     }
-    effect::halts(OUT_OF_RANGE, v)
+    effect::halts(effect::OUT_OF_RANGE, v)
 }

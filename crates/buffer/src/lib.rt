@@ -25,10 +25,8 @@ const UNUSED_AT: usize = layout::UNUSED_AT as usize;
 
 const UNUSED_LENGTH: usize = LENGTH - UNUSED_AT;
 
-// The most that an operand of 59 says, in 2 ms; the longest wait in ms.
-const MOST_TIME: u32 = 65535;
-
-const LONGEST: u32 = 2 * MOST_TIME;
+// The longest wait in ms.
+const LONGEST: u32 = 2 * state::MOST_TIME;
 
 // Whether a buffer is a state.
 pub fn is_state(b: &[u8; LENGTH]) -> bool

@@ -117,11 +117,8 @@ fn wait_by_variable(m: Moment, c: Command, v: Values) -> Effect
     if (m.time != 0) | is_time(content) {
         return effect::flows(v, waits(m, time_of(m.drive, natural(content))));
     }
-    effect::halts(OUT_OF_RANGE, v)
+    effect::halts(effect::OUT_OF_RANGE, v)
 }
-
-// The refusal of a content out of range.
-const OUT_OF_RANGE: u32 = 20;
 
 // A wait: a time is pending from the first step on, and each later step counts a turn.
 fn waits(m: Moment, time: u32) -> Outcome
@@ -148,7 +145,7 @@ fn wait_or_pass(drive: Drive, time: u32, turns: u32) -> Outcome
 fn is_time(content: i32) -> bool
     ensures { λ r. ⌜ r ≡ within 0 mostTime content ⌝ }
 {
-    (0 <= content) & (content <= 65535)
+    (0 <= content) & (content <= state::MOST_TIME as i32)
 }
 
 // A content as a natural number; a negative one, which is no time, as 0.
@@ -162,7 +159,7 @@ fn natural(content: i32) -> u32
 fn time_of(drive: Drive, content: u32) -> u32
     ensures { λ r. ⌜ r ≡ timeOf (drive .model) content ⌝ }
 {
-    if drive.model < 3 {
+    if drive.model < Drive::TYPE_637_PLUS {
         return content - content % 2;
     }
     content

@@ -11,6 +11,11 @@ ghost use Rattle.machine.specs.Given.{level};
 ghost use Rattle.machine.specs.declared.Outcome.the-variants.{GoOn};
 ghost use Rattle.machine.specs.Effect.{effect, assigns, sets, flows, jumpIf, halts, flag, output, variable, compares};
 
+// The refusals that halt a task: a zero divisor, a content out of range.
+pub const ZERO_DIVISOR: u32 = 19;
+
+pub const OUT_OF_RANGE: u32 = 20;
+
 // The values change, and the task goes on.
 pub fn sets(values: Values) -> Effect
     ensures { λ r. ⌜ r ≡ sets values ⌝ }

@@ -14,6 +14,9 @@ pub const CELLS: usize = 256;
 // The most blocks that a call stack (document 01: return path) holds.
 pub const STACK_LENGTH: usize = point::MOST_DEPTH as usize;
 
+// The most that an operand of 59 says, in 2 ms, and a variable of 5A, in ms.
+pub const MOST_TIME: u32 = 65535;
+
 // What a task does: it was never started, it runs, it ended itself by 51, or 19 or 20 halted it.
 pub const NEVER_STARTED: u8 = 0;
 

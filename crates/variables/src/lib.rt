@@ -85,12 +85,9 @@ fn divide(c: Command, q: Quotient, v: Values) -> Effect
 {
     match q {
         Quotient::Value(z) => effect::assigns(c, z, v),
-        Quotient::ByZero => effect::halts(ZERO_DIVISOR, v),
+        Quotient::ByZero => effect::halts(effect::ZERO_DIVISOR, v),
     }
 }
-
-// The refusal of a zero divisor.
-const ZERO_DIVISOR: u32 = 19;
 
 // 85: variable x = variable y / value.
 fn div_value(c: Command, v: Values) -> Effect
