@@ -12,7 +12,7 @@ use borrow.Author.Tests.{eqb-true, eq-eqb}
 use mir.Syntax.{w32}
 use mir.Val.{SFits}
 use Rattle.flow.specs.Flow.{bias, plc, mathematics, taskCount}
-use Rattle.le.specs.LittleEndian.{leBytes}
+use Rattle.le.specs.LittleEndian.{Bytes, leBytes}
 use Rattle.number.proofs.Choice.{by, both}
 use Rattle.point.specs.Fault.{mostDepth}
 use Rattle.places.specs.Places.{numberAt, signedAt}
@@ -106,7 +106,7 @@ good-state s g =
 
 -- ---- a buffer read and written
 
-module _ (b : List ℕ) (bytes : (k : ℕ) → getD b k 0 < 256) where
+module _ (b : List ℕ) (bytes : Bytes b) where
   variables-fit : (i : ℕ) → SFits w32 (getD (variablesIn b) i (pos 0))
   unfolding variablesIn
   variables-fit i =

@@ -10,11 +10,11 @@ use lib.ListN.{length, getD, replicate, length-replicate, getD-replicate}
 use borrow.Author.Count.{below-more}
 use borrow.Author.Tests.{eqb-true}
 use Rattle.flow.specs.Flow.{bias, plc, mathematics}
-use Rattle.le.specs.LittleEndian.{leBytes}
+use Rattle.le.specs.LittleEndian.{Bytes, leBytes}
 use Rattle.number.proofs.Choice.{both}
 use Rattle.point.specs.Fault.{mostDepth}
 use Rattle.places.specs.Places.{numberAt, signedAt, signedBytes}
-use Rattle.places.proofs.Has.{Has, Bytes, nil, cons, join, run, of-number, of-signed}
+use Rattle.places.proofs.Has.{Has, nil, cons, join, run, of-number, of-signed}
 use Rattle.places.proofs.Tables.{length-table, getD-table}
 use Rattle.state.specs.State.{cells, taskAt}
 use Rattle.state.specs.declared.Task.{Task}

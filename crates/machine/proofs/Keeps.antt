@@ -9,6 +9,7 @@ use lib.Dec.{eqb, ltb}
 use lib.ListN.{length, getD, set, drop, length-set}
 use lib.Seq.{getD-set-same, getD-set-other, getD-drop}
 use borrow.Author.Tests.{eqb-true, eqb-false, leb-false, ltb-true}
+use Rattle.le.specs.LittleEndian.{Bytes}
 use Rattle.outcome.specs.Outcome.{done}
 use Rattle.image.specs.Scan.{headerOf, blocksOf}
 use Rattle.image.specs.declared.Header.{Header}
@@ -169,7 +170,7 @@ module _ (h : Header) where
 
 -- ---- bytes
 
-module _ (image : List ℕ) (bytes : (k : ℕ) → getD image k 0 < 256) where
+module _ (image : List ℕ) (bytes : Bytes image) where
   block-bytes : (k : ℕ) → getD (blocksOf image) k 0 < 256
   unfolding blocksOf
   block-bytes k = go (done (headerOf image .outcome))
@@ -199,7 +200,7 @@ no-fault TooDeep e = absurd (omega arith)
 no-fault NoCall e = absurd (omega arith)
 no-fault PastEnd e = absurd (omega arith)
 
-module _ (image : List ℕ) (bytes : (k : ℕ) → getD image k 0 < 256) (s : State) (g : Good s) (x : Inputs) (l : x .task < taskCount)
+module _ (image : List ℕ) (bytes : Bytes image) (s : State) (g : Good s) (x : Inputs) (l : x .task < taskCount)
     (r : taskAt s (x .task) .status ≡ runs) (pass : fits image (s .header) (x .task) (taskAt s (x .task)) ≡ true) where
   abbrev t : ℕ
   t = x .task

@@ -4,6 +4,7 @@ use mathlib.Core.Path.{_≡_, refl}
 use mathlib.Core.List.{List, [], _∷_}
 use native.Mathlib.Omega.{arith}
 use lib.ListN.{getD}
+use Rattle.le.specs.LittleEndian.{Bytes}
 use Rattle.flow.specs.Flow.{taskCount}
 use Rattle.walk.specs.Walk.{Walk}
 use Rattle.walk.specs.declared.Verdict.the-variants as verdict
@@ -16,7 +17,7 @@ use Rattle.machine.specs.Reference.{Machine, turn, begun, idle, thread}
 use Rattle.machine.specs.Alike.{SameTask, SameValues, Alike}
 use Rattle.machine.specs.Run.{outs, stateAfter, dids, machineAfter, SameHanded, Permitted}
 use Rattle.machine.specs.Each.{Calls, noCalls, callsAfter, EveryStep}
-use Rattle.machine.specs.Theorem.{loaded, Bytes, EveryRun}
+use Rattle.machine.specs.Theorem.{loaded, EveryRun}
 use Rattle.machine.proofs.Accepted.{Accepted, accepted, hd, body, within}
 use Rattle.machine.proofs.Sound.{Sound, never-sound}
 use Rattle.machine.proofs.StepCase.{Agree}

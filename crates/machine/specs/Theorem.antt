@@ -4,7 +4,7 @@
 use Prim.Native.Nat.{ℕ, _<_}
 use mathlib.Core.Path.{_≡_}
 use mathlib.Core.List.{List}
-use lib.ListN.{getD}
+use Rattle.le.specs.LittleEndian.{Bytes}
 use Rattle.image.specs.Scan.{headerOf}
 use Rattle.flow.specs.Flow.{taskCount}
 use Rattle.walk.specs.Verdict.{verdictOf}
@@ -22,10 +22,6 @@ use Rattle.machine.specs.Each.{noCalls, EveryStep}
 -- what the engine begins with; the reference machine begins with `begun`
 abbrev pub loaded : List ℕ → State
 loaded image = fresh (headerOf image .header)
-
--- every byte is below 256
-abbrev pub Bytes : List ℕ → Type 0
-Bytes image = (k : ℕ) → getD image k 0 < 256
 
 -- of an image and a list of steps from its load
 pub record Run (image : List ℕ) (xs : List Inputs) : Type 0 where

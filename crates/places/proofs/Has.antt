@@ -19,7 +19,7 @@ use mir.ValLaws.{toZ-fits}
 use mir.Facts.{ofZ-toZ}
 use Rattle.arith.specs.Wrap.{word, wrap}
 use Rattle.arith.proofs.Cut.{word-fits, word-same, wrap-same}
-use Rattle.le.specs.LittleEndian.{leBytes}
+use Rattle.le.specs.LittleEndian.{Bytes, leBytes}
 use Rattle.places.specs.Places.{numberAt, signedAt, signedBytes, runs}
 use Rattle.places.proofs.Runs.{length-runs}
 
@@ -105,10 +105,6 @@ module _ {s : List ℕ} {at : ℕ} where
             ∙ (let q : length xs + (k - length xs) ≡ k = omega arith in ap (λ (j : ℕ). getD (xs ++ ys) j 0) q))
             (lt-or-le k (length xs));
       }
-
--- every byte is below 256
-abbrev pub Bytes : List ℕ → Type 0
-Bytes s = (k : ℕ) → getD s k 0 < 256
 
 pub number-below : (n : ℕ) (s : List ℕ) (at : ℕ) → Bytes s → numberAt n s at < 256 ^ n
 number-below zero s at b = omega arith

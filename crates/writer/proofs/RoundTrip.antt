@@ -6,7 +6,7 @@ use mathlib.Core.Bool.{true}
 use Prim.Native.Nat.{ℕ, zero, suc, _+_, _-_, _*_, _<_, _≤_}
 use native.Mathlib.Omega.{arith}
 use mathlib.Core.List.{List, [], _∷_, _++_}
-use lib.ListN.{length, getD, take, drop, take-append-drop, length-drop, List·getD-eq-default}
+use lib.ListN.{length, getD, take, drop, take-append-drop, length-drop}
 use lib.Seq.{take-append-seam, drop-append-seam}
 use borrow.Author.Count.{below-more}
 use Rattle.outcome.specs.Outcome.{done}
@@ -18,8 +18,7 @@ use Rattle.number.specs.declared.Number.{Number}
 use Rattle.image.specs.declared.reader.Scan.{Scan}
 use Rattle.image.specs.declared.reader.HeaderRead.{HeaderRead}
 use Rattle.writer.specs.declared.Written.{Written}
-use Rattle.le.proofs.LittleEndian.{Bytes}
-use Rattle.number.proofs.Choice.{by}
+use Rattle.le.specs.LittleEndian.{Bytes}
 use Rattle.image.proofs.Accepted.{place, value, Accepted, accepted-header, headerWith, below-six}
 use Rattle.writer.proofs.Judged.{judged-numbers, small-numbers, placed, fitted-is, written-fine, put-there}
 use Rattle.number.proofs.NumberLaws.{There, number-back, number-only}
@@ -126,10 +125,6 @@ read-what-was-written numbers blocks out h =
 
 -- ---- writing what was read
 
--- a byte is below 256, and past the end stands 0
-byte-at : (s : List ℕ) → Bytes s → (k : ℕ) → getD s k 0 < 256
-byte-at s h k = by k (length s) (h k) (λ g. let e = List·getD-eq-default s 0 g in omega arith)
-
 module _ (image : List ℕ) (bytes : Bytes image) (ok : headerOf image .outcome ≡ Done) where
   abbrev numbers : List ℕ
   numbers = numbersOf (headerOf image .header)
@@ -158,7 +153,7 @@ module _ (image : List ℕ) (bytes : Bytes image) (ok : headerOf image .outcome 
 
   -- and each stands there in its shortest form
   there : (k : ℕ) → k < 6 → There image (p k) (getD numbers k 0) (p (suc k))
-  there k lt = rw (number-is k lt) (number-only image (p k) (v k) (p (suc k)) (byte-at image bytes (p k)) (was .numbers k lt))
+  there k lt = rw (number-is k lt) (number-only image (p k) (v k) (p (suc k)) (bytes (p k)) (was .numbers k lt))
 
   given-same : (k : ℕ) → k < 6 → given numbers k (p k) ≡ Number.Value (v k) (p (suc k))
   given-same k lt = ap (Number.Value (getD numbers k 0)) (sym (there k lt .next)) ∙ ap (λ (x : ℕ). Number.Value x (p (suc k))) (number-is k lt)

@@ -1,0 +1,107 @@
+-- Each way that a load and a step go, by the test that leads there. Assumes nothing.
+use Prim.Native.Nat.{ℕ, _<_, _≤_}
+use mathlib.Core.Path.{_≡_, refl, sym, ap, _∙_}
+use mathlib.Core.Bool.{true, false}
+use mathlib.Core.List.{List}
+use lib.ListN.{length}
+use borrow.Author.Tests.{lt-ltb, le-ltb, eq-eqb, ne-eqb}
+use Rattle.flow.specs.Flow.{taskCount}
+use Rattle.state.specs.State.{cells}
+use Rattle.state.specs.Good.{Good}
+use Rattle.state.specs.declared.State.{State}
+use Rattle.walk.specs.Index.{marksLength}
+use Rattle.walk.specs.Verdict.{verdictOf, isAccepted}
+use Rattle.walk.specs.declared.Verdict.{Verdict}
+use Rattle.le.specs.LittleEndian.{Bytes}
+use Rattle.layout.specs.Layout.{bufferLength, unusedLength}
+use Rattle.layout.specs.Decoded.{decoded}
+use Rattle.layout.specs.Encoded.{encoded}
+use Rattle.layout.specs.Test.{unusedZero, stateIs, isState}
+use Rattle.layout.proofs.Round.{state-good}
+use Rattle.machine.specs.Given.{Inputs}
+use Rattle.machine.specs.Engine.{step}
+use Rattle.machine.specs.Theorem.{loaded}
+use Rattle.border.specs.Border.{numbered, verdictFor, refusedStep}
+use Rattle.border.specs.declared.BiasVerdict.{BiasVerdict}
+use Rattle.border.specs.declared.BiasAnswer.{BiasAnswer}
+use Rattle.bias.specs.Load.{Load, refuseLoad, judgedLoad, load}
+use Rattle.bias.specs.Step.{Stepped, refuse, handed, stepState, stepped}
+
+-- ---- loads
+
+module _ (image : List ℕ) (n : ℕ) (b : List ℕ) where
+  pub marks-short : n < marksLength → load image n b ≡ refuseLoad (numbered 13 n) b
+  unfolding load
+  marks-short h = rw (lt-ltb n marksLength h)
+
+  pub no-buffer : marksLength ≤ n → (length b ≡ bufferLength → ⊥) → load image n b ≡ refuseLoad (numbered 16 0) b
+  unfolding load
+  no-buffer h d = rw (le-ltb n marksLength h, ne-eqb (length b) bufferLength d)
+
+  pub of-image : marksLength ≤ n → length b ≡ bufferLength → load image n b ≡ judgedLoad image (verdictOf image n) b
+  unfolding load
+  of-image h e = rw (le-ltb n marksLength h, eq-eqb (length b) bufferLength e)
+
+module _ (image : List ℕ) (v : Verdict) (b : List ℕ) where
+  pub verdict-is : judgedLoad image v b .verdict ≡ verdictFor v
+  unfolding judgedLoad
+  verdict-is = refl
+
+  pub stays : isAccepted v ≡ false → judgedLoad image v b .buffer ≡ b
+  unfolding judgedLoad
+  stays e = rw e
+
+  pub begins : isAccepted v ≡ true → judgedLoad image v b .buffer ≡ encoded (loaded image)
+  unfolding judgedLoad
+  begins e = rw e
+
+-- a refused load, as its two promises have it
+pub load-refused : (l : Load) (r v : BiasVerdict) (b : List ℕ) → l ≡ refuseLoad v b → r ≡ v → (r ≡ l .verdict) × (b ≡ l .buffer)
+load-refused l r v b e q = (q ∙ ap (λ (m : Load). m .verdict) (sym e), ap (λ (m : Load). m .buffer) (sym e))
+
+-- ---- steps
+
+module _ (image b : List ℕ) (x : Inputs) where
+  pub no-task : taskCount ≤ x .task → stepped image b x ≡ refuse 15 (x .task) b
+  unfolding stepped
+  no-task h = rw (le-ltb (x .task) taskCount h)
+
+  pub bad-inputs : x .task < taskCount → (length (x .levels) ≡ cells → ⊥) → stepped image b x ≡ refuse 15 (length (x .levels)) b
+  unfolding stepped
+  bad-inputs h d = rw (lt-ltb (x .task) taskCount h, ne-eqb (length (x .levels)) cells d)
+
+  pub of-buffer : x .task < taskCount → length (x .levels) ≡ cells → stepped image b x ≡ stepState image b x
+  unfolding stepped
+  of-buffer h e = rw (lt-ltb (x .task) taskCount h, eq-eqb (length (x .levels)) cells e)
+
+  pub no-state : isState b ≡ false → stepState image b x ≡ refuse 16 0 b
+  unfolding stepState
+  no-state e = rw e
+
+  pub of-state : isState b ≡ true → stepState image b x ≡ handed (step image (decoded b) x)
+  unfolding stepState
+  of-state e = rw e
+
+-- a refused step, as its two promises have it
+pub step-refused : (s : Stepped) (r : BiasAnswer) (n p : ℕ) (b : List ℕ) → s ≡ refuse n p b → r ≡ refusedStep n p → (r ≡ s .answer) × (b ≡ s .buffer)
+step-refused s r n p b e q = (q ∙ ap (λ (m : Stepped). m .answer) (sym e), ap (λ (m : Stepped). m .buffer) (sym e))
+
+-- ---- 16, test by test
+
+module _ (b : List ℕ) where
+  pub wrong-length : (length b ≡ bufferLength → ⊥) → isState b ≡ false
+  unfolding isState
+  wrong-length d = rw (ne-eqb (length b) bufferLength d)
+
+  module _ (e : length b ≡ bufferLength) where
+    pub unused-not-zero : unusedZero b unusedLength ≡ false → isState b ≡ false
+    unfolding isState
+    unused-not-zero u = rw (eq-eqb (length b) bufferLength e, u)
+
+    pub judged-no-state : unusedZero b unusedLength ≡ true → stateIs (decoded b) ≡ false → isState b ≡ false
+    unfolding isState
+    judged-no-state u s = rw (eq-eqb (length b) bufferLength e, u, s)
+
+    pub judged-state : unusedZero b unusedLength ≡ true → stateIs (decoded b) ≡ true → isState b ≡ true
+    unfolding isState
+    judged-state u s = rw (eq-eqb (length b) bufferLength e, u, s)

@@ -1,0 +1,62 @@
+-- `bias::bias_step` meets its contract: 15, 16, then the step. Assumes nothing.
+use borrow.Author.Needs.{needs}
+use Rattle.bias.proofs.Ways.{no-task, bad-inputs, of-buffer, no-state, wrong-length, step-refused}
+use Rattle.bias.specs.Step.{Stepped}
+use Rattle.machine.specs.Given.{inputsOf}
+use denote.Ref.{now}
+use mathlib.Core.Path.{sym, ap, _∙_}
+use Rattle.bias.proofs.bias_step.Statement.{statement}
+use Rattle.bias.proofs.bias_step.Tie as tie
+
+refused-step-requires : tie.Need-refused-step-requires
+refused-step-requires c κs = search needs
+
+returns : tie.Need-returns
+returns c =
+    let a = c .before .before .before .before .before .args in
+    step-refused _ _ _ _ _ (no-task (now (a .image)) (now (a .state)) (inputsOf (a .task) (now (a .inputs)) (a .start) (a .reached)) (c .before .if1 .taken)) (c .refused-step .ensures)
+
+refused-step-requires-2 : tie.Need-refused-step-requires-2
+refused-step-requires-2 c κs = search needs
+
+returns-2 : tie.Need-returns-2
+returns-2 c =
+    let a = c .before .before .before .before .before .before .args in
+    step-refused _ _ _ _ _ (bad-inputs (now (a .image)) (now (a .state)) (inputsOf (a .task) (now (a .inputs)) (a .start) (a .reached)) (c .before .before .if1 .left) (c .before .if2 .taken)) (c .refused-step2 .ensures)
+
+refused-step-requires-3 : tie.Need-refused-step-requires-3
+refused-step-requires-3 c κs = search needs
+
+returns-3 : tie.Need-returns-3
+returns-3 c =
+    let a = c .before .before .before .before .before .before .before .args in
+    let x = inputsOf (a .task) (now (a .inputs)) (a .start) (a .reached) in
+    let e = of-buffer (now (a .image)) (now (a .state)) x (c .before .before .before .if1 .left) (c .before .before .if2 .left) in
+    step-refused _ _ _ _ _ (e ∙ no-state (now (a .image)) (now (a .state)) x (wrong-length (now (a .state)) (c .before .if3 .taken))) (c .refused-step3 .ensures)
+
+step-buffer-requires : tie.Need-step-buffer-requires
+step-buffer-requires c κs = search needs
+
+same-length : tie.Need-same-length
+same-length c = search needs
+
+returns-4 : tie.Need-returns-4
+returns-4 c =
+    let a = c .before .before .before .before .before .before .before .before .before .before .args in
+    let e = of-buffer (now (a .image)) (now (a .state)) (inputsOf (a .task) (now (a .inputs)) (a .start) (a .reached)) (c .before .before .before .before .before .before .if1 .left) (c .before .before .before .before .before .if2 .left) in
+    let s = c .before .before .step-buffer .ensures in
+    (s .0 ∙ ap (λ (m : Stepped). m .answer) (sym e), s .1 ∙ ap (λ (m : Stepped). m .buffer) (sym e))
+
+pub bias-step-spec : {M : Type 1} → statement M
+bias-step-spec =
+    tie.close
+    (tie.spec
+    refused-step-requires
+    returns
+    refused-step-requires-2
+    returns-2
+    refused-step-requires-3
+    returns-3
+    step-buffer-requires
+    same-length
+    returns-4)

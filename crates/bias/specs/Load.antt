@@ -1,0 +1,33 @@
+-- What `bias_load` answers and leaves of the lent state buffer (document 01, "Refused because of the input"): 13 first, then 16, then the image.
+-- Assumes nothing.
+use Prim.Native.Nat.{ℕ}
+use mathlib.Core.Bool.{cond}
+use mathlib.Core.List.{List}
+use lib.Dec.{eqb, ltb}
+use lib.ListN.{length}
+use Rattle.walk.specs.Index.{marksLength}
+use Rattle.walk.specs.Verdict.{verdictOf, isAccepted}
+use Rattle.walk.specs.declared.Verdict.{Verdict}
+use Rattle.layout.specs.Layout.{bufferLength}
+use Rattle.layout.specs.Encoded.{encoded}
+use Rattle.machine.specs.Theorem.{loaded}
+use Rattle.border.specs.Border.{numbered, verdictFor}
+use Rattle.border.specs.declared.BiasVerdict.{BiasVerdict}
+
+pub record Load : Type 0 where
+  pub verdict : BiasVerdict
+  pub buffer : List ℕ
+
+-- refused: the buffer stays
+abbrev pub refuseLoad : BiasVerdict → List ℕ → Load
+refuseLoad v b = record { verdict = v; buffer = b }
+
+-- by the verdict on the image: the bytes of the fresh state, or the buffer as it was
+unfoldable pub judgedLoad : List ℕ → Verdict → List ℕ → Load
+judgedLoad image v b = record { verdict = verdictFor v; buffer = cond (isAccepted v) (encoded (loaded image)) b }
+
+-- an image, marks of n bytes, and the buffer b
+unfoldable pub load : List ℕ → ℕ → List ℕ → Load
+load image n b =
+    cond (ltb n marksLength) (refuseLoad (numbered 13 n) b)
+    (cond (eqb (length b) bufferLength) (judgedLoad image (verdictOf image n) b) (refuseLoad (numbered 16 0) b))

@@ -1,0 +1,145 @@
+// The functions that C calls (include/bias.h). C passes a pointer and a length for each slice, of any length, so none of them has a precondition:
+// each answers every byte that a host can lend.
+use border::BiasAnswer;
+use border::BiasVerdict;
+use image::reader;
+use places::LENGTH;
+use program::MARKS_LENGTH;
+use state::CELLS;
+use state::State;
+ghost use mathlib.Core.Path.{_≡_};
+ghost use mathlib.Core.Bool.{true};
+ghost use mathlib.Core.List.{[], _∷_};
+ghost use Prim.Native.Nat.{_≤_};
+ghost use lib.ListN.{length};
+ghost use Rattle.walk.specs.Index.{marksLength};
+ghost use Rattle.walk.specs.Verdict.{verdictOf};
+ghost use Rattle.loader.specs.After.{After};
+ghost use Rattle.writer.specs.Writer.{written, outAfter};
+ghost use Rattle.state.specs.Good.{Good};
+ghost use Rattle.layout.specs.Layout.{bufferLength};
+ghost use Rattle.layout.specs.Encoded.{encoded};
+ghost use Rattle.machine.specs.Given.{inputsOf};
+ghost use Rattle.machine.specs.Engine.{step};
+ghost use Rattle.machine.specs.Theorem.{loaded};
+ghost use Rattle.border.specs.Border.{writtenFor};
+ghost use Rattle.bias.specs.Load.{load, judgedLoad};
+ghost use Rattle.bias.specs.Step.{handed, stepState, stepped};
+
+// Numbers of the refusals that are found here.
+const MARKS_SHORT: u32 = 13;
+
+const NOT_GIVEN: u32 = 15;
+
+const NO_STATE: u32 = 16;
+
+const TASK_COUNT: u32 = flow::TASK_COUNT as u32;
+
+// Loads an image: judges it, in the first MARKS_LENGTH bytes of marks, and puts its fresh state into the buffer where it is accepted.
+#[no_mangle]
+pub extern "C" fn bias_load(image: &[u8], marks: &mut [u8], state: &mut [u8]) -> BiasVerdict
+    ensures { λ r. ⌜ r ≡ load (now (image .entry)) (length (now (marks .entry))) (now (state .entry)) .verdict ⌝ }
+    ensures { λ _. ⌜ now (state .exit) ≡ load (now (image .entry)) (length (now (marks .entry))) (now (state .entry)) .buffer ⌝ }
+    ensures { λ _. ⌜ After marksLength (now (marks .entry)) (now (marks .exit)) ⌝ }
+{
+    let n = marks.len();
+    if n < MARKS_LENGTH {
+        return border::numbered(MARKS_SHORT, n);
+    }
+    if state.len() != LENGTH {
+        return border::numbered(NO_STATE, 0);
+    }
+    load_image(image, marks, state)
+}
+
+// Judges an image, and puts its fresh state into the buffer where it is accepted.
+fn load_image(image: &[u8], marks: &mut [u8], state: &mut [u8]) -> BiasVerdict
+    requires { ⌜ length (now state) ≡ bufferLength ⌝ }
+    ensures { λ r. ⌜ r ≡ judgedLoad (now (image .entry)) (verdictOf (now (image .entry)) (length (now (marks .entry)))) (now (state .entry)) .verdict ⌝ }
+    ensures { λ _. ⌜ now (state .exit) ≡ judgedLoad (now (image .entry)) (verdictOf (now (image .entry)) (length (now (marks .entry)))) (now (state .entry)) .buffer ⌝ }
+    ensures { λ _. ⌜ After marksLength (now (marks .entry)) (now (marks .exit)) ⌝ }
+{
+    let verdict = loader::judge(image, marks);
+    if !refusal::is_accepted(verdict) {
+        return border::verdict(verdict);
+    }
+    put_state(state, fresh(image));
+    border::verdict(verdict)
+}
+
+// The state that an accepted image begins with.
+fn fresh(image: &[u8]) -> State
+    ensures { λ r. ⌜ r ≡ loaded (now (image .entry)) ⌝ }
+{
+    let read = reader::read(image);
+    State::fresh(read.header)
+}
+
+// The bytes of a state into the buffer.
+fn put_state(state: &mut [u8], s: State)
+    requires { ⌜ length (now state) ≡ bufferLength ⌝ }
+    ensures { λ _. ⌜ now (state .exit) ≡ encoded s ⌝ }
+{
+    let b = writing::encode(s);
+    lend::copy_out(state, &b);
+}
+
+// Steps a task: 15, then 16, then 18, 17 or the command.
+#[no_mangle]
+pub extern "C" fn bias_step(image: &[u8], state: &mut [u8], task: u32, inputs: &[u8], start: u8, reached: u8) -> BiasAnswer
+    ensures { λ r. ⌜ r ≡ stepped (now (image .entry)) (now (state .entry)) (inputsOf task (now (inputs .entry)) start reached) .answer ⌝ }
+    ensures { λ _. ⌜ now (state .exit) ≡ stepped (now (image .entry)) (now (state .entry)) (inputsOf task (now (inputs .entry)) start reached) .buffer ⌝ }
+{
+    if task >= TASK_COUNT {
+        return border::refused_step(NOT_GIVEN, task as usize);
+    }
+    let n = inputs.len();
+    if n != CELLS {
+        return border::refused_step(NOT_GIVEN, n);
+    }
+    if state.len() != LENGTH {
+        return border::refused_step(NO_STATE, 0);
+    }
+    step_buffer(image, state, task, inputs, start, reached)
+}
+
+// Steps a task of the state that a buffer holds, if it holds one.
+fn step_buffer(image: &[u8], state: &mut [u8], task: u32, inputs: &[u8], start: u8, reached: u8) -> BiasAnswer
+    requires { ⌜ length (now state) ≡ bufferLength ⌝ }
+    ensures { λ r. ⌜ r ≡ stepState (now (image .entry)) (now (state .entry)) (inputsOf task (now (inputs .entry)) start reached) .answer ⌝ }
+    ensures { λ _. ⌜ now (state .exit) ≡ stepState (now (image .entry)) (now (state .entry)) (inputsOf task (now (inputs .entry)) start reached) .buffer ⌝ }
+{
+    let b = lend::copy_in(state);
+    let s = reading::decode(&b);
+    if !buffer::unused_zero(&b) {
+        return border::refused_step(NO_STATE, 0);
+    }
+    if !buffer::state_is(s) {
+        return border::refused_step(NO_STATE, 0);
+    }
+    step_state(image, state, s, task, inputs, start, reached)
+}
+
+// Steps a task of a good state, and puts the state after it into the buffer.
+fn step_state(image: &[u8], state: &mut [u8], s: State, task: u32, inputs: &[u8], start: u8, reached: u8) -> BiasAnswer
+    requires { ⌜ length (now state) ≡ bufferLength ⌝ }
+    requires { ⌜ Good s ⌝ }
+    ensures { λ r. ⌜ r ≡ handed (step (now (image .entry)) s (inputsOf task (now (inputs .entry)) start reached)) .answer ⌝ }
+    ensures { λ _. ⌜ now (state .exit) ≡ handed (step (now (image .entry)) s (inputsOf task (now (inputs .entry)) start reached)) .buffer ⌝ }
+{
+    let out = engine::step(image, s, task, inputs, start, reached);
+    let motion = out.motion;
+    let answer = out.answer;
+    put_state(state, out.state);
+    border::answer(motion, answer)
+}
+
+// Writes the image of these header numbers and blocks to the front of out.
+#[no_mangle]
+pub extern "C" fn bias_write(format: u32, model: u32, b: u32, c: u32, start: u32, count: u32, blocks: &[u8], out: &mut [u8]) -> BiasVerdict
+    ensures { λ r. ⌜ r ≡ writtenFor (written (format ∷ model ∷ b ∷ c ∷ start ∷ count ∷ []) (length (now (blocks .entry))) (length (now (out .entry)))) ⌝ }
+    ensures { λ _. ⌜ now (out .exit) ≡ outAfter (format ∷ model ∷ b ∷ c ∷ start ∷ count ∷ []) (now (blocks .entry)) (now (out .entry)) ⌝ }
+{
+    let numbers = [format, model, b, c, start, count];
+    border::written(writer::write(numbers, blocks, out))
+}

@@ -1,0 +1,62 @@
+-- What C is handed (design, "The C border"): the structs of results, by document 01's number and place of what the library answers. Parts that
+-- are not named are 0, and so are the fields that a request does not carry. Assumes nothing.
+use Prim.Native.Nat.{ℕ}
+use mathlib.Core.Bool.{cond}
+use lib.IntN.{pos}
+use Rattle.outcome.specs.Outcome.{numberOf, placeOf, done}
+use Rattle.walk.specs.Verdict.{verdictNumber, verdictPlace, verdictTask, verdictDepth}
+use Rattle.walk.specs.declared.Verdict.{Verdict}
+use Rattle.writer.specs.declared.Written.{Written}
+use Rattle.state.specs.declared.Axis.{Axis}
+use Rattle.machine.specs.Numbers.{answerNumber, answerPlace, answerTask, answerDepth, motionNumber, motionAxis, motionMode}
+use Rattle.machine.specs.declared.Motion.{Motion}
+use Rattle.machine.specs.declared.Answer.{Answer}
+use Rattle.border.specs.declared.BiasVerdict.{BiasVerdict}
+use Rattle.border.specs.declared.BiasAnswer.{BiasAnswer}
+
+-- ---- loads and writes
+
+abbrev pub numbered : ℕ → ℕ → BiasVerdict
+numbered number place = record { place = place; number = number; task = 0; depth = 0 }
+
+abbrev pub verdictFor : Verdict → BiasVerdict
+verdictFor v = record { place = verdictPlace v; number = verdictNumber v; task = verdictTask v; depth = verdictDepth v }
+
+-- the length written stands in the place
+abbrev pub writtenFor : Written → BiasVerdict
+writtenFor w = cond (done (w .outcome)) (numbered 0 (w .length)) (numbered (numberOf (w .outcome)) (placeOf (w .outcome)))
+
+-- ---- steps
+
+-- refused with a number and a place alone: no motion
+abbrev pub refusedStep : ℕ → ℕ → BiasAnswer
+refusedStep number place = record {
+  place = place;
+  number = number;
+  task = 0;
+  depth = 0;
+  motion = 0;
+  position = pos 0;
+  speed = 0;
+  acceleration = 0;
+  deceleration = 0;
+  mode = 0;
+}
+
+abbrev pub answerFor : Motion → Answer → BiasAnswer
+answerFor m a = record {
+  place = answerPlace a;
+  number = answerNumber a;
+  task = answerTask a;
+  depth = answerDepth a;
+  motion = motionNumber m;
+  position = motionAxis m .position;
+  speed = motionAxis m .speed;
+  acceleration = motionAxis m .acceleration;
+  deceleration = motionAxis m .deceleration;
+  mode = motionMode m;
+}
+
+-- the parameters of a request that carries a deceleration alone
+abbrev pub stopAxis : ℕ → Axis
+stopAxis deceleration = record { position = pos 0; speed = 0; acceleration = 0; deceleration = deceleration }

@@ -1,0 +1,214 @@
+// What C is handed (include/bias.h): the two structs of results, and document 01's numbers and places in them. Parts that an answer does not name are 0.
+use machine::Answer;
+use machine::Motion;
+use outcome::Outcome;
+use state::Axis;
+use walk::Verdict;
+use writer::Written;
+ghost use mathlib.Core.Path.{_≡_};
+ghost use Rattle.machine.specs.Numbers.{answerNumber, answerPlace, answerTask, answerDepth, motionNumber, motionAxis, motionMode};
+ghost use Rattle.border.specs.Border.{numbered, verdictFor, writtenFor, refusedStep, answerFor, stopAxis};
+
+// The result of a load or a write.
+#[repr(C)]
+pub struct BiasVerdict {
+    pub place: u64,
+    pub number: u32,
+    pub task: u32,
+    pub depth: u32,
+}
+
+// The result of a step: an answer and a motion request.
+#[repr(C)]
+pub struct BiasAnswer {
+    pub place: u64,
+    pub number: u32,
+    pub task: u32,
+    pub depth: u32,
+    pub motion: u32,
+    pub position: i32,
+    pub speed: u32,
+    pub acceleration: u32,
+    pub deceleration: u32,
+    pub mode: u32,
+}
+
+// A result with a number and a place alone.
+pub fn numbered(number: u32, place: usize) -> BiasVerdict
+    ensures { λ r. ⌜ r ≡ numbered number place ⌝ }
+{
+    BiasVerdict {
+        place: place as u64,
+        number: number,
+        task: 0,
+        depth: 0,
+    }
+}
+
+// The result of a load.
+pub fn verdict(v: Verdict) -> BiasVerdict
+    ensures { λ r. ⌜ r ≡ verdictFor v ⌝ }
+{
+    BiasVerdict {
+        place: refusal::place(v) as u64,
+        number: refusal::number(v),
+        task: refusal::task(v) as u32,
+        depth: refusal::depth(v) as u32,
+    }
+}
+
+// The result of a write: the length written stands in the place.
+pub fn written(w: Written) -> BiasVerdict
+    ensures { λ r. ⌜ r ≡ writtenFor w ⌝ }
+{
+    let outcome = w.outcome;
+    if outcome.is_done() {
+        return numbered(0, w.length);
+    }
+    numbered(outcome.number(), outcome.place())
+}
+
+// The result of a step that is refused with a number and a place alone: no motion.
+pub fn refused_step(number: u32, place: usize) -> BiasAnswer
+    ensures { λ r. ⌜ r ≡ refusedStep number place ⌝ }
+{
+    BiasAnswer {
+        place: place as u64,
+        number: number,
+        task: 0,
+        depth: 0,
+        motion: 0,
+        position: 0,
+        speed: 0,
+        acceleration: 0,
+        deceleration: 0,
+        mode: 0,
+    }
+}
+
+// The result of any other step.
+pub fn answer(motion: Motion, a: Answer) -> BiasAnswer
+    ensures { λ r. ⌜ r ≡ answerFor motion a ⌝ }
+{
+    let axis = axis_of(motion);
+    BiasAnswer {
+        place: place_of(a) as u64,
+        number: number_of(a),
+        task: task_of(a) as u32,
+        depth: depth_of(a) as u32,
+        motion: motion_of(motion),
+        position: axis.position,
+        speed: axis.speed as u32,
+        acceleration: axis.acceleration as u32,
+        deceleration: axis.deceleration as u32,
+        mode: mode_of(motion) as u32,
+    }
+}
+
+// Document 01's number of an answer.
+fn number_of(a: Answer) -> u32
+    ensures { λ r. ⌜ r ≡ answerNumber a ⌝ }
+{
+    match a {
+        Answer::Done => 0,
+        Answer::NoTask(_) => 15,
+        Answer::Inputs(_) => 15,
+        Answer::NotRunning => 18,
+        Answer::Differs(_) => 17,
+        Answer::Halted(number, _) => number,
+    }
+}
+
+// The task number or the length of the inputs, or the block before the step.
+fn place_of(a: Answer) -> usize
+    ensures { λ r. ⌜ r ≡ answerPlace a ⌝ }
+{
+    match a {
+        Answer::Done => 0,
+        Answer::NoTask(task) => task as usize,
+        Answer::Inputs(length) => length,
+        Answer::NotRunning => 0,
+        Answer::Differs(point) => point.block as usize,
+        Answer::Halted(_, point) => point.block as usize,
+    }
+}
+
+fn task_of(a: Answer) -> u8
+    ensures { λ r. ⌜ r ≡ answerTask a ⌝ }
+{
+    match a {
+        Answer::Done => 0,
+        Answer::NoTask(_) => 0,
+        Answer::Inputs(_) => 0,
+        Answer::NotRunning => 0,
+        Answer::Differs(point) => point.task,
+        Answer::Halted(_, point) => point.task,
+    }
+}
+
+fn depth_of(a: Answer) -> u8
+    ensures { λ r. ⌜ r ≡ answerDepth a ⌝ }
+{
+    match a {
+        Answer::Done => 0,
+        Answer::NoTask(_) => 0,
+        Answer::Inputs(_) => 0,
+        Answer::NotRunning => 0,
+        Answer::Differs(point) => point.depth,
+        Answer::Halted(_, point) => point.depth,
+    }
+}
+
+// The number of a motion request.
+fn motion_of(m: Motion) -> u32
+    ensures { λ r. ⌜ r ≡ motionNumber m ⌝ }
+{
+    match m {
+        Motion::None => 0,
+        Motion::MoveTo(_) => 1,
+        Motion::MoveBy(_) => 2,
+        Motion::Forward(_) => 3,
+        Motion::Backward(_) => 4,
+        Motion::Stop(_, _) => 5,
+    }
+}
+
+// No parameters, or none but a stop's deceleration.
+fn stop_by(deceleration: u16) -> Axis
+    ensures { λ r. ⌜ r ≡ stopAxis deceleration ⌝ }
+{
+    Axis {
+        position: 0,
+        speed: 0,
+        acceleration: 0,
+        deceleration: deceleration,
+    }
+}
+
+// The parameters that a request carries.
+fn axis_of(m: Motion) -> Axis
+    ensures { λ r. ⌜ r ≡ motionAxis m ⌝ }
+{
+    match m {
+        Motion::None => stop_by(0),
+        Motion::MoveTo(axis) => axis,
+        Motion::MoveBy(axis) => axis,
+        Motion::Forward(axis) => axis,
+        Motion::Backward(axis) => axis,
+        Motion::Stop(_, deceleration) => stop_by(deceleration),
+    }
+}
+
+// A stop's mode.
+fn mode_of(m: Motion) -> u8
+    ensures { λ r. ⌜ r ≡ motionMode m ⌝ }
+{
+    match m {
+        Motion::None => 0,
+        Motion::MoveTo(_) => 0,
+        Motion::MoveBy(_) => 0,
+        Motion::Forward(_) => 0,
+        Motion::Backward(_) => 0,
+        Motion::Stop(mode, _) => mode,
+    }
+}
