@@ -86,7 +86,14 @@ fn put_state(state: &mut [u8], s: State)
 
 // Steps a task: 15, then 16, then 18, 17 or the command.
 #[no_mangle]
-pub extern "C" fn bias_step(image: &[u8], state: &mut [u8], task: u32, inputs: &[u8], start: u8, reached: u8) -> BiasAnswer
+pub extern "C" fn bias_step(
+    image: &[u8],
+    state: &mut [u8],
+    task: u32,
+    inputs: &[u8],
+    start: u8,
+    reached: u8,
+) -> BiasAnswer
     ensures { λ r. ⌜ r ≡ stepped (now (image .entry)) (now (state .entry)) (inputsOf task (now (inputs .entry)) start reached) .answer ⌝ }
     ensures { λ _. ⌜ now (state .exit) ≡ stepped (now (image .entry)) (now (state .entry)) (inputsOf task (now (inputs .entry)) start reached) .buffer ⌝ }
 {
@@ -104,7 +111,14 @@ pub extern "C" fn bias_step(image: &[u8], state: &mut [u8], task: u32, inputs: &
 }
 
 // Steps a task of the state that a buffer holds, if it holds one.
-fn step_buffer(image: &[u8], state: &mut [u8], task: u32, inputs: &[u8], start: u8, reached: u8) -> BiasAnswer
+fn step_buffer(
+    image: &[u8],
+    state: &mut [u8],
+    task: u32,
+    inputs: &[u8],
+    start: u8,
+    reached: u8,
+) -> BiasAnswer
     requires { ⌜ length (now state) ≡ bufferLength ⌝ }
     ensures { λ r. ⌜ r ≡ stepState (now (image .entry)) (now (state .entry)) (inputsOf task (now (inputs .entry)) start reached) .answer ⌝ }
     ensures { λ _. ⌜ now (state .exit) ≡ stepState (now (image .entry)) (now (state .entry)) (inputsOf task (now (inputs .entry)) start reached) .buffer ⌝ }
@@ -121,7 +135,15 @@ fn step_buffer(image: &[u8], state: &mut [u8], task: u32, inputs: &[u8], start: 
 }
 
 // Steps a task of a good state, and puts the state after it into the buffer.
-fn step_state(image: &[u8], state: &mut [u8], s: State, task: u32, inputs: &[u8], start: u8, reached: u8) -> BiasAnswer
+fn step_state(
+    image: &[u8],
+    state: &mut [u8],
+    s: State,
+    task: u32,
+    inputs: &[u8],
+    start: u8,
+    reached: u8,
+) -> BiasAnswer
     requires { ⌜ length (now state) ≡ bufferLength ⌝ }
     requires { ⌜ Good s ⌝ }
     ensures { λ r. ⌜ r ≡ handed (step (now (image .entry)) s (inputsOf task (now (inputs .entry)) start reached)) .answer ⌝ }
@@ -136,7 +158,16 @@ fn step_state(image: &[u8], state: &mut [u8], s: State, task: u32, inputs: &[u8]
 
 // Writes the image of these header numbers and blocks to the front of out.
 #[no_mangle]
-pub extern "C" fn bias_write(format: u32, model: u32, b: u32, c: u32, start: u32, count: u32, blocks: &[u8], out: &mut [u8]) -> BiasVerdict
+pub extern "C" fn bias_write(
+    format: u32,
+    model: u32,
+    b: u32,
+    c: u32,
+    start: u32,
+    count: u32,
+    blocks: &[u8],
+    out: &mut [u8],
+) -> BiasVerdict
     ensures { λ r. ⌜ r ≡ writtenFor (written (format ∷ model ∷ b ∷ c ∷ start ∷ count ∷ []) (length (now (blocks .entry))) (length (now (out .entry)))) ⌝ }
     ensures { λ _. ⌜ now (out .exit) ≡ outAfter (format ∷ model ∷ b ∷ c ∷ start ∷ count ∷ []) (now (blocks .entry)) (now (out .entry)) ⌝ }
 {

@@ -3,13 +3,11 @@
 use libc::STDIN_FILENO;
 use walk::Verdict;
 ghost use mathlib.Core.Path.{_≡_};
-ghost use mathlib.Core.List.{_++_};
-ghost use Prim.Native.Nat.{_/_, min};
-ghost use lib.ListN.{length, drop};
-ghost use Rattle.io.specs.Counts.{Counts};
+ghost use lib.ListN.{length};
 ghost use Rattle.walk.specs.Index.{marksLength};
 ghost use Rattle.walk.specs.Verdict.{verdictOf};
-ghost use Rattle.images.specs.Hex.{digitOf, byteOf, bytesOf, imageOf, linesOf};
+ghost use Rattle.hex.specs.Hex.{allBytes};
+ghost use Rattle.hex.specs.Lines.{linesOf};
 
 // Room for the whole input.
 const TEXT_LENGTH: usize = 262144;
@@ -48,44 +46,9 @@ fn rows(text: &[u8]) -> usize
 
 // Judges the image of a line and writes the line of its verdict; gives the verdict.
 fn row(line: &[u8]) -> Verdict
-    ensures { λ r. ⌜ r ≡ verdictOf (imageOf (now (line .entry))) marksLength ⌝ }
+    ensures { λ r. ⌜ r ≡ verdictOf (allBytes (now (line .entry))) marksLength ⌝ }
 {
     let mut image = report::input();
-    let n = decode(line, &mut image);
+    let n = hex::decode(line, &mut image);
     report::judge(&image[..n])
-}
-
-// Puts the bytes of a line's digits to the front of image, as many as there are and as it has room for; gives how many.
-fn decode(line: &[u8], image: &mut [u8]) -> usize
-    ensures { λ r. ⌜ r ≡ min (length (now (line .entry)) / 2) (length (now (image .entry))) ⌝ }
-    ensures { λ r. ⌜ Counts r (now (image .exit)) ⌝ }
-    ensures { λ r. ⌜ now (image .exit) ≡ bytesOf (now (line .entry)) r ++ drop r (now (image .entry)) ⌝ }
-{
-    let n = least(line.len() / 2, image.len());
-    let mut i = 0;
-    while i < n {
-        image[i] = byte(line[2 * i], line[2 * i + 1]);
-        i += 1;
-    }
-    n
-}
-
-fn least(a: usize, b: usize) -> usize
-    ensures { λ r. ⌜ r ≡ min a b ⌝ }
-{
-    if a < b { a } else { b }
-}
-
-// The byte of two digits.
-fn byte(high: u8, low: u8) -> u8
-    ensures { λ r. ⌜ r ≡ byteOf high low ⌝ }
-{
-    16 * digit(high) + digit(low)
-}
-
-// The value of a hexadecimal digit.
-fn digit(c: u8) -> u8
-    ensures { λ r. ⌜ r ≡ digitOf c ⌝ }
-{
-    (c % 16 + 9 * (c / 64)) % 16
 }

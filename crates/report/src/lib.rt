@@ -31,7 +31,7 @@ pub fn judge(image: &[u8]) -> Verdict
 }
 
 // The bytes that the search works in.
-fn marks() -> [u8; MARKS_LENGTH]
+pub fn marks() -> [u8; MARKS_LENGTH]
     ensures { λ r. ⌜ marksLength ≡ length r ⌝ }
 {
     [0; MARKS_LENGTH]
@@ -41,19 +41,10 @@ fn marks() -> [u8; MARKS_LENGTH]
 pub fn write_line(v: Verdict) -> Verdict
     ensures { λ r. ⌜ r ≡ v ⌝ }
 {
-    show(b"refusal ", refusal::number(v) as u64);
-    show(b" place ", refusal::place(v) as u64);
-    show(b" task ", refusal::task(v) as u64);
-    show(b" depth ", refusal::depth(v) as u64);
+    print::show(b"refusal ", refusal::number(v) as u64);
+    print::show(b" place ", refusal::place(v) as u64);
+    print::show(b" task ", refusal::task(v) as u64);
+    print::show(b" depth ", refusal::depth(v) as u64);
     io::write_all(STDOUT_FILENO, b"\n");
-    v
-}
-
-// Prints text before a number.
-fn show(text: &[u8], v: u64) -> u64
-    ensures { λ r. ⌜ r ≡ v ⌝ }
-{
-    io::write_all(STDOUT_FILENO, text);
-    io::print_decimal(STDOUT_FILENO, v);
     v
 }

@@ -193,12 +193,12 @@ fn pin_rows() -> u8
 fn arith_row(a: i32, b: i32) -> i32
     ensures { λ r. ⌜ r ≡ wrap w32 (a +ℤ b) ⌝ }
 {
-    show_signed(b"arith ", a);
-    show_signed(b" ", b);
-    show_signed(b": sum ", arith::add(a, b));
-    show_signed(b" difference ", arith::sub(a, b));
-    show_signed(b" product ", arith::mul(a, b));
-    show_signed(b" negation ", arith::neg(a));
+    print::show_signed(b"arith ", a);
+    print::show_signed(b" ", b);
+    print::show_signed(b": sum ", arith::add(a, b));
+    print::show_signed(b" difference ", arith::sub(a, b));
+    print::show_signed(b" product ", arith::mul(a, b));
+    print::show_signed(b" negation ", arith::neg(a));
     show_quotient(arith::div(a, b));
     show_conditions(a, b);
     show_bits(a);
@@ -211,7 +211,7 @@ fn show_quotient(q: Quotient) -> Quotient
 {
     match q {
         Quotient::Value(v) => {
-            show_signed(b" quotient ", v);
+            print::show_signed(b" quotient ", v);
             q
         }
         Quotient::ByZero => {
@@ -238,9 +238,9 @@ fn show_conditions(a: i32, b: i32) -> u8
 fn show_bits(a: i32) -> i32
     ensures { λ r. ⌜ r ≡ a ⌝ }
 {
-    show(b" bits ", arith::bit(a, 0) as u64);
-    show(b"", arith::bit(a, 31) as u64);
-    show(b"", arith::bit(a, 32) as u64);
+    print::show(b" bits ", arith::bit(a, 0) as u64);
+    print::show(b"", arith::bit(a, 31) as u64);
+    print::show(b"", arith::bit(a, 32) as u64);
     a
 }
 
@@ -248,7 +248,7 @@ fn show_bits(a: i32) -> i32
 fn bytes_row(v: i32) -> [u8; 4]
     ensures { λ r. ⌜ r ≡ leBytes 4 (word w32 v) ⌝ }
 {
-    show_signed(b"bytes ", v);
+    print::show_signed(b"bytes ", v);
     show_bytes(le::put_i32(v))
 }
 
@@ -257,10 +257,10 @@ fn show_bytes(b: [u8; 4]) -> [u8; 4]
 {
     io::write_all(STDOUT_FILENO, b":");
     show_buffer(&b);
-    show(b" read ", le::read_u8([b[0]]) as u64);
-    show(b" ", le::read_u16([b[0], b[1]]) as u64);
-    show(b" ", le::read_u32(b) as u64);
-    show_signed(b" ", le::read_i32(b));
+    print::show(b" read ", le::read_u8([b[0]]) as u64);
+    print::show(b" ", le::read_u16([b[0], b[1]]) as u64);
+    print::show(b" ", le::read_u32(b) as u64);
+    print::show_signed(b" ", le::read_i32(b));
     io::write_all(STDOUT_FILENO, b"\n");
     b
 }
@@ -272,8 +272,8 @@ fn number_row(bytes: &[u8]) -> Number
     let n = number::read(bytes, 0);
     match n {
         Number::Value(v, next) => {
-            show(b"number ", v as u64);
-            show(b" next ", next as u64);
+            print::show(b"number ", v as u64);
+            print::show(b" next ", next as u64);
             io::write_all(STDOUT_FILENO, b"\n");
             n
         }
@@ -302,7 +302,7 @@ fn header_row(image: &[u8]) -> HeaderRead
 {
     let r = reader::read(image);
     show_header(r);
-    show(b" blocks ", reader::block_part(image).len() as u64);
+    print::show(b" blocks ", reader::block_part(image).len() as u64);
     io::write_all(STDOUT_FILENO, b"\n");
     r
 }
@@ -315,12 +315,12 @@ fn show_header(r: HeaderRead) -> HeaderRead
     let d = header.drive;
     io::write_all(STDOUT_FILENO, b"header ");
     show_outcome(outcome);
-    show(b": format ", header.format as u64);
+    print::show(b": format ", header.format as u64);
     io::write_all(STDOUT_FILENO, b" ");
     show_drive(d);
-    show(b" start ", header.start as u64);
-    show(b" count ", header.count as u64);
-    show(b" at ", r.at as u64);
+    print::show(b" start ", header.start as u64);
+    print::show(b" count ", header.count as u64);
+    print::show(b" at ", r.at as u64);
     r
 }
 
@@ -328,8 +328,8 @@ fn show_header(r: HeaderRead) -> HeaderRead
 fn show_outcome(outcome: Outcome) -> Outcome
     ensures { λ r. ⌜ r ≡ outcome ⌝ }
 {
-    show(b"refusal ", outcome.number() as u64);
-    show(b" place ", outcome.place() as u64);
+    print::show(b"refusal ", outcome.number() as u64);
+    print::show(b" place ", outcome.place() as u64);
     outcome
 }
 
@@ -337,9 +337,9 @@ fn show_outcome(outcome: Outcome) -> Outcome
 fn show_drive(d: Drive) -> Drive
     ensures { λ r. ⌜ r ≡ d ⌝ }
 {
-    show(b"type ", d.model as u64);
-    show(b" B ", d.b as u64);
-    show(b" C ", d.c as u64);
+    print::show(b"type ", d.model as u64);
+    print::show(b" B ", d.b as u64);
+    print::show(b" C ", d.c as u64);
     d
 }
 
@@ -370,7 +370,7 @@ fn show_written(w: Written) -> Written
     let outcome = w.outcome;
     io::write_all(STDOUT_FILENO, b"write ");
     show_outcome(outcome);
-    show(b" length ", w.length as u64);
+    print::show(b" length ", w.length as u64);
     io::write_all(STDOUT_FILENO, b" out");
     w
 }
@@ -391,7 +391,7 @@ fn show_buffer(out: &[u8]) -> usize
 fn show_next(v: u8) -> u64
     ensures { λ r. ⌜ r ≡ v ⌝ }
 {
-    show(b" ", v as u64)
+    print::show(b" ", v as u64)
 }
 
 // The three kinds of pins of a drive; gives how many it has of all kinds.
@@ -410,7 +410,7 @@ fn pin_row(d: Drive, kind: PinKind) -> u32
     show_drive(d);
     show_kind(kind);
     let n = show_pins(d, kind);
-    show(b": ", n as u64);
+    print::show(b": ", n as u64);
     io::write_all(STDOUT_FILENO, b"\n");
     n
 }
@@ -462,26 +462,4 @@ fn show_pin(d: Drive, kind: PinKind, pin: u8) -> u32
         }
         Presence::Never => 0,
     }
-}
-
-// Prints text before a signed number.
-fn show_signed(text: &[u8], v: i32) -> i32
-    ensures { λ r. ⌜ r ≡ v ⌝ }
-{
-    io::write_all(STDOUT_FILENO, text);
-    if v < 0 {
-        show(b"-", 4_294_967_296 - (arith::pattern(v) as u64));
-    } else {
-        show(b"", arith::pattern(v) as u64);
-    }
-    v
-}
-
-// Prints text before a number.
-fn show(text: &[u8], v: u64) -> u64
-    ensures { λ r. ⌜ r ≡ v ⌝ }
-{
-    io::write_all(STDOUT_FILENO, text);
-    io::print_decimal(STDOUT_FILENO, v);
-    v
 }

@@ -2,7 +2,8 @@
 use mathlib.Core.Path.{_∙_}
 use native.Mathlib.Omega.{arith}
 use Rattle.walk.specs.Index.{marksLength}
-use Rattle.images.proofs.Lines.{front, enough}
+use Rattle.hex.proofs.Bytes.{front}
+use Rattle.images.proofs.Enough.{enough}
 use borrow.Author.Needs.{needs}
 use Rattle.images.proofs.row.Statement.{statement}
 use Rattle.images.proofs.row.Tie as tie

@@ -6,8 +6,8 @@ use Prim.Native.Nat.{ℕ, _+_, _-_, _≤_}
 use mathlib.Core.Path.{_≡_, refl, sym, ap, _∙_}
 use mathlib.Core.Logic.{⊎-elim}
 use lib.ListN.{length}
-use Rattle.images.specs.Hex.{linesOf}
-use Rattle.images.proofs.Lines.{ends, goes-on}
+use Rattle.hex.specs.Lines.{linesOf}
+use Rattle.hex.proofs.Lines.{ends, goes-on}
 use Rattle.images.proofs.rows.Statement.{statement}
 use Rattle.images.proofs.rows.Tie as tie
 

@@ -1,17 +1,13 @@
 -- The bytes of a line: how many they are, what the first of them are, and one more put behind them. Assumes nothing.
 use mathlib.Core.Path.{_≡_, refl, ap, _∙_}
 use mathlib.Core.List.{List, _++_, append-assoc}
-use Prim.Native.Nat.{ℕ, zero, suc, _+_, _*_, _/_, _<_, _≤_, min}
+use Prim.Native.Nat.{ℕ, zero, suc, _+_, _*_, _<_, _≤_}
 use native.Mathlib.Numerals.{add-one}
 use native.Mathlib.Omega.{arith}
 use lib.ListN.{length, take, drop, set, getD, length-append, length-drop}
 use lib.Seq.{take-all, take-append-le, take-at, drop-append-add, drop-drop, set-split}
-use borrow.Author.Tests.{eq-eqb, ne-eqb}
 use Rattle.number.proofs.Choice.{by}
-use Rattle.report.proofs.Beginning.{beginning}
-use Rattle.report.specs.Input.{inputLength}
-use Rattle.walk.specs.Verdict.{verdictOf}
-use Rattle.images.specs.Hex.{byteOf, bytesOf, imageOf, linesOf}
+use Rattle.hex.specs.Hex.{byteOf, bytesOf}
 
 module _ (line : List ℕ) where
   pub bytes-length : (n : ℕ) → length (bytesOf line n) ≡ n
@@ -43,22 +39,3 @@ module _ (line : List ℕ) where
       (let q : suc n ≡ length (bytesOf line n) + 1 = omega (arith, bytes-length n) in ap (λ (k : ℕ). drop k (bytesOf line n ++ drop n l)) q)
       ∙ drop-append-add (bytesOf line n) (drop n l) 1 ∙ drop-drop 1 n l ∙ ap (λ (k : ℕ). drop k l) (add-one n) in
       rw (add-one, a, front n (drop n l), d, e, append-assoc)
-
-  -- as many bytes as there is room for have the verdict of all
-  pub enough : (room n marks : ℕ) → n ≡ min (length line / 2) room → inputLength ≤ room → verdictOf (bytesOf line n) marks ≡ verdictOf (imageOf line) marks
-  enough room n marks e h =
-      by room (length line / 2)
-      (λ l.
-      let q : n ≡ room = omega arith in
-      rw (q, ← first-bytes (length line / 2) room (omega arith)) (beginning (imageOf line) room marks h))
-      (λ l. let q : n ≡ length line / 2 = omega arith in rw q)
-
--- the lines of a text, one byte more
-module _ (text : List ℕ) (i : ℕ) where
-  pub ends : getD text i 0 ≡ 10 → linesOf text (i + 1) ≡ linesOf text i + 1
-  unfolding linesOf
-  ends e = rw (add-one, eq-eqb (getD text i 0) 10 e)
-
-  pub goes-on : (getD text i 0 ≡ 10 → ⊥) → linesOf text (i + 1) ≡ linesOf text i
-  unfolding linesOf
-  goes-on n = rw (add-one, ne-eqb (getD text i 0) 10 n) (omega arith)

@@ -1,4 +1,4 @@
--- `images::decode` meets its contract. The loop's invariant: the first i bytes of the line stand at the front, and the rest is as it was.
+-- `hex::decode` meets its contract. The loop's invariant: the first i bytes of the line stand at the front, and the rest is as it was.
 -- Assumes nothing.
 use borrow.Author.Needs.{needs}
 use native.Mathlib.Omega.{arith}
@@ -7,16 +7,16 @@ use mathlib.Core.Path.{_≡_, refl, sym, ap, _∙_}
 use mathlib.Core.List.{List, _++_}
 use lib.ListN.{length, drop, set, length-set}
 use lib.Seq.{length-take-le}
-use Rattle.images.proofs.Lines.{one-more}
-use Rattle.images.specs.Hex.{bytesOf}
-use Rattle.images.proofs.decode.Statement.{statement}
-use Rattle.images.proofs.decode.Tie as tie
+use Rattle.hex.proofs.Bytes.{one-more}
+use Rattle.hex.specs.Hex.{bytesOf}
+use Rattle.hex.proofs.decode.Statement.{statement}
+use Rattle.hex.proofs.decode.Tie as tie
 
 abbrev Inv-loop : tie.InvT-loop
-Inv-loop line image₀ n i₀ image i = (i ≤ n) × (length image ≡ length image₀) × (image ≡ bytesOf line i ++ drop i image₀)
+Inv-loop line out₀ n i₀ out i = (i ≤ n) × (length out ≡ length out₀) × (out ≡ bytesOf line i ++ drop i out₀)
 
 abbrev μ-loop : tie.MeasureT-loop
-μ-loop line image₀ n i₀ image i = n - i
+μ-loop line out₀ n i₀ out i = n - i
 
 least-requires : tie.Need-least-requires Inv-loop μ-loop
 least-requires c κs = search needs
@@ -43,8 +43,8 @@ shared-slice-read-byte-2 c = search needs
 byte-requires : tie.Need-byte-requires Inv-loop μ-loop
 byte-requires c κs = search needs
 
-slice-write-image : tie.Need-slice-write-image Inv-loop μ-loop
-slice-write-image c = omega (arith, c .before .before .before .before .before .least .ensures)
+slice-write-out : tie.Need-slice-write-out Inv-loop μ-loop
+slice-write-out c = omega (arith, c .before .before .before .before .before .least .ensures)
 
 add-i : tie.Need-add-i Inv-loop μ-loop
 add-i c = search needs
@@ -56,9 +56,9 @@ loop-again : tie.Need-loop-again Inv-loop μ-loop
 loop-again c =
     let v = c .before .before .before .before .loop in
     let is = c .before .before .before .before .before .least .ensures in
-    let w : v .i < length (v .image) = omega arith in (
+    let w : v .i < length (v .out) = omega arith in (
       omega arith,
-      length-set (v .image) (v .i) (c .byte .result) ∙ v .inv .1,
+      length-set (v .out) (v .i) (c .byte .result) ∙ v .inv .1,
       ap (λ (l : List ℕ). set l (v .i) (c .byte .result)) (v .inv .2)
           ∙ one-more _ _ (v .i) (c .byte .result) (omega arith) (c .byte .ensures),
     )
@@ -71,8 +71,8 @@ returns c =
     let v = c .before .loop in
     let is = c .before .before .least .ensures in
     let q : v .i ≡ c .before .before .least .result = omega arith in
-    let l : c .before .before .least .result ≤ length (v .image) = omega arith in
-    (is, ((l, sym (length-take-le (c .before .before .least .result) (v .image) l)), rw q at (v .inv .2)))
+    let l : c .before .before .least .result ≤ length (v .out) = omega arith in
+    (is, ((l, sym (length-take-le (c .before .before .least .result) (v .out) l)), rw q at (v .inv .2)))
 
 pub decode-spec : {M : Type 1} → statement M
 decode-spec =
@@ -88,7 +88,7 @@ decode-spec =
     add-byte
     shared-slice-read-byte-2
     byte-requires
-    slice-write-image
+    slice-write-out
     add-i
     loop-less
     loop-again

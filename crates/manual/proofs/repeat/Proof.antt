@@ -1,0 +1,67 @@
+-- `repeat` meets its contract: after i turns i steps were made. Assumes nothing.
+use borrow.Author.Needs.{needs}
+use Rattle.bias.specs.Step.{stepped}
+use mathlib.Core.List.{List}
+use Rattle.manual.specs.Run.{repeated}
+use Rattle.machine.specs.Given.{inputsOf}
+use Rattle.layout.specs.Layout.{bufferLength}
+use denote.Ref.{now}
+use lib.ListN.{length}
+use mathlib.Core.Path.{_≡_, refl, ap, _∙_}
+use native.Mathlib.Numerals.{add-one}
+use native.Mathlib.Omega.{arith}
+use Prim.Native.Nat.{ℕ, _-_, _≤_}
+use Rattle.manual.proofs.repeat.Statement.{statement}
+use Rattle.manual.proofs.repeat.Tie as tie
+
+abbrev Inv-loop : tie.InvT-loop
+Inv-loop image n task inputs start reached state₀ i₀ state i =
+    (i ≤ n) × (length state ≡ bufferLength) × (state ≡ repeated image (inputsOf task inputs start reached) i state₀)
+
+abbrev μ-loop : tie.MeasureT-loop
+μ-loop image n task inputs start reached state₀ i₀ state i = n - i
+
+loop-holds : tie.Need-loop-holds Inv-loop μ-loop
+unfolding repeated
+loop-holds c = (search needs, search needs, refl)
+
+step-requires : tie.Need-step-requires Inv-loop μ-loop
+step-requires c κs = search needs
+
+add-i : tie.Need-add-i Inv-loop μ-loop
+add-i c = search needs
+
+loop-less : tie.Need-loop-less Inv-loop μ-loop
+loop-less c = search needs
+
+loop-again : tie.Need-loop-again Inv-loop μ-loop
+unfolding repeated
+loop-again c =
+    let l = c .before .before .before .before .before .loop in
+    let a = c .before .before .before .before .before .before .before .before .before .args in
+    let x = inputsOf (a .task) (now (a .inputs)) (a .start) (a .reached) in
+    (search needs, search needs, c .before .before .step .ensures ∙ ap (λ (b : List ℕ). stepped (now (a .image)) b x .buffer) (l .inv .2) ∙ rw add-one)
+
+same-length : tie.Need-same-length Inv-loop μ-loop
+same-length c = search needs
+
+returns : tie.Need-returns Inv-loop μ-loop
+returns c =
+    let l = c .before .loop in
+    let a = c .before .before .before .before .before .args in
+    let e : l .i ≡ a .n = omega arith in
+    l .inv .2 ∙ ap (λ (i : ℕ). repeated (now (a .image)) (inputsOf (a .task) (now (a .inputs)) (a .start) (a .reached)) i (now (a .state))) e
+
+pub repeat-spec : {M : Type 1} → statement M
+repeat-spec =
+    tie.close
+    (tie.spec
+    Inv-loop
+    μ-loop
+    loop-holds
+    step-requires
+    add-i
+    loop-less
+    loop-again
+    same-length
+    returns)

@@ -1,0 +1,63 @@
+-- `run` meets its contract: the load decides. Assumes nothing.
+use borrow.Author.Needs.{needs}
+use Rattle.manual.proofs.Ran.{refused, accepted, run-is}
+use Rattle.manual.specs.Run.{recordLength, after}
+use Rattle.border.specs.declared.BiasVerdict.{BiasVerdict}
+use denote.Ref.{now}
+use lib.ListN.{length}
+use mathlib.Core.Path.{sym, ap, _∙_}
+use Prim.Native.Nat.{_/_}
+use Rattle.manual.proofs.run.Statement.{statement}
+use Rattle.manual.proofs.run.Tie as tie
+
+marks-requires : tie.Need-marks-requires
+marks-requires c κs = search needs
+
+slice-aggregate-bias-load : tie.Need-slice-aggregate-bias-load
+slice-aggregate-bias-load c = search needs
+
+bias-load-requires : tie.Need-bias-load-requires
+bias-load-requires c κs = search needs
+
+show-load-requires : tie.Need-show-load-requires
+show-load-requires c κs = search needs
+
+same-length : tie.Need-same-length
+same-length c = search needs
+
+returns : tie.Need-returns
+returns c =
+    let a = c .before .before .before .before .before .before .before .before .before .before .before .before .args in
+    let l = c .before .before .before .before .before .bias-load .ensures in
+    let number = c .before .show-load .ensures ∙ ap (λ (v : BiasVerdict). v .number) (l .0) in
+    l .1 .0 ∙ refused (now (a .image)) (now (a .steps)) _ (λ i. c .if1 .taken (number ∙ i)) ∙ run-is (now (a .image)) (now (a .steps)) _ (now (a .state)) (c .before .before .before .before .before .before .before .before .marks .ensures)
+
+run-records-requires : tie.Need-run-records-requires
+run-records-requires c κs = search needs
+
+same-length-2 : tie.Need-same-length-2
+same-length-2 c = search needs
+
+returns-2 : tie.Need-returns-2
+returns-2 c =
+    let a = c .before .before .before .before .before .before .before .before .before .before .before .before .before .before .before .before .args in
+    let l = c .before .before .before .before .before .before .before .before .before .bias-load .ensures in
+    let number = c .before .before .before .before .before .show-load .ensures ∙ ap (λ (v : BiasVerdict). v .number) (l .0) in
+    c .before .before .run-records .ensures
+    ∙ ap (after (now (a .image)) (now (a .steps)) (length (now (a .steps)) / recordLength)) (l .1 .0)
+    ∙ accepted (now (a .image)) (now (a .steps)) _ (sym number ∙ c .before .before .before .before .if1 .left)
+    ∙ run-is (now (a .image)) (now (a .steps)) _ (now (a .state)) (c .before .before .before .before .before .before .before .before .before .before .before .before .marks .ensures)
+
+pub run-spec : {M : Type 1} → statement M
+run-spec =
+    tie.close
+    (tie.spec
+    marks-requires
+    slice-aggregate-bias-load
+    bias-load-requires
+    show-load-requires
+    same-length
+    returns
+    run-records-requires
+    same-length-2
+    returns-2)

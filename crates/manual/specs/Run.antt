@@ -1,0 +1,66 @@
+-- What the program does with a line: an image, a space, and records of steps. Assumes nothing.
+use Prim.Native.Nat.{ℕ, zero, suc, _+_, _*_, _/_, min}
+use mathlib.Core.Bool.{cond}
+use mathlib.Core.List.{List}
+use lib.Dec.{eqb}
+use lib.ListN.{length, getD, set, replicate, take, drop}
+use Rattle.bytes.specs.Bytes.{indexOf}
+use Rattle.walk.specs.Index.{marksLength}
+use Rattle.state.specs.State.{cells}
+use Rattle.layout.specs.Layout.{bufferLength}
+use Rattle.machine.specs.Given.{Inputs, inputsOf}
+use Rattle.report.specs.Input.{inputLength}
+use Rattle.bias.specs.Load.{Load, load}
+use Rattle.bias.specs.Step.{stepped}
+use Rattle.hex.specs.Hex.{bytesOf}
+
+-- a record of steps: how often, the task, the start input, position reached, and four inputs that are high (0: none)
+abbrev pub recordLength : ℕ
+recordLength = 8
+
+abbrev pub high : List ℕ → ℕ → List ℕ → List ℕ
+high steps at l = set l (getD steps at 0) 1
+
+abbrev pub levelsAt : List ℕ → ℕ → List ℕ
+levelsAt steps at = high steps (at + 7) (high steps (at + 6) (high steps (at + 5) (high steps (at + 4) (replicate cells 0))))
+
+abbrev pub inputsAt : List ℕ → ℕ → Inputs
+inputsAt steps at = inputsOf (getD steps (at + 1) 0) (levelsAt steps at) (getD steps (at + 2) 0) (getD steps (at + 3) 0)
+
+-- the buffer after n steps of one kind
+unfoldable pub repeated : List ℕ → Inputs → ℕ → List ℕ → List ℕ
+repeated image x zero b = b
+repeated image x (suc n) b = stepped image (repeated image x n b) x .buffer
+
+-- after the steps of the record at a place
+unfoldable pub recorded : List ℕ → List ℕ → ℕ → List ℕ → List ℕ
+recorded image steps at b = repeated image (inputsAt steps at) (getD steps at 0) b
+
+-- after k records
+unfoldable pub after : List ℕ → List ℕ → ℕ → List ℕ → List ℕ
+after image steps zero b = b
+after image steps (suc k) b = recorded image steps (recordLength * k) (after image steps k b)
+
+-- after a load, and the records if it is accepted
+unfoldable pub begun : List ℕ → List ℕ → Load → List ℕ
+begun image steps l = cond (eqb (l .verdict .number) 0) (after image steps (length steps / recordLength) (l .buffer)) (l .buffer)
+
+unfoldable pub ran : List ℕ → List ℕ → List ℕ → List ℕ
+ran image steps b = begun image steps (load image marksLength b)
+
+-- ---- a line
+
+-- where its space stands, or its end
+unfoldable pub spaceOf : List ℕ → ℕ
+spaceOf line = indexOf 32 line
+
+unfoldable pub behind : List ℕ → ℕ → List ℕ
+behind line k = drop (k + 1) line
+
+-- as many bytes as there is room for
+unfoldable pub fitting : ℕ → List ℕ → List ℕ
+fitting room digits = bytesOf digits (min (length digits / 2) room)
+
+-- the buffer at the end of an example
+unfoldable pub example : List ℕ → List ℕ
+example line = ran (fitting inputLength (take (spaceOf line) line)) (fitting 4096 (behind line (spaceOf line))) (replicate bufferLength 0)

@@ -1,0 +1,64 @@
+-- `same` meets its contract: after k turns the first k bytes are compared. Assumes nothing.
+use borrow.Author.Needs.{needs}
+use Rattle.trace.specs.Changes.{same}
+use mathlib.Core.Path.{_≡_, refl, ap, _∙_}
+use native.Mathlib.Numerals.{add-one}
+use native.Mathlib.Omega.{arith}
+use Prim.Native.Nat.{_-_, _≤_}
+use Rattle.trace.proofs.same.Statement.{statement}
+use Rattle.trace.proofs.same.Tie as tie
+
+abbrev Inv-loop : tie.InvT-loop
+Inv-loop a b at width pass₀ k₀ pass k = (k ≤ width) × (pass ≡ same a b at k)
+
+abbrev μ-loop : tie.MeasureT-loop
+μ-loop a b at width pass₀ k₀ pass k = width - k
+
+loop-holds : tie.Need-loop-holds Inv-loop μ-loop
+unfolding same
+loop-holds c = (search needs, refl)
+
+add-byte : tie.Need-add-byte Inv-loop μ-loop
+add-byte c = search needs
+
+byte-requires : tie.Need-byte-requires Inv-loop μ-loop
+byte-requires c κs = search needs
+
+add-byte-2 : tie.Need-add-byte-2 Inv-loop μ-loop
+add-byte-2 c = search needs
+
+byte-requires-2 : tie.Need-byte-requires-2 Inv-loop μ-loop
+byte-requires-2 c κs = search needs
+
+add-k : tie.Need-add-k Inv-loop μ-loop
+add-k c = search needs
+
+loop-less : tie.Need-loop-less Inv-loop μ-loop
+loop-less c = search needs
+
+loop-again : tie.Need-loop-again Inv-loop μ-loop
+unfolding same
+loop-again c = (search needs, rw (add-one, ← c .before .before .before .loop .inv .1, ← c .before .byte .ensures, ← c .byte2 .ensures))
+
+returns : tie.Need-returns Inv-loop μ-loop
+returns c =
+    let l = c .before .loop in
+    let a = c .before .before .args in
+    let e : l .k ≡ a .width = omega arith in
+    l .inv .1 ∙ ap (same (a .a .now) (a .b .now) (a .at)) e
+
+pub same-spec : {M : Type 1} → statement M
+same-spec =
+    tie.close
+    (tie.spec
+    Inv-loop
+    μ-loop
+    loop-holds
+    add-byte
+    byte-requires
+    add-byte-2
+    byte-requires-2
+    add-k
+    loop-less
+    loop-again
+    returns)

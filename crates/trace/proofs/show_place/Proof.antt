@@ -1,0 +1,59 @@
+-- `show_place` meets its contract, test by test. Assumes nothing.
+use borrow.Author.Needs.{needs}
+use Rattle.layout.specs.Layout.{taskPlace}
+use Rattle.state.specs.State.{runs}
+use Rattle.flow.specs.Flow.{taskCount}
+use denote.Ref.{now}
+use borrow.Author.Tests.{lt-ltb, le-ltb, eq-eqb, ne-eqb}
+use lib.ListN.{getD}
+use Prim.Native.Nat.{ℕ}
+use mathlib.Core.Path.{sym, ap, _∙_}
+use Rattle.trace.proofs.show_place.Statement.{statement}
+use Rattle.trace.proofs.show_place.Tie as tie
+
+returns : tie.Need-returns
+returns c = rw (le-ltb (c .before .before .args .task) taskCount (c .if1 .taken))
+
+cast-task-at : tie.Need-cast-task-at
+cast-task-at c = search needs
+
+task-at-requires : tie.Need-task-at-requires
+task-at-requires c κs = search needs
+
+byte-requires : tie.Need-byte-requires
+byte-requires c κs = search needs
+
+returns-2 : tie.Need-returns-2
+returns-2 c =
+    let a = c .before .before .before .before .before .args in
+    let e = c .before .byte .ensures ∙ ap (λ (p : ℕ). getD (now (a .a)) p 0) (c .before .before .task-at .ensures) in
+    rw (lt-ltb (a .task) taskCount (c .before .before .before .if1 .left), ne-eqb (getD (now (a .a)) (taskPlace (a .task)) 0) runs (λ i. c .if2 .taken (e ∙ i)))
+
+add-word : tie.Need-add-word
+add-word c = search needs
+
+word-requires : tie.Need-word-requires
+word-requires c κs = search needs
+
+show-block-requires : tie.Need-show-block-requires
+show-block-requires c κs = search needs
+
+returns-3 : tie.Need-returns-3
+returns-3 c =
+    let a = c .before .before .before .before .before .before .before .args in
+    let e = c .before .before .before .byte .ensures ∙ ap (λ (p : ℕ). getD (now (a .a)) p 0) (c .before .before .before .before .task-at .ensures) in
+    rw (lt-ltb (a .task) taskCount (c .before .before .before .before .before .if1 .left), eq-eqb (getD (now (a .a)) (taskPlace (a .task)) 0) runs (sym e ∙ c .before .before .if2 .left))
+
+pub show-place-spec : {M : Type 1} → statement M
+show-place-spec =
+    tie.close
+    (tie.spec
+    returns
+    cast-task-at
+    task-at-requires
+    byte-requires
+    returns-2
+    add-word
+    word-requires
+    show-block-requires
+    returns-3)
