@@ -20,11 +20,7 @@ pub const OUT_OF_RANGE: u32 = 20;
 pub fn sets(values: Values) -> Effect
     ensures { λ r. ⌜ r ≡ sets values ⌝ }
 {
-    Effect {
-        values: values,
-        motion: Motion::None,
-        outcome: Outcome::GoOn,
-    }
+    asks(values, Motion::None)
 }
 
 // Nothing changes but the task.

@@ -1,0 +1,10 @@
+-- `asks` meets its contract: the effect of these three parts. Assumes nothing.
+use mathlib.Core.Path.{refl}
+use Rattle.effect.proofs.asks.Statement.{statement}
+use Rattle.effect.proofs.asks.Tie as tie
+
+returns : tie.Need-returns
+returns c = refl
+
+pub asks-spec : {M : Type 1} → statement M
+asks-spec = tie.close (tie.spec returns)
