@@ -1,0 +1,10 @@
+-- `restarted` meets its contract: a task anew at its start. Assumes nothing.
+use borrow.Author.Needs.{needs}
+use Rattle.tasks.proofs.restarted.Statement.{statement}
+use Rattle.tasks.proofs.restarted.Tie as tie
+
+returns : tie.Need-returns
+returns c = search needs
+
+pub restarted-spec : {M : Type 1} → statement M
+restarted-spec = tie.close (tie.spec (λ c κs. tt) returns)
