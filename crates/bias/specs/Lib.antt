@@ -1,2 +1,4 @@
 pub mod Load
 pub mod Step
+pub mod Run
+pub mod Theorem

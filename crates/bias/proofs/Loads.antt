@@ -1,0 +1,103 @@
+-- What a load answers is what part 7 of demand 3 asks for, and nothing else; it answers 0 only where the image is accepted, and then the buffer holds
+-- the fresh state. Assumes nothing.
+use Prim.Native.Nat.{ℕ, _<_, _≤_}
+use native.Mathlib.Omega.{arith}
+use mathlib.Core.Path.{_≡_, refl, sym, ap, _∙_, subst}
+use mathlib.Core.Bool.{Bool, true, false}
+use mathlib.Core.List.{List}
+use lib.Dec.{eqb}
+use lib.ListN.{length}
+use borrow.Author.Tests.{eqb-true, eqb-false}
+use Rattle.outcome.specs.Outcome.{numberOf, done}
+use Rattle.outcome.specs.declared.Outcome.{Outcome}
+use Rattle.outcome.specs.declared.Outcome.the-variants.{Done, EndsEarly, NotShortest, OutOfRange, LeftOver, NoRoom}
+use Rattle.image.specs.Scan.{headerOf, blocksOf}
+use Rattle.number.proofs.Choice.{clash, by}
+use Rattle.fault.specs.Fault.{isBad, faultNumber}
+use Rattle.fault.specs.declared.Fault.{Fault}
+use Rattle.fault.specs.declared.Fault.the-variants as fault
+use Rattle.walk.specs.Index.{marksLength}
+use Rattle.walk.specs.Program.{faultAt}
+use Rattle.walk.specs.Says.{Says, Judges}
+use Rattle.walk.specs.Verdict.{verdictNumber, verdictOf, isAccepted}
+use Rattle.walk.specs.declared.Verdict.{Verdict}
+use Rattle.walk.specs.declared.Verdict.the-variants as verdict
+use Rattle.walk.proofs.Judged.{verdict-judges, exactly}
+use Rattle.layout.specs.Layout.{bufferLength}
+use Rattle.layout.specs.Encoded.{encoded}
+use Rattle.machine.specs.Theorem.{loaded}
+use Rattle.border.specs.Border.{verdictFor}
+use Rattle.border.specs.declared.BiasVerdict.{BiasVerdict}
+use Rattle.bias.specs.Load.{Load, judgedLoad, load}
+use Rattle.bias.specs.Theorem.{Loads}
+use Rattle.bias.proofs.Ways.{marks-short, no-buffer, of-image, verdict-is, begins}
+
+module _ (image : List ℕ) (n : ℕ) (b : List ℕ) where
+  -- by cases: 13, 16, or the image
+  ways : {P : Type 0} → (n < marksLength → P) → (marksLength ≤ n → (length b ≡ bufferLength → ⊥) → P) → (marksLength ≤ n → length b ≡ bufferLength → P) → P
+  ways {P} short wrong right = by n marksLength short (λ room. go room (eqb (length b) bufferLength) refl)
+    where
+      go : marksLength ≤ n → (t : Bool) → eqb (length b) bufferLength ≡ t → P
+      go room true e = right room (eqb-true _ _ e)
+      go room false e = wrong room (eqb-false _ _ e)
+
+  answered : (l : Load) → load image n b ≡ l → load image n b .verdict ≡ l .verdict
+  answered l e = ap (λ (m : Load). m .verdict) e
+
+  -- part 7
+  pub loads : Loads image n b (load image n b .verdict)
+  loads =
+      ways
+      (λ short. subst (Loads image n b) (sym (answered _ (marks-short image n b short))) (Loads.marks short))
+      (λ room wrong. subst (Loads image n b) (sym (answered _ (no-buffer image n b room wrong))) (Loads.buffer room wrong))
+      (λ room right.
+      let e = answered _ (of-image image n b room right) ∙ verdict-is image (verdictOf image n) b in
+      subst (Loads image n b) (sym e) (Loads.judged room right (verdictOf image n) (verdict-judges image n)))
+
+  pub loads-only : (v : BiasVerdict) → Loads image n b v → v ≡ load image n b .verdict
+  loads-only _ (Loads.marks short) = sym (answered _ (marks-short image n b short))
+  loads-only _ (Loads.buffer room wrong) = sym (answered _ (no-buffer image n b room wrong))
+  loads-only _ (Loads.judged room right v j) =
+      ap verdictFor (exactly image n v .0 j) ∙ sym (answered _ (of-image image n b room right) ∙ verdict-is image (verdictOf image n) b)
+
+  -- ---- a load that answers 0
+
+  not-zero : (o : Outcome) → done o ≡ false → numberOf o ≡ 0 → ⊥
+  not-zero Done d e = clash d
+  not-zero (EndsEarly p) d e = omega arith
+  not-zero (NotShortest p) d e = omega arith
+  not-zero (OutOfRange p) d e = omega arith
+  not-zero (LeftOver p) d e = omega arith
+  not-zero (NoRoom p) d e = omega arith
+
+  bad-number : (f : Fault) → isBad f ≡ true → faultNumber f ≡ 0 → ⊥
+  bad-number fault.Fine d e = clash (sym d)
+  bad-number fault.Foreign d e = clash (sym d)
+  bad-number fault.Forbidden d e = omega arith
+  bad-number fault.TooDeep d e = omega arith
+  bad-number fault.NoCall d e = omega arith
+  bad-number fault.PastEnd d e = omega arith
+
+  accepted-says : {v : Verdict} → Judges image n v → verdictNumber v ≡ 0 → v ≡ verdict.Accepted
+  accepted-says (Judges.marks short) e = absurd (omega arith)
+  accepted-says (Judges.header room d) e = absurd (not-zero (headerOf image .outcome) d e)
+  accepted-says (Judges.block room d c l all bad) e = absurd (bad e)
+  accepted-says (Judges.walks room d all v (Says.accepted f g)) e = refl
+  accepted-says (Judges.walks room d all v (Says.foreign p f g)) e = absurd (omega arith)
+  accepted-says (Judges.walks room d all v (Says.bad f p q g)) e = absurd (bad-number (faultAt (headerOf image .header) (blocksOf image) p) (q .1) e)
+
+  pub accepted-load : load image n b .verdict .number ≡ 0 → verdictOf image n ≡ verdict.Accepted
+  accepted-load z =
+      ways
+      (λ short. let e = ap (λ (v : BiasVerdict). v .number) (answered _ (marks-short image n b short)) in absurd (omega arith))
+      (λ room wrong. let e = ap (λ (v : BiasVerdict). v .number) (answered _ (no-buffer image n b room wrong)) in absurd (omega arith))
+      (λ room right.
+      let e = ap (λ (v : BiasVerdict). v .number) (answered _ (of-image image n b room right) ∙ verdict-is image (verdictOf image n) b) in
+      accepted-says (verdict-judges image n) (sym e ∙ z))
+
+  pub fresh-load : load image n b .verdict .number ≡ 0 → load image n b .buffer ≡ encoded (loaded image)
+  fresh-load z =
+      ways
+      (λ short. let e = ap (λ (v : BiasVerdict). v .number) (answered _ (marks-short image n b short)) in absurd (omega arith))
+      (λ room wrong. let e = ap (λ (v : BiasVerdict). v .number) (answered _ (no-buffer image n b room wrong)) in absurd (omega arith))
+      (λ room right. ap (λ (m : Load). m .buffer) (of-image image n b room right) ∙ begins image (verdictOf image n) b (ap isAccepted (accepted-load z)))

@@ -1,0 +1,169 @@
+-- The theorem over every list of steps, of the functions that C calls: along a run the buffer is the bytes of the state that the engine's run on values
+-- has come to (machine/proofs/Runs.antt), since a good state is read back from its bytes and a step keeps good states. Assumes nothing.
+use Prim.Native.Nat.{ℕ, _<_, _≤_}
+use mathlib.Core.Path.{_≡_, refl, sym, ap, _∙_, subst}
+use mathlib.Core.Bool.{Bool, true, false}
+use mathlib.Core.List.{List, [], _∷_, map}
+use lib.Dec.{eqb, ltb}
+use lib.ListN.{length}
+use borrow.Author.Tests.{lt-ltb, le-ltb, eq-eqb, ne-eqb, eqb-true, eqb-false}
+use Rattle.le.specs.LittleEndian.{Bytes}
+use Rattle.number.proofs.Choice.{by, clash, either}
+use Rattle.image.specs.Scan.{blocksOf}
+use Rattle.flow.specs.Flow.{taskCount}
+use Rattle.point.specs.declared.Point.{Point}
+use Rattle.walk.specs.Program.{commandAt}
+use Rattle.walk.specs.Verdict.{verdictOf}
+use Rattle.walk.specs.declared.Verdict.the-variants as verdict
+use Rattle.state.specs.State.{cells, runs, taskAt}
+use Rattle.state.specs.Good.{Good}
+use Rattle.state.specs.declared.State.{State}
+use Rattle.layout.specs.Decoded.{decoded}
+use Rattle.layout.specs.Encoded.{encoded}
+use Rattle.layout.specs.Test.{isState}
+use Rattle.layout.proofs.Round.{decode-encode, good-state}
+use Rattle.machine.specs.Given.{Inputs}
+use Rattle.machine.specs.Engine.{given, fits, pointOf, answerTo, performed, taskStep, step}
+use Rattle.machine.specs.Effect.{effectOf}
+use Rattle.machine.specs.Reference.{Machine, Did, begun, turn}
+use Rattle.machine.specs.Alike.{Alike}
+use Rattle.machine.specs.Run.{outs, dids, stateAfter, machineAfter, SameHanded, Permitted}
+use Rattle.machine.specs.Each.{Calls, noCalls, callsAfter, Step, EveryStep}
+use Rattle.machine.specs.Theorem.{loaded}
+use Rattle.machine.specs.declared.Out.{Out}
+use Rattle.machine.specs.declared.Effect.{Effect}
+use Rattle.machine.specs.declared.Outcome.{Outcome}
+use Rattle.machine.specs.declared.Outcome.the-variants as outcome
+use Rattle.machine.proofs.Keeps.{keeps-good}
+use Rattle.machine.specs.Theorem as values
+use Rattle.machine.proofs.Runs as machine
+use Rattle.engine.proofs.Laws as engine
+use Rattle.border.specs.Border.{answerFor}
+use Rattle.border.specs.declared.BiasAnswer.{BiasAnswer}
+use Rattle.bias.specs.Load.{load}
+use Rattle.bias.specs.Step.{Stepped, refuse, handed, stepState, stepped}
+use Rattle.bias.specs.Run.{answers, bufferAfter, referenceAnswers}
+use Rattle.bias.specs.Theorem.{refused, StepOn, EveryStepOn, Run, EveryRun}
+use Rattle.bias.proofs.Loads.{accepted-load, fresh-load}
+use Rattle.bias.proofs.Ways.{no-task, bad-inputs, of-buffer, of-state}
+
+-- ---- one step of the bytes of a good state
+
+module _ (image : List ℕ) (s : State) (g : Good s) (x : Inputs) where
+  -- it is the step of the state
+  is-step : stepped image (encoded s) x ≡ handed (step image s x)
+  unfolding handed
+  is-step =
+      by (x .task) taskCount
+      (λ l. go l (eqb (length (x .levels)) cells) refl)
+      (λ l. no-task image (encoded s) x l ∙ ap handed (engine.no-task image s x l))
+    where
+      go : x .task < taskCount → (t : Bool) → eqb (length (x .levels)) cells ≡ t → stepped image (encoded s) x ≡ handed (step image s x)
+      go l true e =
+          of-buffer image (encoded s) x l (eqb-true _ _ e) ∙ of-state image (encoded s) x (good-state s g) ∙ ap (λ (r : State). handed (step image r x)) (decode-encode s g)
+      go l false e = let n = eqb-false _ _ e in bad-inputs image (encoded s) x l n ∙ ap handed (engine.bad-inputs image s x l n)
+
+  buffer-is : stepped image (encoded s) x .buffer ≡ encoded (step image s x .state)
+  unfolding handed
+  buffer-is = ap (λ (m : Stepped). m .buffer) is-step
+
+  answer-is : stepped image (encoded s) x .answer ≡ answerFor (step image s x .motion) (step image s x .answer)
+  unfolding handed
+  answer-is = ap (λ (m : Stepped). m .answer) is-step
+
+-- a command that is carried out, or halts its task, is not refused
+not-refused : (o : Outcome) (p : Point) → refused (answerTo o p) ≡ false
+not-refused outcome.GoOn p = refl
+not-refused (outcome.Stay time turns) p = refl
+not-refused (outcome.Jump a) p = refl
+not-refused (outcome.Call a) p = refl
+not-refused outcome.Return p = refl
+not-refused (outcome.Start u a) p = refl
+not-refused outcome.Restart p = refl
+not-refused outcome.End p = refl
+not-refused (outcome.Halt n) p = refl
+
+-- a step that is refused leaves the state, whatever the state
+pub refused-stays : (image : List ℕ) (s : State) (x : Inputs) → refused (step image s x .answer) ≡ true → step image s x .state ≡ s
+unfolding step taskStep performed
+refused-stays image s x =
+    either Stays (ltb (x .task) taskCount)
+    (either Stays (eqb (length (x .levels)) cells)
+    (either Stays (eqb (taskAt s (x .task) .status) runs)
+    (either Stays (fits image (s .header) (x .task) (taskAt s (x .task))) (λ r. clash (sym r ∙ not-refused (effect .outcome) (pointOf (x .task) (taskAt s (x .task))))) (λ r. refl))
+    (λ r. refl))
+    (λ r. refl))
+    (λ r. refl)
+  where
+    Stays : Out → Type 0
+    Stays o = refused (o .answer) ≡ true → o .state ≡ s
+
+    effect : Effect
+    effect = effectOf (given s (taskAt s (x .task)) x) (commandAt (blocksOf image) (taskAt s (x .task) .block)) (s .values)
+
+-- ---- a list of steps
+
+module _ (image : List ℕ) (bytes : Bytes image) where
+  next-good : (s : State) → Good s → (x : Inputs) → Good (step image s x .state)
+  next-good s g x = keeps-good image bytes s g x
+
+  -- the buffer is the bytes of the state
+  after-is : (s : State) → Good s → (xs : List Inputs) → bufferAfter image (encoded s) xs ≡ encoded (stateAfter image s xs)
+  unfolding bufferAfter stateAfter
+  after-is s g [] = refl
+  after-is s g (x ∷ xs) = ap (λ (b : List ℕ). bufferAfter image b xs) (buffer-is image s g x) ∙ after-is (step image s x .state) (next-good s g x) xs
+
+  answers-are : (s : State) → Good s → (m : Machine) (xs : List Inputs) → SameHanded (outs image s xs) (dids image m xs) → answers image (encoded s) xs ≡ referenceAnswers image m xs
+  unfolding answers referenceAnswers outs dids
+  answers-are s g m [] h = refl
+  answers-are s g m (x ∷ xs) (SameHanded.more a o h) =
+      let e = answer-is image s g x ∙ (λ ι. answerFor (o ι) (a ι)) in
+      let f = ap (λ (b : List ℕ). answers image b xs) (buffer-is image s g x) ∙ answers-are (step image s x .state) (next-good s g x) (turn image m x .machine) xs h in
+      λ ι. e ι ∷ f ι
+
+  step-on : (s : State) → Good s → (calls : Calls) (x : Inputs) → Step image calls s x → StepOn image calls (encoded s) x
+  step-on s g calls x p =
+      let d = decode-encode s g in
+      record {
+        held = good-state s g;
+        parts = subst (λ (r : State). Step image calls r x) (sym d) p;
+        answer = answer-is image s g x ∙ ap (λ (r : State). answerFor (step image r x .motion) (step image r x .answer)) (sym d);
+        state = ap decoded (buffer-is image s g x) ∙ decode-encode (step image s x .state) (next-good s g x) ∙ ap (λ (r : State). step image r x .state) (sym d);
+        stays = λ r. buffer-is image s g x ∙ ap encoded (refused-stays image s x (sym (ap (λ (r : State). refused (step image r x .answer)) d) ∙ r));
+      }
+
+  each-on : (s : State) → Good s → (calls : Calls) (xs : List Inputs) → EveryStep image calls s xs → EveryStepOn image calls (encoded s) xs
+  each-on s g calls [] h = EveryStepOn.none
+  each-on s g calls (x ∷ xs) (EveryStep.more p h) =
+      let later = each-on (step image s x .state) (next-good s g x) (callsAfter image s x calls) xs h in
+      let first = subst (λ (b : List ℕ). EveryStepOn image (callsAfter image s x calls) b xs) (sym (buffer-is image s g x)) later in
+      EveryStepOn.more (step-on s g calls x p) (subst (λ (r : State). EveryStepOn image (callsAfter image r x calls) (stepped image (encoded s) x .buffer) xs) (sym (decode-encode s g)) first)
+
+-- ---- from a load that answers 0
+
+module _ (image : List ℕ) (n : ℕ) (bytes : Bytes image) (ok : verdictOf image n ≡ verdict.Accepted) where
+  -- the theorem on values
+  of-values : (xs : List Inputs) → values.Run image xs
+  of-values xs = machine.every-run image n ok xs
+
+  loaded-good : Good (loaded image)
+  unfolding stateAfter
+  loaded-good = of-values [] .good bytes
+
+  from-fresh : (xs : List Inputs) → Run image (encoded (loaded image)) xs
+  from-fresh xs =
+      let s = stateAfter image (loaded image) xs in
+      let r = of-values xs in
+      let e = after-is image bytes (loaded image) loaded-good xs in
+      let d = ap decoded e ∙ decode-encode s (r .good bytes) in
+      record {
+        same = answers-are image bytes (loaded image) loaded-good (begun image) xs (r .answers);
+        alike = subst (λ (q : State). Alike q (machineAfter image (begun image) xs)) (sym d) (r .alike);
+        permitted = subst (λ (q : State). (t : ℕ) → t < taskCount → taskAt q t .status ≡ runs → Permitted image t (taskAt q t)) (sym d) (r .permitted);
+        steps = each-on image bytes (loaded image) loaded-good noCalls xs (r .steps);
+        held = ap isState e ∙ good-state s (r .good bytes);
+      }
+
+pub every-run : EveryRun
+every-run image n b bytes z xs =
+    subst (λ (c : List ℕ). Run image c xs) (sym (fresh-load image n b z)) (from-fresh image n bytes (accepted-load image n b z) xs)

@@ -1,0 +1,83 @@
+-- Demand 3, of the functions that C calls (design, "Demand 3, one theorem"): parts 1 to 6 as `every-run` in proofs/Runs.antt, part 7 as `loads` and
+-- `loads-only` in proofs/Loads.antt. Assumes nothing.
+use Prim.Native.Nat.{ℕ, _<_, _≤_}
+use mathlib.Core.Path.{_≡_}
+use mathlib.Core.Bool.{Bool, true, false}
+use mathlib.Core.List.{List, [], _∷_}
+use lib.ListN.{length}
+use Rattle.le.specs.LittleEndian.{Bytes}
+use Rattle.flow.specs.Flow.{taskCount}
+use Rattle.walk.specs.Index.{marksLength}
+use Rattle.walk.specs.Says.{Judges}
+use Rattle.walk.specs.declared.Verdict.{Verdict}
+use Rattle.state.specs.State.{runs, taskAt}
+use Rattle.layout.specs.Layout.{bufferLength}
+use Rattle.layout.specs.Decoded.{decoded}
+use Rattle.layout.specs.Test.{isState}
+use Rattle.machine.specs.Given.{Inputs}
+use Rattle.machine.specs.Engine.{step}
+use Rattle.machine.specs.Reference.{begun}
+use Rattle.machine.specs.Alike.{Alike}
+use Rattle.machine.specs.Run.{machineAfter, Permitted}
+use Rattle.machine.specs.Each.{Calls, noCalls, callsAfter, Step}
+use Rattle.machine.specs.declared.Answer.{Answer}
+use Rattle.machine.specs.declared.Answer.the-variants.{Done, NoTask, Inputs as BadInputs, NotRunning, Differs, Halted}
+use Rattle.border.specs.Border.{numbered, verdictFor, answerFor}
+use Rattle.border.specs.declared.BiasVerdict.{BiasVerdict}
+use Rattle.bias.specs.Load.{load}
+use Rattle.bias.specs.Step.{stepped}
+use Rattle.bias.specs.Run.{answers, bufferAfter, referenceAnswers}
+
+-- ---- a step of a buffer, and every step of a list
+
+-- a step that is refused, and so neither carried out nor halting
+abbrev pub refused : Answer → Bool
+refused Done = false
+refused (NoTask t) = true
+refused (BadInputs n) = true
+refused NotRunning = true
+refused (Differs p) = true
+refused (Halted n p) = false
+
+pub record StepOn (image : List ℕ) (calls : Calls) (b : List ℕ) (x : Inputs) : Type 0 where
+  -- the buffer is a state
+  pub held : isState b ≡ true
+  -- parts 4, 5 and 6 (machine/specs/Each.antt), of the state that the buffer holds
+  pub parts : Step image calls (decoded b) x
+  -- which are of this step: what it hands out is the answer, and the state after it is what the buffer holds then
+  pub answer : stepped image b x .answer ≡ answerFor (step image (decoded b) x .motion) (step image (decoded b) x .answer)
+  pub state : decoded (stepped image b x .buffer) ≡ step image (decoded b) x .state
+  -- refused, it leaves the buffer as it was
+  pub stays : refused (step image (decoded b) x .answer) ≡ true → stepped image b x .buffer ≡ b
+
+pub data EveryStepOn (image : List ℕ) : Calls → List ℕ → List Inputs → Type 0 where
+  none : {calls : Calls} {b : List ℕ} → EveryStepOn image calls b []
+  more : {calls : Calls} {b : List ℕ} {x : Inputs} {xs : List Inputs} → StepOn image calls b x
+      → EveryStepOn image (callsAfter image (decoded b) x calls) (stepped image b x .buffer) xs → EveryStepOn image calls b (x ∷ xs)
+
+-- ---- the theorem
+
+-- of an image, the buffer that its load left, and a list of steps
+pub record Run (image b : List ℕ) (xs : List Inputs) : Type 0 where
+  -- 1. every answer and every field of every motion request is the reference machine's, step by step
+  pub same : answers image b xs ≡ referenceAnswers image (begun image) xs
+  -- 2. afterwards the two states are alike in each thing that document 01 compares
+  pub alike : Alike (decoded (bufferAfter image b xs)) (machineAfter image (begun image) xs)
+  -- 3. afterwards each task that runs is at a block of the image that is permitted to it, at its depth, which is at most the limit
+  pub permitted : (t : ℕ) → t < taskCount → taskAt (decoded (bufferAfter image b xs)) t .status ≡ runs → Permitted image t (taskAt (decoded (bufferAfter image b xs)) t)
+  -- 4, 5, 6. at every step
+  pub steps : EveryStepOn image noCalls b xs
+  -- and the buffer afterwards is a state
+  pub held : isState (bufferAfter image b xs) ≡ true
+
+-- every image, marks of any length and every buffer with which load answers 0, and every list of steps: any task numbers, any input levels
+abbrev pub EveryRun : Type 0
+EveryRun = (image : List ℕ) (n : ℕ) (b : List ℕ) → Bytes image → load image n b .verdict .number ≡ 0 → (xs : List Inputs) → Run image (load image n b .buffer) xs
+
+-- ---- part 7: what a load answers
+
+-- 13, then 16, then what the image comes to (walk/specs/Says.antt): the header, the first block that 5 to 8 refuse, and else what walks say
+pub data Loads (image : List ℕ) (n : ℕ) (b : List ℕ) : BiasVerdict → Type 0 where
+  marks : n < marksLength → Loads image n b (numbered 13 n)
+  buffer : marksLength ≤ n → (length b ≡ bufferLength → ⊥) → Loads image n b (numbered 16 0)
+  judged : marksLength ≤ n → length b ≡ bufferLength → (v : Verdict) → Judges image n v → Loads image n b (verdictFor v)
