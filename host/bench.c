@@ -1,0 +1,547 @@
+/* bench.c - times, stack and size of the library beside the reference, in one run: ns a step by group of commands, us a
+ * load, ns a write, stack of each function, bytes of each archive. Buffers are warm; each figure is the best of several
+ * rounds. Usage: bench [--rounds N] [LIBRARY_ARCHIVE REFERENCE_ARCHIVE]
+ */
+#define _GNU_SOURCE
+#include <pthread.h>
+#include <stdio.h>
+#include <stdlib.h>
+#include <string.h>
+#include <sys/mman.h>
+#include <sys/stat.h>
+#include <time.h>
+
+#include "bias.h"
+#include "reference.h"
+
+/* Goals of the design. */
+#define GOAL_STEP_NS 2000.0
+#define GOAL_STRAIGHT_LOAD_US 1000.0
+#define GOAL_ANY_LOAD_US 100000.0
+#define GOAL_STEP_RATIO 1.05 /* not slower, but for what a clock can't tell */
+#define GOAL_LOAD_RATIO 3.0
+#define GOAL_STACK 16384u
+
+enum { DEFAULT_ROUNDS = 5, STEPS_A_ROUND = 20000, WRITES_A_ROUND = 2000, MOST_ROW = 12, SIDES = 2 };
+
+typedef struct {
+    const char *name;
+    bias_verdict (*load)(const uint8_t *, size_t, uint8_t *, size_t, uint8_t *, size_t);
+    bias_answer (*step)(const uint8_t *, size_t, uint8_t *, size_t, uint32_t, const uint8_t *, size_t, uint8_t, uint8_t);
+    bias_verdict (*write)(uint32_t, uint32_t, uint32_t, uint32_t, uint32_t, uint32_t, const uint8_t *, size_t, uint8_t *,
+                          size_t);
+} side;
+
+static const side sides[SIDES] = {
+    {"library", bias_load, bias_step, bias_write},
+    {"reference", reference_load, reference_step, reference_write},
+};
+
+typedef uint8_t block[BIAS_BLOCK_LENGTH];
+
+/* A program being made, and what is lent. */
+static block blocks[BIAS_MOST_BLOCKS];
+static uint32_t count;
+static uint8_t image[BIAS_MOST_IMAGE_LENGTH];
+static size_t image_len;
+static uint8_t marks[BIAS_MARKS_LENGTH];
+static uint8_t state[BIAS_STATE_LENGTH];
+static uint8_t inputs[BIAS_INPUTS_LENGTH];
+static int rounds = DEFAULT_ROUNDS;
+
+static double now(void)
+{
+    struct timespec time;
+    clock_gettime(CLOCK_MONOTONIC, &time);
+    return (double)time.tv_sec * 1e9 + (double)time.tv_nsec;
+}
+
+/* ---- programs ---- */
+
+static void put(uint32_t at, uint8_t code, uint8_t d1, uint8_t d2, uint8_t d3)
+{
+    memset(blocks[at], 0, sizeof(block));
+    blocks[at][0] = code;
+    blocks[at][1] = d1;
+    blocks[at][2] = d2;
+    blocks[at][3] = d3;
+}
+
+static void put_jump(uint32_t at, uint8_t code, uint32_t to)
+{
+    put(at, code, (uint8_t)(to % 256), (uint8_t)(to / 256), 0);
+}
+
+/* 89: if variable 0 is less than variable 1, which it never is. */
+static void put_branch(uint32_t at, uint32_t to)
+{
+    put(at, 0x89, 0, 1, 1);
+    blocks[at][4] = (uint8_t)(to % 256);
+    blocks[at][5] = (uint8_t)(to / 256);
+}
+
+static void make_image(uint32_t type)
+{
+    bias_verdict verdict = reference_write(BIAS_FORMAT, type, 0, 0, 0, count, &blocks[0][0], sizeof(block) * count, image,
+                                           sizeof image);
+    if (verdict.number != BIAS_SUCCESS)
+        exit(2);
+    image_len = (size_t)verdict.place;
+}
+
+/* ---- printing ---- */
+
+static void print_head(const char *what, const char *unit)
+{
+    printf("\n%-44s %12s %12s %8s   (%s)\n", what, sides[0].name, sides[1].name, "ratio", unit);
+}
+
+static void print_row(const char *what, const double *figures)
+{
+    printf("%-44s %12.1f %12.1f %8.2f\n", what, figures[0], figures[1], figures[0] / figures[1]);
+}
+
+static void print_goal(const char *what, int met)
+{
+    printf("goal: %-60s %s\n", what, met ? "met" : "MISSED");
+}
+
+/* ---- steps ---- */
+
+/* A group of commands: blocks that are run in a circle. */
+typedef struct {
+    const char *name;
+    uint32_t rows;
+    block row[MOST_ROW];
+} group;
+
+static const group groups[] = {
+    {"NOP 50", 1, {{0x50}}},
+    {"jump 55", 1, {{0x55, 1, 0}}},
+    {"flags 60 62 65 66 67 68", 6,
+     {{0x60, 1, 1}, {0x62, 2, 1}, {0x65, 3, 1, 2}, {0x66, 4, 1, 2}, {0x67, 5, 1, 2}, {0x68, 6, 1}}},
+    {"flag jump 61", 1, {{0x61, 1, 0, 1, 0, 0}}},
+    {"bit jump 6E", 1, {{0x6E, 1, 3, 1, 0, 0}}},
+    {"pins 63 64 72 73", 4, {{0x63, 1, 11}, {0x64, 2, 12}, {0x72, 12, 1}, {0x73, 13, 1}}},
+    {"pin jumps 70 71", 2, {{0x70, 11, 0, 1, 0, 0}, {0x71, 12, 0, 1, 0, 0}}},
+    {"variables and constants 80 82 83 84 85", 5,
+     {{0x80, 0, 9}, {0x82, 1, 0, 3}, {0x83, 1, 1, 3}, {0x84, 2, 1, 7}, {0x85, 3, 2, 5}}},
+    {"variables 88 8A 8B 8C 8D", 6,
+     {{0x80, 0, 9}, {0x88, 1, 0}, {0x8A, 2, 1, 0}, {0x8B, 3, 2, 1}, {0x8C, 4, 2, 1}, {0x8D, 5, 4, 0}}},
+    {"variable jumps 81 89", 2, {{0x81, 0, 1, 0, 0, 0, 0x10, 0}, {0x89, 0, 0, 1, 0, 0}}},
+    {"32 flags as bits 86", 1, {{0x86, 0, 0, 32}}},
+    {"moves 0E 00 0E 01 0E 03 0E 04", 8, {{0x0E}, {0x00}, {0x0E}, {0x01}, {0x0E}, {0x03}, {0x0E}, {0x04}}},
+    {"stops 0F 1F", 2, {{0x0F, 1}, {0x1F, 1, 10, 0}}},
+    {"parameters 20 21 22 23", 4, {{0x20, 1, 2, 3, 4}, {0x21, 9}, {0x22, 9}, {0x23, 9}}},
+    {"parameters from variables 30 31 32 33", 5, {{0x80, 0, 9}, {0x30, 0}, {0x31, 0}, {0x32, 0}, {0x33, 0}}},
+    {"parameters read 40 41 42 43", 4, {{0x40, 0}, {0x41, 1}, {0x42, 2}, {0x43, 3}}},
+    {"move that waits for a start 00", 1, {{0x00}}},
+    {"wait for position reached 58", 1, {{0x58}}},
+    {"wait 59", 1, {{0x59, 0xFF, 0xFF}}},
+};
+
+/* The group's blocks, repeated, with a jump back at the end; a jump 55 goes to the block behind it. */
+static void make_circle(const group *g)
+{
+    const uint32_t length = 60;
+    for (count = 0; count < length; count++) {
+        memcpy(blocks[count], g->row[count % g->rows], sizeof(block));
+        if (blocks[count][0] == 0x55)
+            put_jump(count, 0x55, count + 1);
+    }
+    put_jump(count++, 0x55, 0);
+    make_image(BIAS_TYPE_637);
+}
+
+/* A circle of a call to a return, or of returns to the start, or of starts of the PLC. */
+static void make_control(uint8_t code)
+{
+    const uint32_t length = 60;
+    for (count = 0; count < length; count++)
+        put_jump(count, code, code == 0x51 ? 0 : length + 1);
+    put_jump(count++, 0x55, 0);
+    put(count++, code == 0x52 ? 0x53 : 0x51, 0, 0, 0);
+    make_image(BIAS_TYPE_637);
+}
+
+static uint32_t answers; /* so that no call is left out */
+
+/* ns a step on the state as it stands. */
+static double time_steps(const side *s, const uint8_t *begin, uint32_t task)
+{
+    double best = 1e18;
+    for (int round = 0; round < rounds; round++) {
+        memcpy(state, begin, sizeof state);
+        const double begun = now();
+        for (int step = 0; step < STEPS_A_ROUND; step++)
+            answers += s->step(image, image_len, state, sizeof state, task, inputs, sizeof inputs, 0, 0).number;
+        const double taken = (now() - begun) / STEPS_A_ROUND;
+        if (taken < best)
+            best = taken;
+    }
+    return best;
+}
+
+/* The slowest group, and all groups together, for the goals. */
+static double slowest_step, all_steps[SIDES];
+
+static void bench_steps(const char *name, const uint8_t *begin, uint32_t task)
+{
+    double figures[SIDES];
+    for (int at = 0; at < SIDES; at++)
+        figures[at] = time_steps(&sides[at], begin, task);
+    print_row(name, figures);
+    if (figures[0] > slowest_step)
+        slowest_step = figures[0];
+    for (int at = 0; at < SIDES; at++)
+        all_steps[at] += figures[at];
+}
+
+static void load_begin(uint8_t *begin)
+{
+    bias_verdict verdict = reference_load(image, image_len, marks, sizeof marks, begin, BIAS_STATE_LENGTH);
+    if (verdict.number != BIAS_SUCCESS) {
+        printf("a bench program is refused by %u at %u\n", (unsigned)verdict.number, (unsigned)verdict.place);
+        exit(2);
+    }
+}
+
+static void bench_all_steps(void)
+{
+    uint8_t begin[BIAS_STATE_LENGTH];
+    print_head("a step", "ns");
+    for (size_t at = 0; at < sizeof groups / sizeof groups[0]; at++) {
+        make_circle(&groups[at]);
+        load_begin(begin);
+        bench_steps(groups[at].name, begin, BIAS_TASK_BIAS);
+    }
+    make_control(0x52);
+    load_begin(begin);
+    bench_steps("call and return 52 53", begin, BIAS_TASK_BIAS);
+    make_control(0x51);
+    load_begin(begin);
+    bench_steps("return to the start 51", begin, BIAS_TASK_BIAS);
+    make_control(0x54);
+    load_begin(begin);
+    bench_steps("start of the PLC 54", begin, BIAS_TASK_BIAS);
+    bench_steps("refused by 18", begin, BIAS_TASK_PLC);
+    bench_steps("refused by 15", begin, 3);
+    begin[BIAS_STATE_LENGTH - 1] = 1;
+    bench_steps("refused by 16, last byte", begin, BIAS_TASK_BIAS);
+    begin[BIAS_STATE_LENGTH - 1] = 0;
+    image_len--;
+    bench_steps("refused by 17, another length", begin, BIAS_TASK_BIAS);
+    print_row("all of these together", all_steps);
+}
+
+/* ---- loads ---- */
+
+static uint32_t next_random(void)
+{
+    static uint32_t seed = 637;
+    seed = seed * 1664525u + 1013904223u;
+    return seed >> 8;
+}
+
+static void make_straight(void)
+{
+    for (count = 0; count < BIAS_MOST_BLOCKS - 1; count++)
+        put(count, 0x50, 0, 0, 0);
+    put_jump(count++, 0x55, 0);
+}
+
+static void make_branches(void)
+{
+    for (count = 0; count < BIAS_MOST_BLOCKS - 1; count++)
+        put_branch(count, next_random() % BIAS_MOST_BLOCKS);
+    put_jump(count++, 0x55, 0);
+}
+
+/* Starts the PLC and mathematics at block 2, where a ladder of calls leads to the common part at every depth. Gives the
+ * common part's first block. */
+static uint32_t make_ladder(uint32_t entry_from_end)
+{
+    const uint32_t ladder = 2, common = ladder + 2 * (BIAS_MOST_DEPTH + 1);
+    const uint32_t entry = entry_from_end ? BIAS_MOST_BLOCKS - 1 : common;
+    put_jump(0, 0x54, ladder);
+    put_jump(1, 0x90, ladder);
+    for (uint32_t depth = 0; depth <= BIAS_MOST_DEPTH; depth++) {
+        const uint32_t at = ladder + 2 * depth;
+        if (depth < BIAS_MOST_DEPTH)
+            put_jump(at, 0x52, at + 2);
+        else
+            put(at, 0x50, 0, 0, 0);
+        put_jump(at + 1, 0x55, entry);
+    }
+    /* 54 and 90 are reached by BIAS alone, so PLC and mathematics begin at the ladder. */
+    count = BIAS_MOST_BLOCKS;
+    return common;
+}
+
+static void make_calls(void)
+{
+    const uint32_t common = make_ladder(0);
+    for (uint32_t at = common; at < BIAS_MOST_BLOCKS - 1; at++)
+        put(at, 0x50, 0, 0, 0);
+    put_jump(BIAS_MOST_BLOCKS - 1, 0x55, common);
+}
+
+static void make_backwards(void)
+{
+    const uint32_t common = make_ladder(1);
+    for (uint32_t at = common; at < BIAS_MOST_BLOCKS; at++)
+        put_jump(at, 0x55, at == common ? at : at - 1);
+}
+
+/* Lowest, highest, next lowest, next highest and so on. */
+static void make_zigzag(void)
+{
+    const uint32_t common = make_ladder(0);
+    uint32_t low = common, high = BIAS_MOST_BLOCKS - 1;
+    while (low < high) {
+        put_jump(low, 0x55, high);
+        low++;
+        put_jump(high, 0x55, low);
+        high--;
+    }
+    put_jump(low, 0x55, low);
+}
+
+/* One chain through all blocks in random order. */
+static void make_shuffled(void)
+{
+    static uint32_t order[BIAS_MOST_BLOCKS];
+    const uint32_t common = make_ladder(0), length = BIAS_MOST_BLOCKS - common;
+    for (uint32_t at = 0; at < length; at++)
+        order[at] = common + at;
+    for (uint32_t at = length - 1; at > 1; at--) {
+        const uint32_t other = 1 + next_random() % at, kept = order[at];
+        order[at] = order[other];
+        order[other] = kept;
+    }
+    for (uint32_t at = 0; at < length; at++)
+        put_jump(order[at], 0x55, order[at + 1 < length ? at + 1 : at]);
+}
+
+/* Each block may go to the next one and back to one that is not yet seen: zigzag with both ways open. */
+static void make_both_ways(void)
+{
+    const uint32_t common = make_ladder(1);
+    for (uint32_t at = common; at < BIAS_MOST_BLOCKS - 1; at++)
+        put_branch(at, at > common + 1 ? at - 2 : common);
+    put_branch(BIAS_MOST_BLOCKS - 2, BIAS_MOST_BLOCKS - 4);
+    put_jump(BIAS_MOST_BLOCKS - 1, 0x55, BIAS_MOST_BLOCKS - 2);
+}
+
+static double time_load(const side *s)
+{
+    double best = 1e18;
+    for (int round = 0; round < rounds; round++) {
+        const double begun = now();
+        answers += s->load(image, image_len, marks, sizeof marks, state, sizeof state).number;
+        const double taken = (now() - begun) / 1000.0;
+        if (taken < best)
+            best = taken;
+    }
+    return best;
+}
+
+static double worst_load, worst_load_ratio, straight_load;
+
+static void bench_load(const char *name, void (*make)(void))
+{
+    double figures[SIDES];
+    make();
+    make_image(BIAS_TYPE_637);
+    load_begin(state);
+    for (int at = 0; at < SIDES; at++)
+        figures[at] = time_load(&sides[at]);
+    print_row(name, figures);
+    if (figures[0] > worst_load)
+        worst_load = figures[0];
+    if (figures[0] / figures[1] > worst_load_ratio)
+        worst_load_ratio = figures[0] / figures[1];
+    if (make == make_straight)
+        straight_load = figures[0];
+}
+
+static void bench_all_loads(void)
+{
+    print_head("a load of 1,500 blocks", "us");
+    bench_load("straight code", make_straight);
+    bench_load("branches everywhere", make_branches);
+    bench_load("calls at all depths in three tasks", make_calls);
+    bench_load("all places, backwards", make_backwards);
+    bench_load("all places, zigzag", make_zigzag);
+    bench_load("all places, shuffled", make_shuffled);
+    bench_load("all places, both ways", make_both_ways);
+}
+
+/* ---- writes ---- */
+
+static void bench_writes(uint32_t blocks_count, const char *name)
+{
+    double figures[SIDES];
+    for (int at = 0; at < SIDES; at++) {
+        figures[at] = 1e18;
+        for (int round = 0; round < rounds; round++) {
+            const double begun = now();
+            for (int write = 0; write < WRITES_A_ROUND; write++)
+                answers += sides[at].write(BIAS_FORMAT, BIAS_TYPE_637, 0, 0, 0, blocks_count, &blocks[0][0],
+                                           sizeof(block) * blocks_count, image, sizeof image).number;
+            const double taken = (now() - begun) / WRITES_A_ROUND;
+            if (taken < figures[at])
+                figures[at] = taken;
+        }
+    }
+    print_row(name, figures);
+}
+
+/* ---- stack ---- */
+
+enum { STACK_LENGTH = 1 << 18, PAINT = 0x5C };
+
+typedef enum { DO_NOTHING, DO_LOAD, DO_STEP, DO_WRITE } deed;
+
+typedef struct {
+    const side *side;
+    deed deed;
+} errand;
+
+static void do_errand(const errand *e)
+{
+    if (e->deed == DO_LOAD)
+        answers += e->side->load(image, image_len, marks, sizeof marks, state, sizeof state).number;
+    else if (e->deed == DO_STEP)
+        answers += e->side->step(image, image_len, state, sizeof state, 0, inputs, sizeof inputs, 0, 0).number;
+    else if (e->deed == DO_WRITE)
+        answers += e->side->write(BIAS_FORMAT, 2, 0, 0, 0, count, &blocks[0][0], sizeof(block) * count, image,
+                                  sizeof image).number;
+}
+
+static void *on_thread(void *argument)
+{
+    do_errand(argument);
+    return NULL;
+}
+
+/* How many bytes of a painted stack a thread touches. */
+static size_t touched(errand e)
+{
+    pthread_attr_t attributes;
+    pthread_t thread;
+    uint8_t *stack = mmap(NULL, STACK_LENGTH, PROT_READ | PROT_WRITE, MAP_PRIVATE | MAP_ANONYMOUS, -1, 0);
+    size_t clean = 0;
+    if (stack == MAP_FAILED)
+        exit(2);
+    memset(stack, PAINT, STACK_LENGTH);
+    pthread_attr_init(&attributes);
+    if (pthread_attr_setstack(&attributes, stack, STACK_LENGTH) != 0
+        || pthread_create(&thread, &attributes, on_thread, &e) != 0)
+        exit(2);
+    pthread_join(thread, NULL);
+    pthread_attr_destroy(&attributes);
+    while (clean < STACK_LENGTH && stack[clean] == PAINT)
+        clean++;
+    munmap(stack, STACK_LENGTH);
+    return STACK_LENGTH - clean;
+}
+
+static size_t deepest_stack;
+
+/* Bytes that a call of one side touches beyond an idle thread's. */
+static size_t stack_of(const side *s, deed d)
+{
+    const errand e = {s, d}, nothing = {s, DO_NOTHING};
+    do_errand(&e); /* so that what is looked up once is looked up */
+    const size_t whole = touched(e), idle = touched(nothing);
+    return whole > idle ? whole - idle : 0;
+}
+
+static void print_stack(const char *name, const size_t *figures)
+{
+    printf("%-44s %12lu %12lu\n", name, (unsigned long)figures[0], (unsigned long)figures[1]);
+    if (figures[0] > deepest_stack)
+        deepest_stack = figures[0];
+}
+
+/* The deepest of some steps of the program that stands in the image. */
+static void stack_of_steps(size_t *deepest)
+{
+    for (int at = 0; at < SIDES; at++) {
+        load_begin(state);
+        for (int step = 0; step < MOST_ROW; step++) {
+            const size_t figure = stack_of(&sides[at], DO_STEP);
+            if (figure > deepest[at])
+                deepest[at] = figure;
+        }
+    }
+}
+
+static void bench_stacks(void)
+{
+    size_t load[SIDES], write[SIDES], step[SIDES] = {0, 0};
+    static const uint8_t controls[] = {0x51, 0x52, 0x54};
+    printf("\n%-44s %12s %12s %8s   (bytes)\n", "stack", sides[0].name, sides[1].name, "");
+    make_zigzag();
+    make_image(BIAS_TYPE_637);
+    for (int at = 0; at < SIDES; at++) {
+        load[at] = stack_of(&sides[at], DO_LOAD);
+        write[at] = stack_of(&sides[at], DO_WRITE);
+    }
+    for (size_t at = 0; at < sizeof groups / sizeof groups[0]; at++) {
+        make_circle(&groups[at]);
+        stack_of_steps(step);
+    }
+    for (size_t at = 0; at < sizeof controls; at++) {
+        make_control(controls[at]);
+        stack_of_steps(step);
+    }
+    print_stack("bias_load", load);
+    print_stack("bias_step, the deepest of all groups", step);
+    print_stack("bias_write", write);
+}
+
+/* ---- size, and the whole ---- */
+
+static double file_length(const char *name)
+{
+    struct stat found;
+    return stat(name, &found) == 0 ? (double)found.st_size : 0.0;
+}
+
+static void print_goals(void)
+{
+    printf("\n");
+    print_goal("a step takes at most 2 us", slowest_step <= GOAL_STEP_NS);
+    print_goal("steps together are not slower than the reference's", all_steps[0] <= GOAL_STEP_RATIO * all_steps[1]);
+    print_goal("a load of straight code takes at most 1 ms", straight_load <= GOAL_STRAIGHT_LOAD_US);
+    print_goal("no load here takes more than 100 ms", worst_load <= GOAL_ANY_LOAD_US);
+    print_goal("loads are within 3 times of the reference's", worst_load_ratio <= GOAL_LOAD_RATIO);
+    print_goal("at most 16 KiB of stack", deepest_stack <= GOAL_STACK);
+}
+
+int main(int argc, char **argv)
+{
+    int at = 1;
+    if (argc > 2 && strcmp(argv[1], "--rounds") == 0) {
+        rounds = atoi(argv[2]);
+        at = 3;
+    }
+    if (rounds < 1 || (argc != at && argc != at + 2)) {
+        fprintf(stderr, "usage: bench [--rounds N] [LIBRARY_ARCHIVE REFERENCE_ARCHIVE]\n");
+        return 2;
+    }
+    inputs[11] = 1;
+    bench_all_steps();
+    bench_all_loads();
+    print_head("a write", "ns");
+    bench_writes(14, "14 blocks");
+    bench_writes(BIAS_MOST_BLOCKS, "1,500 blocks");
+    bench_stacks();
+    if (argc == at + 2) {
+        printf("\n%-44s %12.0f %12.0f            (bytes)\n", "archive", file_length(argv[at]), file_length(argv[at + 1]));
+    }
+    print_goals();
+    return answers == UINT32_MAX ? 2 : 0;
+}

@@ -1,0 +1,43 @@
+#!/bin/sh
+# Builds the host programs with plain cc and rustc into target/host: example, makefeed, diff, fuzz, bench, trace, and the
+# reference as an archive of its own. A missing compiler is a failure.
+# Usage: host/build.sh LIBRARY        LIBRARY is the archive of the proved library, as `rt staticlib bias` makes it
+#        host/build.sh --stand-in     the reference under the library's names, to try the programs without a library
+set -eu
+if [ $# -ne 1 ]; then
+    echo "usage: host/build.sh LIBRARY | --stand-in" >&2
+    exit 2
+fi
+case $1 in
+--stand-in | /*) library=$1 ;;
+*) library=$PWD/$1 ;;
+esac
+cd "$(dirname "$0")/.."
+out=target/host
+system="-lpthread -ldl -lm"
+
+for tool in cc rustc; do
+    command -v "$tool" >/dev/null || { echo "host/build.sh: no $tool" >&2; exit 1; }
+done
+mkdir -p "$out"
+
+rust() { rustc --edition 2021 -O -D warnings "$@"; }
+c() { cc -std=c99 -pedantic -Wall -Wextra -Werror -Iinclude "$@"; }
+
+if [ "$library" = --stand-in ]; then
+    library=$out/libstand_in.a
+    rust --cfg stand_in --crate-type staticlib --crate-name stand_in host/reference/lib.rs -o "$library"
+elif [ ! -f "$library" ]; then
+    echo "host/build.sh: no library $library" >&2
+    exit 1
+fi
+
+rust --crate-type rlib --crate-name reference host/reference/lib.rs -o "$out/libreference.rlib"
+rust --crate-type staticlib --crate-name reference_c host/reference/lib.rs -o "$out/libreference.a"
+rust host/reference/trace.rs --extern reference="$out/libreference.rlib" -o "$out/trace"
+rust host/diff.rs --extern reference="$out/libreference.rlib" -C link-arg="$library" -o "$out/diff"
+c -O2 host/makefeed.c "$library" $system -o "$out/makefeed"
+c -O2 host/example.c host/listing.c "$library" $system -o "$out/example"
+c -O2 host/bench.c "$library" "$out/libreference.a" $system -o "$out/bench"
+c -O1 -g -fsanitize=address,undefined -fno-sanitize-recover=all host/fuzz.c "$library" $system -o "$out/fuzz"
+echo "$library" > "$out/library"

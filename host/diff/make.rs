@@ -1,0 +1,230 @@
+//! Random cases: an image, then steps of mixed tasks, among them refused ones and hostile states.
+
+use crate::case::{Action, Case, Player};
+use crate::program;
+use crate::random::Random;
+use reference::image;
+use reference::number::*;
+use reference::state::{State, RUNNING, STATE_LENGTH};
+
+/// A case. Its steps are drawn while the reference does them, so that most are for tasks that run.
+pub fn case(random: &mut Random) -> Case {
+    let image = program::any(random);
+    let (marks_len, state_len, fill) = (marks_len(random), state_len(random), random.byte());
+    let mut state = vec![fill; state_len];
+    let verdict = reference::load(&image, &mut vec![0; marks_len], &mut state);
+    let steps = match random.below(100) {
+        _ if verdict.number != SUCCESS => 2,
+        0..=9 => random.between(0, 9),
+        10..=89 => random.between(20, 250),
+        _ => random.between(250, 1500),
+    };
+    let mut drawing = Drawing::new(random, image, state);
+    let mut actions = Vec::new();
+    while actions.len() < steps && drawing.alive() {
+        actions.push(drawing.action());
+    }
+    Case { marks_len, state_len, fill, image: drawing.image, actions }
+}
+
+/// A load alone, of an image that is likely to be refused.
+pub fn load(random: &mut Random) -> Case {
+    let image = program::changed(random);
+    Case { image, marks_len: MARKS_LENGTH, state_len: STATE_LENGTH, fill: random.byte(), actions: Vec::new() }
+}
+
+fn marks_len(random: &mut Random) -> usize {
+    match random.below(60) {
+        0 => random.pick(&[0, 1, MARKS_LENGTH - 1, MARKS_LENGTH / 2]),
+        1..=3 => MARKS_LENGTH + random.between(1, 300),
+        _ => MARKS_LENGTH,
+    }
+}
+
+fn state_len(random: &mut Random) -> usize {
+    if random.chance(1) { random.pick(&[0, 1, STATE_LENGTH - 1, STATE_LENGTH + 1, 2 * STATE_LENGTH]) } else { STATE_LENGTH }
+}
+
+/// Draws steps one after the other; levels change now and then.
+struct Drawing<'a> {
+    random: &'a mut Random,
+    image: Vec<u8>,
+    count: usize,
+    player: Player,
+    start: u8,
+    reached: u8,
+    inputs: Vec<(u8, u8)>,
+    /// Steps in a row that were refused.
+    trouble: usize,
+}
+
+const HIGH: [u8; 5] = [1, 1, 2, 128, 255];
+/// So many refused steps in a row end a case.
+const ENOUGH: usize = 12;
+
+impl Drawing<'_> {
+    fn new(random: &mut Random, image: Vec<u8>, state: Vec<u8>) -> Drawing<'_> {
+        let count = image::read(&image).map_or(1, |(header, _)| header.count);
+        let start = random.pick(&[0, 1]);
+        Drawing { random, image, count, player: Player { state }, start, reached: 0, inputs: Vec::new(), trouble: 0 }
+    }
+
+    fn alive(&self) -> bool {
+        self.trouble < ENOUGH
+    }
+
+    fn action(&mut self) -> Action {
+        self.turn_levels();
+        let mut action = Action::plain(self.task());
+        action.inputs = self.inputs.clone();
+        action.start = self.start;
+        action.reached = self.reached;
+        self.make_odd(&mut action);
+        let played = self.player.play(&self.image, &action);
+        self.trouble = if played.answer.number == SUCCESS { 0 } else { self.trouble + 1 };
+        action
+    }
+
+    /// Mostly a task that runs.
+    fn task(&mut self) -> u32 {
+        if self.random.below(400) == 0 {
+            return self.random.pick(&[3, 4, 255, 256, 1 << 31, u32::MAX]);
+        }
+        let any = self.random.below(TASKS) as u32;
+        let Some(state) = State::of(&mut self.player.state) else {
+            return any;
+        };
+        let running: Vec<u32> = (0..TASKS as u32).filter(|task| state.status(*task as usize) == RUNNING).collect();
+        if running.is_empty() || self.random.chance(5) { any } else { self.random.pick(&running) }
+    }
+
+    /// Now and then a wrong length, another image, or bytes that somebody else wrote.
+    fn make_odd(&mut self, action: &mut Action) {
+        if self.trouble > 2 && self.random.chance(40) {
+            action.pokes = self.revival(action.task);
+            action.keep = true;
+            return;
+        }
+        match self.random.below(300) {
+            0 => action.inputs_len = self.random.pick(&[0, 1, 255, 257, 512, 1000]),
+            1 => action.state_len = self.random.pick(&[0, 1, STATE_LENGTH - 1, STATE_LENGTH + 1, 4096]),
+            2..=3 => {
+                let mut other = self.image.clone();
+                program::damage(self.random, &mut other);
+                action.lent = Some(other);
+            }
+            4..=33 => {
+                action.pokes = pokes(self.random, self.count);
+                action.keep = self.random.chance(40);
+            }
+            _ => (),
+        }
+    }
+
+    /// A task that runs at its start, or at some block.
+    fn revival(&mut self, task: u32) -> Vec<(usize, u8)> {
+        let mut bytes = Vec::new();
+        let task = (task as usize).min(TASKS - 1);
+        let start = State::of(&mut self.player.state).map_or(0, |state| state.start(task));
+        let block = if self.random.chance(70) { start as usize } else { self.random.below(self.count) };
+        let record = RECORDS + RECORD_LENGTH * task;
+        bytes.extend((record..record + RECORD_LENGTH).map(|at| (at, 0)));
+        bytes.push((record, RUNNING));
+        put(&mut bytes, record + 2, 2, block as u32);
+        bytes
+    }
+
+    fn turn_levels(&mut self) {
+        if self.random.chance(30) {
+            self.start = if self.start == 0 { self.random.pick(&HIGH) } else { 0 };
+        }
+        if self.random.chance(30) {
+            self.reached = if self.reached == 0 { self.random.pick(&HIGH) } else { 0 };
+        }
+        if self.random.chance(20) {
+            let pins = self.random.below(40);
+            self.inputs = (0..pins).map(|_| (self.random.byte(), self.random.pick(&HIGH))).collect();
+        }
+    }
+}
+
+/// Where the fields of a state stand (docs/STATE.md), and how many bytes each has.
+const FIELDS: [(usize, usize); 16] = [
+    (1536, 1), (1537, 1), (1538, 1), (1539, 1), (1540, 2), (1542, 2), (1544, 4), (1548, 2), (1550, 2), (1552, 2),
+    (1554, 1), (1555, 1), (1556, 2), (1558, 2), (1644, 1), (2047, 1),
+];
+const RECORDS: usize = 1560;
+const RECORD_LENGTH: usize = 28;
+
+/// What somebody else might write: one to three fields, mostly near the ends of their ranges.
+fn pokes(random: &mut Random, count: usize) -> Vec<(usize, u8)> {
+    let mut bytes = Vec::new();
+    for _ in 0..random.between(1, 3) {
+        match random.below(10) {
+            0 => bytes.push((random.below(STATE_LENGTH), random.byte())),
+            1 => bytes.push((1024 + random.below(512), random.below(3) as u8)),
+            2 => {
+                let variable = if random.chance(50) { random.below(8) } else { program::GOOD.start + random.below(4) };
+                put(&mut bytes, 4 * variable, 4, variable_value(random));
+            }
+            3 => {
+                let (at, width) = random.pick(&FIELDS);
+                let value = field_value(random, count);
+                put(&mut bytes, at, width, value);
+            }
+            4..=5 => poke_wait(random, &mut bytes),
+            _ => poke_task(random, count, &mut bytes),
+        }
+    }
+    bytes
+}
+
+fn put(bytes: &mut Vec<(usize, u8)>, at: usize, width: usize, value: u32) {
+    bytes.extend(value.to_le_bytes().into_iter().take(width).enumerate().map(|(step, byte)| (at + step, byte)));
+}
+
+fn variable_value(random: &mut Random) -> u32 {
+    if random.chance(80) { random.pick(&program::EDGES) } else { random.next() as u32 }
+}
+
+fn field_value(random: &mut Random, count: usize) -> u32 {
+    let count = count as u32;
+    let edges = [0, 1, 2, 3, 4, 5, count - 1, count, count + 1, 1499, 1500, 1501, 12000, 12001, 64000, 64001, 65535];
+    random.pick(&edges)
+}
+
+/// Status, depth, block and return entries of a task.
+fn poke_task(random: &mut Random, count: usize, bytes: &mut Vec<(usize, u8)>) {
+    let record = RECORDS + RECORD_LENGTH * random.below(TASKS);
+    let inside = random.below(count) as u32;
+    let block = if random.chance(85) { inside } else { field_value(random, count) };
+    match random.below(5) {
+        0 => bytes.push((record, random.pick(&[0, 1, 1, 2, 3, 4, 255]))),
+        1..=2 => {
+            bytes.push((record, 1));
+            put(bytes, record + 2, 2, block);
+        }
+        3 => {
+            let depth = random.pick(&[0, 1, 2, 3, 4, 5, 6, 7, 8, 8, 9, 255]);
+            bytes.push((record + 1, depth));
+            for entry in 0..(depth as usize).min(MOST_DEPTH) {
+                put(bytes, record + 4 + 2 * entry, 2, block);
+            }
+            for entry in (depth as usize).min(MOST_DEPTH)..MOST_DEPTH {
+                put(bytes, record + 4 + 2 * entry, 2, 0);
+            }
+        }
+        _ => put(bytes, record + 4 + 2 * random.below(MOST_DEPTH), 2, block),
+    }
+}
+
+/// A pending wait near its end, by either cycle length, or out of range.
+fn poke_wait(random: &mut Random, bytes: &mut Vec<(usize, u8)>) {
+    let record = RECORDS + RECORD_LENGTH * if random.chance(80) { BIAS } else { random.below(TASKS) };
+    let time = random.pick(&[0, 1, 2, 3, 1000, 1899, 844, 65535, 65536, MOST_WAIT, MOST_WAIT + 1, u32::MAX]);
+    let cycle = random.pick(&[1899, 844]);
+    let due = (1000 * time as u64).div_ceil(cycle) as u32;
+    let turns = random.pick(&[0, 1, due.wrapping_sub(2), due.wrapping_sub(1), due, due.wrapping_add(1), u32::MAX]);
+    put(bytes, record + 20, 4, time);
+    put(bytes, record + 24, 4, turns);
+}

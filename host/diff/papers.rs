@@ -1,0 +1,139 @@
+//! Document 01's own examples, A to L and the chains of calls, with the answers that it prints; and images cut at every
+//! length. Done on the library and on the reference alike.
+
+use crate::case::{Action, Case};
+use crate::program;
+use crate::random::Random;
+use crate::tally::Tally;
+use reference::number::*;
+use reference::state::{State, STATE_LENGTH};
+use reference::Verdict;
+
+/// Name, image in hexadecimal, and number, place, task, depth.
+type Row = (&'static str, &'static str, [u64; 4]);
+
+const CASES: [Row; 11] = [
+    ("A", "010200000001 5500000000000000", [0, 0, 0, 0]),
+    ("B", "010200000001 5000000000000000", [12, 0, 0, 0]),
+    ("C", "010200000101 5500000000000000", [3, 4, 0, 0]),
+    ("D", "010200000002 5200000000000000 5300000000000000", [10, 0, 0, 8]),
+    ("E", "010200000204 5000000000000000 5300000000000000 5200000000000000 5500000000000000", [11, 1, 0, 0]),
+    ("F", "010200000003 2010270000000000 5400000000000000 5500000000000000", [9, 0, 1, 0]),
+    ("G", "010200000002 1F0100FA00000000 5500000000000000", [0, 0, 0, 0]),
+    ("H", "010200000002 1F0101FA00000000 5500000000000000", [7, 0, 0, 0]),
+    ("I, refused", "010200000002 7208010000000000 5500000000000000", [6, 0, 0, 0]),
+    ("I, accepted", "010200000002 720C010000000000 5500000000000000", [0, 0, 0, 0]),
+    ("K, not shortest", "0102000000 8000 5500000000000000", [2, 5, 0, 0]),
+];
+
+fn bytes(text: &str) -> Vec<u8> {
+    let digits: Vec<u8> = text.bytes().filter(|byte| *byte != b' ').collect();
+    let pairs = digits.chunks(2).map(|pair| std::str::from_utf8(pair).unwrap_or(""));
+    pairs.map(|pair| u8::from_str_radix(pair, 16).unwrap_or(0)).collect()
+}
+
+fn case(image: Vec<u8>, actions: Vec<Action>) -> Case {
+    Case { image, marks_len: MARKS_LENGTH, state_len: STATE_LENGTH, fill: 0x5A, actions }
+}
+
+/// The case on both sides, and the load's answer as the paper has it.
+fn expect(name: &str, image: Vec<u8>, wanted: [u64; 4], tally: &mut Tally) -> Result<(), String> {
+    let Verdict { place, number, task, depth } =
+        reference::load(&image, &mut vec![0; MARKS_LENGTH], &mut vec![0; STATE_LENGTH]);
+    let got = [number as u64, place, task as u64, depth as u64];
+    if got != wanted {
+        return Err(format!("case {name}: the reference says {got:?}, document 01 {wanted:?}"));
+    }
+    case(image, Vec::new()).run(tally).map_err(|difference| format!("case {name}: {}", difference.what))
+}
+
+pub fn check(tally: &mut Tally) -> Result<(), String> {
+    for (name, image, wanted) in CASES {
+        expect(name, bytes(image), wanted, tally)?;
+    }
+    expect("K, 1500 blocks", longest(), [0; 4], tally)?;
+    expect("8 nested calls", nested(8), [0; 4], tally)?;
+    expect("9 nested calls", nested(9), [10, 8, 0, 8], tally)?;
+    wait_ends("J, type 2", "02", 527, tally)?;
+    wait_ends("J, type 4", "04", 1185, tally)?;
+    quotient(tally)?;
+    every_length(tally)
+}
+
+/// DC 0B is 1500: that many jumps.
+fn longest() -> Vec<u8> {
+    let mut image = bytes("0102000000 DC0B");
+    for _ in 0..MOST_BLOCKS {
+        image.extend(bytes("5500000000000000"));
+    }
+    image
+}
+
+/// A chain of calls, each block calling the one behind it, down to a jump to itself.
+fn nested(calls: u8) -> Vec<u8> {
+    let mut image = vec![1, 2, 0, 0, 0, calls + 1];
+    for call in 0..calls {
+        image.extend([0x52, call + 1, 0, 0, 0, 0, 0, 0]);
+    }
+    image.extend([0x55, calls, 0, 0, 0, 0, 0, 0]);
+    image
+}
+
+/// A wait of 1000 ms passes at this k and not before.
+fn wait_ends(name: &str, kind: &str, turns: usize, tally: &mut Tally) -> Result<(), String> {
+    let image = bytes(&format!("01{kind}00000002 59F4010000000000 5501000000000000"));
+    let steps = vec![Action::plain(0); turns + 1];
+    let mut state = vec![0; STATE_LENGTH];
+    reference::load(&image, &mut vec![0; MARKS_LENGTH], &mut state);
+    let given = reference::engine::Given { inputs: &[0; INPUTS_LENGTH], start: 0, reached: 0 };
+    for turn in 0..=turns {
+        let at = State::of(&mut state).map(|state| state.block(BIAS));
+        if at != Some(0) {
+            return Err(format!("case {name}: passed before k = {turn}"));
+        }
+        reference::step(&image, &mut state, 0, given);
+    }
+    if State::of(&mut state).map(|state| state.block(BIAS)) != Some(1) {
+        return Err(format!("case {name}: did not pass at k = {turns}"));
+    }
+    case(image, steps).run(tally).map_err(|difference| format!("case {name}: {}", difference.what))
+}
+
+/// L: -7 by 2 is -3; and -2^31 by -1 wraps.
+fn quotient(tally: &mut Tally) -> Result<(), String> {
+    for (dividend, divisor, wanted) in [(-7i32, 2i32, -3i32), (i32::MIN, -1, i32::MIN)] {
+        let mut image = bytes("010200000003");
+        image.extend([0x80, 0]);
+        image.extend(dividend.to_le_bytes());
+        image.extend([0, 0, 0x85, 1, 0]);
+        image.extend(divisor.to_le_bytes());
+        image.extend(bytes("00 5502000000000000"));
+        let mut state = vec![0; STATE_LENGTH];
+        reference::load(&image, &mut vec![0; MARKS_LENGTH], &mut state);
+        let given = reference::engine::Given { inputs: &[0; INPUTS_LENGTH], start: 0, reached: 0 };
+        reference::step(&image, &mut state, 0, given);
+        reference::step(&image, &mut state, 0, given);
+        if State::of(&mut state).map(|state| state.variable(1)) != Some(wanted) {
+            return Err(format!("case L: {dividend} by {divisor}"));
+        }
+        let steps = vec![Action::plain(0); 2];
+        case(image, steps).run(tally).map_err(|difference| format!("case L: {}", difference.what))?;
+    }
+    Ok(())
+}
+
+/// A short program and a long one cut at every length, and with bytes behind them.
+fn every_length(tally: &mut Tally) -> Result<(), String> {
+    let short = program::accepted(&mut Random::of_case(1, 1));
+    let mut image = longest();
+    image.resize(12_100, 0);
+    for length in (0..image.len()).step_by(7).chain(0..64).chain(11_990..12_100) {
+        let cut = case(image[..length].to_vec(), Vec::new());
+        cut.run(tally).map_err(|difference| format!("1500 blocks cut at {length}: {}", difference.what))?;
+    }
+    for length in 0..short.len() {
+        let cut = case(short[..length].to_vec(), Vec::new());
+        cut.run(tally).map_err(|difference| format!("a program cut at {length}: {}", difference.what))?;
+    }
+    Ok(())
+}

@@ -1,0 +1,112 @@
+//! What a run has met: loads, steps and writes by number, commands carried out by code and where they went.
+
+use reference::command::codes;
+use reference::number::*;
+use reference::state::State;
+use reference::Answer;
+
+const NUMBERS: usize = 21;
+
+/// Where a command that was carried out went on.
+#[derive(Clone, Copy, Default)]
+struct Ways {
+    next: u64,
+    elsewhere: u64,
+    stayed: u64,
+}
+
+pub struct Tally {
+    loads: [u64; NUMBERS],
+    steps: [u64; NUMBERS],
+    writes: [u64; NUMBERS],
+    ways: [Ways; 256],
+    tasks: [u64; TASKS],
+    depths: [u64; MOST_DEPTH + 1],
+    motions: [u64; 6],
+}
+
+impl Tally {
+    pub fn new() -> Tally {
+        Tally {
+            loads: [0; NUMBERS],
+            steps: [0; NUMBERS],
+            writes: [0; NUMBERS],
+            ways: [Ways::default(); 256],
+            tasks: [0; TASKS],
+            depths: [0; MOST_DEPTH + 1],
+            motions: [0; 6],
+        }
+    }
+
+    pub fn load(&mut self, number: u32) {
+        self.loads[number as usize] += 1;
+    }
+
+    pub fn write(&mut self, number: u32) {
+        self.writes[number as usize] += 1;
+    }
+
+    pub fn steps_done(&self) -> u64 {
+        self.steps.iter().sum()
+    }
+
+    /// `before` is code and block where the task stood, `after` the state after the step.
+    pub fn step(&mut self, answer: &Answer, before: Option<(u8, u16)>, after: &[u8], task: u32) {
+        self.steps[answer.number as usize] += 1;
+        let (SUCCESS, Some((code, block))) = (answer.number, before) else {
+            return;
+        };
+        let mut after = after.to_vec();
+        let Some(state) = State::of(&mut after) else {
+            return;
+        };
+        let task = task as usize;
+        self.tasks[task] += 1;
+        self.depths[state.depth(task)] += 1;
+        self.motions[answer.motion as usize] += 1;
+        let ways = &mut self.ways[code as usize];
+        match state.block(task) {
+            now if now == block + 1 => ways.next += 1,
+            now if now == block => ways.stayed += 1,
+            _ => ways.elsewhere += 1,
+        }
+    }
+
+    /// Prints the whole; gives what was never met: codes and refusal numbers 1 to 20.
+    pub fn report(&self) -> Vec<String> {
+        print_numbers("loads by number", &self.loads);
+        print_numbers("writes by number", &self.writes);
+        print_numbers("steps by number", &self.steps);
+        print_numbers("steps carried out by task", &self.tasks);
+        print_numbers("steps carried out by depth", &self.depths);
+        print_numbers("motion requests by number", &self.motions);
+        println!("commands carried out (went to the next block / elsewhere / stayed):");
+        let cells: Vec<String> = codes().map(|code| self.cell(code)).collect();
+        for line in cells.chunks(3) {
+            println!("  {}", line.join("").trim_end());
+        }
+        self.missing()
+    }
+
+    fn cell(&self, code: u8) -> String {
+        let Ways { next, elsewhere, stayed } = self.ways[code as usize];
+        format!("{code:02X} {:<34}", format!("{next} / {elsewhere} / {stayed}"))
+    }
+
+    fn missing(&self) -> Vec<String> {
+        let never_done = |code: &u8| {
+            let ways = self.ways[*code as usize];
+            ways.next + ways.elsewhere + ways.stayed == 0
+        };
+        let never_met = |number: &usize| self.loads[*number] + self.steps[*number] + self.writes[*number] == 0;
+        let lost_codes = codes().filter(never_done).map(|code| format!("code {code:02X} never carried out"));
+        let lost_numbers = (0..NUMBERS).filter(never_met).map(|number| format!("number {number} never met"));
+        lost_codes.chain(lost_numbers).collect()
+    }
+}
+
+fn print_numbers(what: &str, numbers: &[u64]) {
+    let met = numbers.iter().enumerate().filter(|(_, count)| **count > 0);
+    let cells: Vec<String> = met.map(|(number, count)| format!("{number}: {count}")).collect();
+    println!("{what}: {}", cells.join(", "));
+}

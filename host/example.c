@@ -1,0 +1,359 @@
+/* example.c - the main job: loads a BIAS image, steps its three tasks cycle by cycle with a simple axis, and prints a
+ * trace that a person can read. Usage: example [--cycles N] [--quiet] [FILE]
+ */
+#include <stdio.h>
+#include <stdlib.h>
+#include <string.h>
+
+#include "bias.h"
+#include "listing.h"
+
+enum { TASKS = 3, TEXT_ROOM = 96, CHANGES_ROOM = 512, DEFAULT_CYCLES = 3000, EXIT_REFUSED = 1, EXIT_USAGE = 2 };
+#define DEFAULT_IMAGE "host/feed.img"
+
+/* Where a trace finds the rest of the state (docs/STATE.md). Firmware has no need of these: they may move. */
+enum {
+    AT_HEADER = 1536, AT_POSITION = 1544, AT_SPEED = 1548, AT_ACCELERATION = 1550, AT_DECELERATION = 1552,
+    AT_START_MARK = 1554, AT_TASKS = 1560, TASK_LENGTH = 28, IN_TASK_DEPTH = 1, IN_TASK_BLOCK = 2, IN_TASK_TIME = 20,
+    STATUS_RUNNING = 1
+};
+
+/* A motor turn has 16384 increments (the manual's high resolver resolution). */
+#define INCREMENTS_PER_TURN 16384ull
+#define MICROSECONDS_PER_MINUTE 60000000ull
+
+/* An axis without ramps: it moves at the requested speed and stops where it should. A move by a distance counts from the
+ * latest target (the manual at 01); an endless move and a stop leave the target where the axis is. */
+typedef struct {
+    long long position, target, per_cycle;
+    int direction; /* 0 at rest, else the sign of the movement */
+    int endless;
+} axis;
+
+/* What the example holds for one program. */
+typedef struct {
+    uint8_t *image;
+    size_t image_len;
+    uint8_t state[BIAS_STATE_LENGTH];
+    uint8_t inputs[BIAS_INPUTS_LENGTH];
+    axis axis;
+    unsigned long cycles, cycle;
+    unsigned long steps[TASKS], stays[TASKS], requests;
+    int quiet;
+} run;
+
+static unsigned word(const uint8_t *at)
+{
+    return at[0] + 256u * at[1];
+}
+
+static long signed_long(const uint8_t *at)
+{
+    uint32_t value = word(at) + 65536u * word(at + 2);
+    return value < 0x80000000u ? (long)value : -(long)(0xFFFFFFFFu - value) - 1;
+}
+
+static const uint8_t *task_record(const uint8_t *state, unsigned task)
+{
+    return state + AT_TASKS + task * TASK_LENGTH;
+}
+
+/* ---- the axis ---- */
+
+static unsigned cycle_length(const run *program)
+{
+    return program->state[AT_HEADER + 1] < BIAS_TYPE_637_PLUS ? 1899u : 844u;
+}
+
+static void axis_request(run *program, const bias_answer *answer)
+{
+    axis *a = &program->axis;
+    unsigned long long per_minute = answer->speed * INCREMENTS_PER_TURN;
+    a->endless = answer->motion == BIAS_MOTION_ENDLESS_FORWARD || answer->motion == BIAS_MOTION_ENDLESS_BACKWARD;
+    a->per_cycle = (long long)(per_minute * cycle_length(program) / MICROSECONDS_PER_MINUTE);
+    if (a->per_cycle == 0)
+        a->per_cycle = 1;
+    switch (answer->motion) {
+    case BIAS_MOTION_MOVE_TO: a->target = answer->position; break;
+    case BIAS_MOTION_MOVE_BY: a->target += answer->position; break;
+    default: a->target = a->position; break;
+    }
+    a->direction = a->target > a->position ? 1 : a->target < a->position ? -1 : 0;
+    if (a->endless)
+        a->direction = answer->motion == BIAS_MOTION_ENDLESS_FORWARD ? 1 : -1;
+}
+
+static void axis_cycle(axis *a)
+{
+    long long left = a->target > a->position ? a->target - a->position : a->position - a->target;
+    if (a->endless || left > a->per_cycle) {
+        a->position += a->direction * a->per_cycle;
+        a->target = a->endless ? a->position : a->target;
+    } else if (a->direction != 0) {
+        a->position = a->target;
+        a->direction = 0;
+    }
+}
+
+/* ---- the trace ---- */
+
+static void append(char *text, const char *word_text, long value)
+{
+    size_t used = strlen(text);
+    snprintf(text + used, CHANGES_ROOM - used, "%s%s %ld", used == 0 ? "" : ", ", word_text, value);
+}
+
+static void append_numbered(char *text, const char *kind, unsigned number, long value)
+{
+    char name[TEXT_ROOM];
+    snprintf(name, sizeof name, "%s %u =", kind, number);
+    append(text, name, value);
+}
+
+static void value_changes(const uint8_t *before, const uint8_t *after, char *text)
+{
+    for (unsigned n = 0; n < 256; n++) {
+        const size_t at = BIAS_STATE_VARIABLES + 4u * n;
+        if (memcmp(before + at, after + at, 4) != 0)
+            append_numbered(text, "variable", n, signed_long(after + at));
+    }
+    for (unsigned n = 0; n < 256; n++)
+        if (before[BIAS_STATE_FLAGS + n] != after[BIAS_STATE_FLAGS + n])
+            append_numbered(text, "flag", n, after[BIAS_STATE_FLAGS + n]);
+    for (unsigned n = 0; n < 256; n++)
+        if (before[BIAS_STATE_OUTPUTS + n] != after[BIAS_STATE_OUTPUTS + n])
+            append_numbered(text, "output", n, after[BIAS_STATE_OUTPUTS + n]);
+}
+
+static void parameter_changes(const uint8_t *before, const uint8_t *after, char *text)
+{
+    if (memcmp(before + AT_POSITION, after + AT_POSITION, 4) != 0)
+        append(text, "position =", signed_long(after + AT_POSITION));
+    if (memcmp(before + AT_SPEED, after + AT_SPEED, 2) != 0)
+        append(text, "speed =", (long)word(after + AT_SPEED));
+    if (memcmp(before + AT_ACCELERATION, after + AT_ACCELERATION, 2) != 0)
+        append(text, "acceleration = 5 x", (long)word(after + AT_ACCELERATION));
+    if (memcmp(before + AT_DECELERATION, after + AT_DECELERATION, 2) != 0)
+        append(text, "deceleration = 5 x", (long)word(after + AT_DECELERATION));
+    if (before[AT_START_MARK] != after[AT_START_MARK])
+        append(text, "start mark =", after[AT_START_MARK]);
+}
+
+/* Where the stepped task goes, unless to the next block; tasks that are started, end or halt. */
+static void task_changes(const uint8_t *before, const uint8_t *after, unsigned stepped, char *text)
+{
+    for (unsigned task = 0; task < TASKS; task++) {
+        const uint8_t *was = task_record(before, task), *is = task_record(after, task);
+        const unsigned from = word(was + IN_TASK_BLOCK), to = word(is + IN_TASK_BLOCK);
+        char name[TEXT_ROOM];
+        if (task == stepped && was[0] == is[0]) {
+            if (to != from && to != from + 1)
+                append(text, "to block", (long)to);
+            if (was[IN_TASK_DEPTH] != is[IN_TASK_DEPTH])
+                append(text, "depth", is[IN_TASK_DEPTH]);
+        } else if (memcmp(was, is, TASK_LENGTH) != 0) {
+            snprintf(name, sizeof name, "%s %s at block", listing_task(task), listing_status(is[0]));
+            append(text, name, (long)to);
+        }
+    }
+}
+
+static void print_request(const bias_answer *answer)
+{
+    static const char *const names[] = {"", "MOVE TO", "MOVE BY", "ENDLESS FORWARD", "ENDLESS BACKWARD"};
+    if (answer->motion == BIAS_MOTION_STOP)
+        printf("  => STOP mode %u, ramp %u rpm/s", (unsigned)answer->mode, 5u * (unsigned)answer->deceleration);
+    else if (answer->motion != BIAS_MOTION_NONE)
+        printf("  => %s %ld INCR, %u rpm, ramps %u and %u rpm/s", names[answer->motion], (long)answer->position,
+               (unsigned)answer->speed, 5u * (unsigned)answer->acceleration, 5u * (unsigned)answer->deceleration);
+}
+
+/* The block that a task is at, in words. */
+static void print_place(const run *program, unsigned task, const uint8_t *before)
+{
+    const uint8_t *record = task_record(before, task);
+    const unsigned block = word(record + IN_TASK_BLOCK);
+    const size_t first = program->image_len - (size_t)BIAS_BLOCK_LENGTH * word(before + AT_HEADER + 6);
+    char text[TEXT_ROOM];
+    listing_block(program->image + first + (size_t)BIAS_BLOCK_LENGTH * block, text, sizeof text);
+    printf("%7lu  %-4s %5u %5u  %-44s ", program->cycle, listing_task(task), block, record[IN_TASK_DEPTH], text);
+}
+
+static void print_line(const run *program, unsigned task, const uint8_t *before, const bias_answer *answer, int stays)
+{
+    char changes[CHANGES_ROOM] = "";
+    value_changes(before, program->state, changes);
+    parameter_changes(before, program->state, changes);
+    task_changes(before, program->state, task, changes);
+    print_place(program, task, before);
+    if (stays)
+        printf("stays");
+    else if (program->stays[task] != 0)
+        printf("%s%sgoes on after %lu more steps, axis at %lld", changes, changes[0] == '\0' ? "" : "; ",
+               program->stays[task], program->axis.position);
+    else
+        printf("%s", changes[0] == '\0' ? "-" : changes);
+    print_request(answer);
+    if (answer->number != BIAS_SUCCESS)
+        printf("  HALTED by %u: %s", (unsigned)answer->number, listing_refusal(answer->number));
+    printf("\n");
+}
+
+/* A task that stays at its block is shown once, and again when it goes on. */
+static void trace(run *program, unsigned task, const uint8_t *before, const bias_answer *answer)
+{
+    const uint8_t *was = task_record(before, task), *is = task_record(program->state, task);
+    const int same = memcmp(was, is, IN_TASK_TIME) == 0 && answer->motion == BIAS_MOTION_NONE
+        && memcmp(before, program->state, AT_HEADER) == 0;
+    const int waiting = same && answer->number == BIAS_SUCCESS;
+    const int shown = program->quiet ? answer->motion != BIAS_MOTION_NONE || answer->number != BIAS_SUCCESS
+                                     : !waiting || program->stays[task] == 0;
+    if (shown)
+        print_line(program, task, before, answer, waiting);
+    program->stays[task] = waiting ? program->stays[task] + 1 : 0;
+}
+
+/* ---- the run ---- */
+
+/* One step of one task. Gives 0 when a refusal came that no accepted program can meet. */
+static int step_task(run *program, unsigned task, int reached)
+{
+    uint8_t before[BIAS_STATE_LENGTH];
+    memcpy(before, program->state, sizeof before);
+    bias_answer answer = bias_step(program->image, program->image_len, program->state, sizeof program->state, task,
+                                   program->inputs, sizeof program->inputs, 0, (uint8_t)reached);
+    if (answer.number == BIAS_NOT_RUNNING)
+        return 1;
+    if (answer.number == BIAS_BAD_INPUTS || answer.number == BIAS_NO_STATE || answer.number == BIAS_OTHER_IMAGE) {
+        printf("step refused by %u: %s\n", (unsigned)answer.number, listing_refusal(answer.number));
+        return 0;
+    }
+    trace(program, task, before, &answer);
+    program->steps[task]++;
+    if (answer.motion != BIAS_MOTION_NONE) {
+        program->requests++;
+        axis_request(program, &answer);
+    }
+    return 1;
+}
+
+/* Document 01: BIAS, PLC and mathematics, one command each in a trajectory cycle; then the axis moves. */
+static int run_cycles(run *program)
+{
+    for (program->cycle = 0; program->cycle < program->cycles; program->cycle++) {
+        const int reached = program->axis.direction == 0;
+        for (unsigned task = 0; task < TASKS; task++)
+            if (!step_task(program, task, reached))
+                return 0;
+        axis_cycle(&program->axis);
+    }
+    return 1;
+}
+
+static void print_summary(const run *program)
+{
+    printf("%lu cycles of %u us, %lu motion requests, axis at %lld\n", program->cycles, cycle_length(program),
+           program->requests, program->axis.position);
+    for (unsigned task = 0; task < TASKS; task++) {
+        const uint8_t *record = task_record(program->state, task);
+        printf("%-4s %s", listing_task(task), listing_status(record[0]));
+        if (record[0] == STATUS_RUNNING)
+            printf(" at block %u, depth %u", word(record + IN_TASK_BLOCK), record[IN_TASK_DEPTH]);
+        printf(", %lu steps\n", program->steps[task]);
+    }
+}
+
+static int load(run *program, const char *name)
+{
+    uint8_t *marks = malloc(BIAS_MARKS_LENGTH);
+    if (marks == NULL)
+        return 0;
+    bias_verdict verdict = bias_load(program->image, program->image_len, marks, BIAS_MARKS_LENGTH, program->state,
+                                     sizeof program->state);
+    free(marks);
+    if (verdict.number == BIAS_SUCCESS) {
+        printf("%s: accepted, %lu bytes, drive %s, program start %u, %u blocks\n", name, (unsigned long)program->image_len,
+               listing_type(program->state[AT_HEADER + 1]), word(program->state + AT_HEADER + 4),
+               word(program->state + AT_HEADER + 6));
+        return 1;
+    }
+    fprintf(stderr, "%s: refused by %u at %s %llu", name, (unsigned)verdict.number, listing_place(verdict.number),
+            (unsigned long long)verdict.place);
+    if (verdict.number >= BIAS_FORBIDDEN && verdict.number <= BIAS_PAST_END)
+        fprintf(stderr, ", task %s, depth %u", listing_task(verdict.task), (unsigned)verdict.depth);
+    fprintf(stderr, ": %s\n", listing_refusal(verdict.number));
+    return 0;
+}
+
+/* Reads a whole file; one byte more than the longest image is enough to have it refused. */
+static int read_image(run *program, const char *name)
+{
+    FILE *file = fopen(name, "rb");
+    program->image = malloc(BIAS_MOST_IMAGE_LENGTH + 1);
+    if (file == NULL || program->image == NULL) {
+        perror(name);
+        if (file != NULL)
+            fclose(file);
+        return 0;
+    }
+    program->image_len = fread(program->image, 1, BIAS_MOST_IMAGE_LENGTH + 1, file);
+    const int good = !ferror(file);
+    fclose(file);
+    if (!good)
+        perror(name);
+    return good;
+}
+
+static void usage(FILE *to)
+{
+    fprintf(to, "usage: example [--cycles N] [--quiet] [FILE]\n"
+                "Loads a BIAS image (default " DEFAULT_IMAGE "), runs it for N trajectory cycles (default %d)\n"
+                "with a simple axis, and prints each step: cycle, task, block, depth, command, what changed,\n"
+                "motion request. --quiet prints motion requests, halts and the summary only.\n", DEFAULT_CYCLES);
+}
+
+/* Gives the image's name, or NULL after a message. */
+static const char *options(run *program, int argc, char **argv)
+{
+    const char *name = DEFAULT_IMAGE;
+    for (int at = 1; at < argc; at++) {
+        char *end = NULL;
+        if (strcmp(argv[at], "--quiet") == 0) {
+            program->quiet = 1;
+        } else if (strcmp(argv[at], "--cycles") == 0 && at + 1 < argc) {
+            program->cycles = strtoul(argv[++at], &end, 10);
+            if (*end != '\0' || end == argv[at])
+                return NULL;
+        } else if (argv[at][0] == '-') {
+            return NULL;
+        } else {
+            name = argv[at];
+        }
+    }
+    return name;
+}
+
+int main(int argc, char **argv)
+{
+    static run program;
+    program.cycles = DEFAULT_CYCLES;
+    if (argc == 2 && strcmp(argv[1], "--help") == 0) {
+        usage(stdout);
+        return EXIT_SUCCESS;
+    }
+    const char *name = options(&program, argc, argv);
+    if (name == NULL) {
+        usage(stderr);
+        return EXIT_USAGE;
+    }
+    if (!read_image(&program, name))
+        return EXIT_USAGE;
+    int good = load(&program, name);
+    if (good) {
+        printf("%7s  %-4s %5s %5s  %-44s %s\n", "cycle", "task", "block", "depth", "command", "what changed => motion request");
+        good = run_cycles(&program);
+        print_summary(&program);
+    }
+    free(program.image);
+    return good ? EXIT_SUCCESS : EXIT_REFUSED;
+}

@@ -1,0 +1,444 @@
+/* fuzz.c - the C border under odd lengths and contents. Every lent buffer ends (or begins) at a page that must not be
+ * touched, lies at any alignment, and has guard bytes around it; buffers that are only read are write-protected during
+ * the call. Each call is done twice at different places and must answer and leave the same. To be built with
+ * -fsanitize=address,undefined. Usage: fuzz [--seed S] [--calls N]
+ */
+#define _DEFAULT_SOURCE
+#include <stdio.h>
+#include <stdlib.h>
+#include <string.h>
+#include <sys/mman.h>
+#include <unistd.h>
+
+#include "bias.h"
+
+enum { GUARD = 0xA5, DEFAULT_CALLS = 100000, TASKS = 3, HIGHEST_NUMBER = 20 };
+#define DEFAULT_SEED 631u
+
+/* ---- random numbers ---- */
+
+static uint64_t random_state;
+
+static uint64_t random_next(void)
+{
+    uint64_t mixed = random_state += 0x9E3779B97F4A7C15u;
+    mixed = (mixed ^ (mixed >> 30)) * 0xBF58476D1CE4E5B9u;
+    mixed = (mixed ^ (mixed >> 27)) * 0x94D049BB133111EBu;
+    return mixed ^ (mixed >> 31);
+}
+
+static size_t random_below(size_t limit)
+{
+    return (size_t)(random_next() % limit);
+}
+
+/* ---- buffers between forbidden pages ---- */
+
+typedef struct {
+    uint8_t *data;       /* readable pages, a forbidden page on either side */
+    size_t room;
+    uint8_t *bytes;      /* the lent buffer within them */
+    size_t length;
+} region;
+
+static unsigned long current_call;
+static unsigned long loads[HIGHEST_NUMBER + 1], steps[HIGHEST_NUMBER + 1], writes[HIGHEST_NUMBER + 1];
+
+static void fail(const char *what)
+{
+    fprintf(stderr, "fuzz: call %lu: %s\n", current_call, what);
+    exit(1);
+}
+
+static void check(int holds, const char *what)
+{
+    if (!holds)
+        fail(what);
+}
+
+static void region_open(region *r, size_t least)
+{
+    const size_t page = (size_t)sysconf(_SC_PAGESIZE);
+    r->room = (least + page - 1) / page * page;
+    uint8_t *all = mmap(NULL, r->room + 2 * page, PROT_NONE, MAP_PRIVATE | MAP_ANONYMOUS, -1, 0);
+    check(all != MAP_FAILED, "no memory");
+    r->data = all + page;
+    check(mprotect(r->data, r->room, PROT_READ | PROT_WRITE) == 0, "no memory");
+}
+
+/* Lays a content at the end (or the beginning) of the pages, some bytes away from it; all else is guard bytes. */
+static void region_place(region *r, const uint8_t *content, size_t length, int at_end, size_t away)
+{
+    check(length + away <= r->room, "a test's buffer is too long");
+    memset(r->data, GUARD, r->room);
+    r->bytes = at_end ? r->data + r->room - length - away : r->data + away;
+    r->length = length;
+    if (length != 0)
+        memcpy(r->bytes, content, length);
+}
+
+static void region_lock(const region *r)
+{
+    check(mprotect(r->data, r->room, PROT_READ) == 0, "mprotect");
+}
+
+static void region_unlock(const region *r)
+{
+    check(mprotect(r->data, r->room, PROT_READ | PROT_WRITE) == 0, "mprotect");
+}
+
+static int only_guards(const uint8_t *from, const uint8_t *to)
+{
+    for (; from < to; from++)
+        if (*from != GUARD)
+            return 0;
+    return 1;
+}
+
+static void region_check(const region *r, const char *what)
+{
+    check(only_guards(r->data, r->bytes) && only_guards(r->bytes + r->length, r->data + r->room), what);
+}
+
+/* ---- what is lent ---- */
+
+enum { MOST_CONTENT = 65536 };
+
+typedef struct {
+    uint8_t bytes[MOST_CONTENT];
+    size_t length;
+} content;
+
+static content image, marks, state, inputs, blocks, out;
+static region image_region, marks_region, state_region, inputs_region, blocks_region, out_region;
+
+/* A program with all three tasks, calls, waits and a division that can halt. */
+static const uint8_t program[][BIAS_BLOCK_LENGTH] = {
+    {0x54, 8, 0}, {0x90, 12, 0}, {0x52, 15, 0}, {0x0E}, {0x01}, {0x58}, {0x59, 3, 0}, {0x51, 0},
+    {0x72, 12, 1}, {0x63, 1, 11}, {0x57, 2, 0}, {0x51, 0},
+    {0x82, 1, 1, 1, 0, 0, 0}, {0x8D, 2, 1, 1}, {0x51, 0},
+    {0x20, 1, 2, 3, 4}, {0x52, 18, 0}, {0x53},
+    {0x86, 3, 0, 32}, {0x53},
+};
+
+static void content_fill(content *c, size_t length)
+{
+    c->length = length;
+    for (size_t at = 0; at < length; at++)
+        c->bytes[at] = (uint8_t)random_next();
+}
+
+static void content_damage(content *c)
+{
+    for (size_t times = random_below(3); times > 0 && c->length > 0; times--)
+        c->bytes[random_below(c->length)] = (uint8_t)random_next();
+}
+
+static size_t odd_length(size_t right)
+{
+    switch (random_below(8)) {
+    case 0: return 0;
+    case 1: return 1;
+    case 2: return right - 1;
+    case 3: return right + 1;
+    case 4: return random_below(2 * right);
+    default: return right;
+    }
+}
+
+/* A program's image, whole, damaged, cut off, lengthened, or noise. */
+static void draw_image(void)
+{
+    bias_verdict verdict = bias_write(BIAS_FORMAT, BIAS_TYPE_637, 0, 0, 0, sizeof program / sizeof program[0],
+                                      &program[0][0], sizeof program, image.bytes, sizeof image.bytes);
+    check(verdict.number == BIAS_SUCCESS, "the program was not written");
+    image.length = (size_t)verdict.place;
+    switch (random_below(6)) {
+    case 0: content_damage(&image); break;
+    case 1: image.length = random_below(image.length + 1); break;
+    case 2: image.length += random_below(20); break;
+    case 3: content_fill(&image, random_below(64)); break;
+    default: break;
+    }
+}
+
+/* ---- loads ---- */
+
+static bias_verdict place_and_load(int at_end)
+{
+    const size_t away = random_below(8);
+    region_place(&image_region, image.bytes, image.length, at_end, 0);
+    region_place(&marks_region, marks.bytes, marks.length, at_end, away);
+    region_place(&state_region, state.bytes, state.length, at_end, at_end ? 0 : away);
+    region_lock(&image_region);
+    bias_verdict verdict = bias_load(image_region.bytes, image_region.length, marks_region.bytes, marks_region.length,
+                                     state_region.bytes, state_region.length);
+    region_unlock(&image_region);
+    region_check(&marks_region, "wrote outside the marks");
+    region_check(&state_region, "wrote outside the state");
+    return verdict;
+}
+
+static int same_verdicts(bias_verdict a, bias_verdict b)
+{
+    return a.place == b.place && a.number == b.number && a.task == b.task && a.depth == b.depth;
+}
+
+static void check_load(bias_verdict verdict)
+{
+    check(verdict.number <= BIAS_MARKS_SHORT || verdict.number == BIAS_NO_STATE, "load: no such number");
+    if (verdict.number == BIAS_SUCCESS)
+        check(verdict.place == 0 && verdict.task == 0 && verdict.depth == 0, "load: success with a place");
+    else
+        check(memcmp(state_region.bytes, state.bytes, state.length) == 0, "load: refused, and the state was written");
+    if (marks.length > BIAS_MARKS_LENGTH)
+        check(memcmp(marks_region.bytes + BIAS_MARKS_LENGTH, marks.bytes + BIAS_MARKS_LENGTH,
+                     marks.length - BIAS_MARKS_LENGTH) == 0, "load: marks past 40,500 were written");
+    check(verdict.number < BIAS_FORBIDDEN || verdict.number > BIAS_PAST_END
+          || (verdict.task < TASKS && verdict.depth <= BIAS_MOST_DEPTH), "load: no such place");
+}
+
+static void fuzz_load(void)
+{
+    draw_image();
+    marks.length = random_below(8) == 0 ? odd_length(BIAS_MARKS_LENGTH) : BIAS_MARKS_LENGTH;
+    if (marks.length > sizeof marks.bytes)
+        marks.length = sizeof marks.bytes;
+    content_fill(&state, random_below(8) == 0 ? odd_length(BIAS_STATE_LENGTH) : BIAS_STATE_LENGTH);
+    bias_verdict first = place_and_load(1);
+    check_load(first);
+    loads[first.number]++;
+    static content left;
+    left.length = state.length;
+    if (left.length != 0)
+        memcpy(left.bytes, state_region.bytes, left.length);
+    bias_verdict second = place_and_load(0);
+    check_load(second);
+    check(same_verdicts(first, second), "load: another answer at another place");
+    check(memcmp(left.bytes, state_region.bytes, left.length) == 0, "load: another state at another place");
+}
+
+/* ---- steps ---- */
+
+typedef struct {
+    uint32_t task;
+    uint8_t start, reached;
+} levels;
+
+static bias_answer place_and_step(int at_end, levels given)
+{
+    const size_t away = random_below(8);
+    region_place(&image_region, image.bytes, image.length, at_end, 0);
+    region_place(&state_region, state.bytes, state.length, at_end, at_end ? 0 : away);
+    region_place(&inputs_region, inputs.bytes, inputs.length, at_end, at_end ? 0 : away);
+    region_lock(&image_region);
+    region_lock(&inputs_region);
+    bias_answer answer = bias_step(image_region.bytes, image_region.length, state_region.bytes, state_region.length,
+                                   given.task, inputs_region.bytes, inputs_region.length, given.start, given.reached);
+    region_unlock(&image_region);
+    region_unlock(&inputs_region);
+    region_check(&state_region, "wrote outside the state");
+    return answer;
+}
+
+static int same_answers(const bias_answer *a, const bias_answer *b)
+{
+    return a->place == b->place && a->number == b->number && a->task == b->task && a->depth == b->depth
+        && a->motion == b->motion && a->position == b->position && a->speed == b->speed
+        && a->acceleration == b->acceleration && a->deceleration == b->deceleration && a->mode == b->mode;
+}
+
+static void check_step(const bias_answer *answer)
+{
+    const int move = answer->motion >= BIAS_MOTION_MOVE_TO && answer->motion <= BIAS_MOTION_ENDLESS_BACKWARD;
+    check(answer->number == BIAS_SUCCESS
+          || (answer->number >= BIAS_BAD_INPUTS && answer->number <= HIGHEST_NUMBER), "step: no such number");
+    check(answer->motion <= BIAS_MOTION_STOP, "step: no such motion");
+    check(answer->number == BIAS_SUCCESS || answer->motion == BIAS_MOTION_NONE, "step: refused, with a motion");
+    check(move || (answer->position == 0 && answer->speed == 0 && answer->acceleration == 0), "step: a field too many");
+    check(answer->motion != BIAS_MOTION_NONE || (answer->deceleration == 0 && answer->mode == 0), "step: a field too many");
+    if (answer->number >= BIAS_BAD_INPUTS && answer->number <= BIAS_NOT_RUNNING)
+        check(memcmp(state_region.bytes, state.bytes, state.length) == 0, "step: refused, and the state was written");
+}
+
+/* The image that was loaded, and the state that the next step is done on: what the last one left. */
+static content loaded, running;
+
+/* Mostly an accepted image. */
+static void fresh_run(void)
+{
+    bias_verdict verdict;
+    state.length = BIAS_STATE_LENGTH;
+    do {
+        draw_image();
+        verdict = bias_load(image.bytes, image.length, marks.bytes, BIAS_MARKS_LENGTH, state.bytes, state.length);
+    } while (verdict.number != BIAS_SUCCESS && random_below(20) != 0);
+    loaded = image;
+    running = state;
+}
+
+static void fuzz_step(void)
+{
+    levels given = {(uint32_t)random_below(TASKS), (uint8_t)random_below(2), (uint8_t)random_below(2)};
+    if (random_below(200) == 0)
+        fresh_run();
+    image = loaded;
+    state = running;
+    if (random_below(50) == 0)
+        content_damage(&image);
+    if (random_below(50) == 0)
+        given.task = (uint32_t)random_next();
+    if (random_below(20) == 0)
+        content_damage(&state);
+    if (random_below(40) == 0)
+        content_fill(&state, odd_length(BIAS_STATE_LENGTH));
+    content_fill(&inputs, random_below(40) == 0 ? odd_length(BIAS_INPUTS_LENGTH) : BIAS_INPUTS_LENGTH);
+    bias_answer first = place_and_step(1, given);
+    check_step(&first);
+    steps[first.number]++;
+    static content left;
+    left.length = state.length;
+    if (left.length != 0)
+        memcpy(left.bytes, state_region.bytes, left.length);
+    bias_answer second = place_and_step(0, given);
+    check_step(&second);
+    check(same_answers(&first, &second), "step: another answer at another place");
+    check(memcmp(left.bytes, state_region.bytes, left.length) == 0, "step: another state at another place");
+    if (first.number == BIAS_SUCCESS)
+        running = left;
+}
+
+/* ---- writes ---- */
+
+typedef struct {
+    uint32_t format, type, slot_b, slot_c, start, count;
+} header;
+
+static bias_verdict place_and_write(int at_end, header h)
+{
+    const size_t away = random_below(8);
+    region_place(&blocks_region, blocks.bytes, blocks.length, at_end, 0);
+    region_place(&out_region, out.bytes, out.length, at_end, at_end ? 0 : away);
+    region_lock(&blocks_region);
+    bias_verdict verdict = bias_write(h.format, h.type, h.slot_b, h.slot_c, h.start, h.count, blocks_region.bytes,
+                                      blocks_region.length, out_region.bytes, out_region.length);
+    region_unlock(&blocks_region);
+    region_check(&out_region, "wrote outside the image");
+    return verdict;
+}
+
+static void check_write(bias_verdict verdict)
+{
+    const size_t written = verdict.number == BIAS_SUCCESS ? (size_t)verdict.place : 0;
+    check(verdict.number == BIAS_SUCCESS || verdict.number == BIAS_ENDS_EARLY || verdict.number == BIAS_BAD_HEADER
+          || verdict.number == BIAS_LEFT_OVER || verdict.number == BIAS_ROOM_SHORT, "write: no such number");
+    check(verdict.task == 0 && verdict.depth == 0, "write: a task or depth");
+    check(written <= out.length, "write: longer than its room");
+    check(memcmp(out_region.bytes + written, out.bytes + written, out.length - written) == 0,
+          "write: bytes behind the image were written");
+}
+
+static uint32_t odd_number(uint32_t right)
+{
+    return random_below(10) == 0 ? (uint32_t)random_next() >> random_below(32) : right;
+}
+
+static void fuzz_write(void)
+{
+    const uint32_t count = odd_number((uint32_t)random_below(1500) + 1);
+    const size_t right = BIAS_BLOCK_LENGTH * (count <= 1600 ? (size_t)count : 1600);
+    header h = {odd_number(1), odd_number((uint32_t)random_below(5)), odd_number(0), odd_number(0),
+                odd_number((uint32_t)random_below(count < 1500 ? count + 1 : 1500)), count};
+    content_fill(&blocks, random_below(4) == 0 ? odd_length(right + 1) : right);
+    content_fill(&out, random_below(2) == 0 ? odd_length(right + 7) : right + 8);
+    bias_verdict first = place_and_write(1, h);
+    check_write(first);
+    writes[first.number]++;
+    bias_verdict second = place_and_write(0, h);
+    check_write(second);
+    check(same_verdicts(first, second), "write: another answer at another place");
+}
+
+/* ---- lengths of hundreds of megabytes, on memory that is there but mostly untouched ---- */
+
+#define HUGE ((size_t)384 << 20)
+
+static void fuzz_huge(void)
+{
+    uint8_t *huge = mmap(NULL, HUGE, PROT_READ | PROT_WRITE, MAP_PRIVATE | MAP_ANONYMOUS | MAP_NORESERVE, -1, 0);
+    check(huge != MAP_FAILED, "no memory");
+    fresh_run();
+    bias_verdict verdict = bias_load(huge, HUGE, marks.bytes, BIAS_MARKS_LENGTH, state.bytes, state.length);
+    check(verdict.number == BIAS_BAD_HEADER && verdict.place == 0, "a huge image");
+    verdict = bias_load(image.bytes, 0, huge, HUGE, state.bytes, state.length);
+    check(verdict.number == BIAS_ENDS_EARLY && verdict.place == 0, "huge marks");
+    verdict = bias_load(image.bytes, image.length, marks.bytes, BIAS_MARKS_LENGTH, huge, HUGE);
+    check(verdict.number == BIAS_NO_STATE && verdict.place == 0, "a huge state");
+    bias_answer answer = bias_step(image.bytes, image.length, state.bytes, state.length, 0, huge, HUGE, 0, 0);
+    check(answer.number == BIAS_BAD_INPUTS && answer.place == HUGE, "huge inputs");
+    answer = bias_step(image.bytes, image.length, huge, HUGE, 0, inputs.bytes, BIAS_INPUTS_LENGTH, 0, 0);
+    check(answer.number == BIAS_NO_STATE && answer.place == 0, "a huge state to step");
+    verdict = bias_write(1, 2, 0, 0, 0, 1, huge, HUGE, out.bytes, sizeof out.bytes);
+    check(verdict.number == BIAS_LEFT_OVER && verdict.place == HUGE, "huge blocks");
+    verdict = bias_write(1, 2, 0, 0, 0, 1, blocks.bytes, BIAS_BLOCK_LENGTH, huge, HUGE);
+    check(verdict.number == BIAS_SUCCESS && verdict.place == 6 + BIAS_BLOCK_LENGTH, "huge room");
+    memcpy(huge, (const uint8_t[]){1, 2, 0, 0, 0, 1, 0x55, 0, 0, 0, 0, 0, 0, 0}, 14);
+    verdict = bias_load(huge, HUGE, marks.bytes, BIAS_MARKS_LENGTH, state.bytes, BIAS_STATE_LENGTH);
+    check(verdict.number == BIAS_LEFT_OVER && verdict.place == 14, "a huge image with a good front");
+    munmap(huge, HUGE);
+}
+
+/* ---- all of it ---- */
+
+static void open_regions(void)
+{
+    region_open(&image_region, 4096);
+    region_open(&marks_region, MOST_CONTENT + 8);
+    region_open(&state_region, 2 * BIAS_STATE_LENGTH + 8);
+    region_open(&inputs_region, 2 * BIAS_INPUTS_LENGTH + 8);
+    region_open(&blocks_region, 32768);
+    region_open(&out_region, 32768);
+    content_fill(&marks, sizeof marks.bytes);
+}
+
+static void print_numbers(const char *what, const unsigned long *numbers)
+{
+    printf("%s by number:", what);
+    for (int number = 0; number <= HIGHEST_NUMBER; number++)
+        if (numbers[number] != 0)
+            printf(" %d: %lu", number, numbers[number]);
+    printf("\n");
+}
+
+int main(int argc, char **argv)
+{
+    unsigned long calls = DEFAULT_CALLS;
+    random_state = DEFAULT_SEED;
+    for (int at = 1; at < argc; at += 2) {
+        if (at + 1 < argc && strcmp(argv[at], "--seed") == 0) {
+            random_state = strtoull(argv[at + 1], NULL, 10);
+        } else if (at + 1 < argc && strcmp(argv[at], "--calls") == 0) {
+            calls = strtoul(argv[at + 1], NULL, 10);
+        } else {
+            fprintf(stderr, "usage: fuzz [--seed S] [--calls N]\n");
+            return 2;
+        }
+    }
+    open_regions();
+    fuzz_huge();
+    fresh_run();
+    for (current_call = 0; current_call < calls; current_call++) {
+        const size_t kind = random_below(20);
+        if (kind < 2)
+            fuzz_load();
+        else if (kind < 18)
+            fuzz_step();
+        else
+            fuzz_write();
+    }
+    print_numbers("loads", loads);
+    print_numbers("steps", steps);
+    print_numbers("writes", writes);
+    printf("fuzz: %lu calls, each at two places, and the huge ones: nothing found\n", calls);
+    return 0;
+}

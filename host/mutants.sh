@@ -1,0 +1,75 @@
+#!/bin/sh
+# Tests the differential tests: puts one fault at a time into the stand-in and demands that the random part of host/diff
+# finds it. Takes some minutes, so it is not in the gate. Needs host/build.sh to have run. Usage: host/mutants.sh [NAME]
+set -eu
+cd "$(dirname "$0")/.."
+out=target/host
+work=$out/mutant
+passed=0
+failed=0
+
+# name, file of host/reference, sed command; the first twelve are document 01's own list of faults
+mutant() {
+    [ "${only:-$1}" = "$1" ] || return 0
+    rm -rf "$work" && mkdir -p "$work" && cp host/reference/*.rs "$work"
+    sed -i "$3" "$work/$2"
+    if cmp -s "$work/$2" "host/reference/$2"; then
+        echo "FAILED  $1: the edit changed nothing"
+        failed=$((failed + 1))
+        return 0
+    fi
+    rustc --edition 2021 -O --cap-lints allow --cfg stand_in --crate-type staticlib --crate-name mutant \
+        "$work/lib.rs" -o "$work/libmutant.a"
+    rustc --edition 2021 -C opt-level=1 host/diff.rs --extern reference="$out/libreference.rlib" \
+        -C link-arg="$work/libmutant.a" -o "$work/diff"
+    if "$work/diff" --random > "$work/log" 2>&1; then
+        echo "FAILED  $1: not found"
+        failed=$((failed + 1))
+    else
+        echo "found   $1: $(tail -n 1 "$work/log")"
+        passed=$((passed + 1))
+    fi
+}
+
+only=${1:-}
+mutant one_path_for_all_tasks state.rs 's/record(task) + PATH + 2 \* depth/record(0) + PATH + 2 * depth/'
+mutant output_8_writable drive.rs 's/12 | 13 | 20 | 23 => true/8 | 12 | 13 | 20 | 23 => true/'
+mutant high_start_at_load_is_a_slope state.rs 's/state.set_start_level(1)/state.set_start_level(0)/'
+mutant wait_ends_at_526 state.rs 's/self.turns as u64 \* drive.cycle_length() >=/(self.turns as u64 + 1) * drive.cycle_length() >/'
+mutant marks_without_depth walk.rs 's/ + place.depth\];/];/'
+mutant always_17 engine.rs 's/if header != state.header()/if true/'
+mutant pointer_never_moves engine.rs 's/Onward::Next => state.set_block(task, next)/Onward::Next => ()/'
+mutant only_the_first_block engine.rs 's/let effect = perform(state, &turn);/let effect = if place.block == 0 { perform(state, \&turn) } else { Ok(crate::effect::Effect { onward: Onward::Next, request: crate::answer::Request::None }) };/'
+mutant refuses_everything loader.rs 's/let verdict = judge_program(&header, blocks, marks);/let verdict = Verdict::at(PAST_END, 0);/'
+mutant accepts_everything loader.rs 's/let verdict = judge_program(&header, blocks, marks);/let verdict = Verdict::at(SUCCESS, 0);/'
+mutant eighteen_before_a_start engine.rs 's/if state.status(task) != RUNNING/if state.status(task) != ENDED/'
+mutant fourteen_with_room_enough image.rs 's/if out.len() < length/if out.len() <= length/'
+mutant foreign_51_let_pass walk.rs 's/block\[0\] == 0x51 \&\& block\[1\] != 0/block[0] == 0x02 \&\& block[1] != 0/'
+mutant stop_1F_in_BIAS_alone command.rs 's/plain(0x1F, 3, B | P)/plain(0x1F, 3, B)/'
+mutant bit_jump_on_637_plus drive.rs 's/self.kind != TYPE_637_PLUS$/self.kind != 9/'
+mutant address_of_81_turned_round command.rs 's/\[block\[7\], block\[6\] & 0x0F\]/[block[6] \& 0x0F, block[7]]/'
+mutant positive_compares_values effect.rs 's/6 => first.wrapping_sub(second) >= 0/6 => first >= second/'
+mutant odd_wait_not_rounded effect.rs 's/time - time % 2/time/'
+mutant wait_59_counts_ms effect.rs 's/Ok(2 \* word(block, 1) as u32)/Ok(word(block, 1) as u32)/'
+mutant level_not_noted_when_halted engine.rs 's/if place.task == BIAS {/if place.task == BIAS \&\& effect.is_ok() {/'
+mutant level_noted_by_the_PLC engine.rs 's/if place.task == BIAS {/if place.task != MATHEMATICS {/'
+mutant start_mark_stays effect.rs 's/state.set_start_mark(0);//'
+mutant entry_left_above_the_depth state.rs 's/self.put_word(entry, 0);//'
+mutant restart_keeps_the_path engine.rs 's/Onward::Restart => state.put_task(task, RUNNING, state.start(task))/Onward::Restart => state.set_block(task, state.start(task))/'
+mutant start_keeps_the_start_block engine.rs 's/state.set_start(other, block);//'
+mutant least_by_block_first walk.rs 's/place < least)/(place.block, place.task) < (least.block, least.task))/'
+mutant last_flag_not_for_86 command.rs 's/block\[3\] as u32 <= 256/block[3] as u32 <= 255/'
+mutant last_byte_not_looked_at state.rs 's/together(&bytes\[UNUSED..\])/together(\&bytes[UNUSED..STATE_LENGTH - 1])/'
+mutant wait_due_is_a_state state.rs 's/ \&\& !wait.due(&header.drive)//'
+mutant wait_anywhere engine.rs 's/matches!(block\[0\], 0x59 | 0x5A)/true/'
+mutant quotient_rounded_down effect.rs 's/_ => of(y).wrapping_div(of(z))/_ => of(y).wrapping_div_euclid(of(z))/'
+mutant call_at_the_end walk.rs 's/row.next \&\& place.block + 1/row.next \&\& row.code != 0x52 \&\& place.block + 1/'
+mutant speed_as_wide_as_a_ramp effect.rs 's/within(content(), MOST_SPEED)/within(content(), MOST_RAMP)/'
+mutant count_always_at_byte_5 image.rs 's/bad(count_at)/bad(5)/'
+mutant level_as_given effect.rs 's/u8::from(turn.inputs\[pin as usize\] != 0)/turn.inputs[pin as usize]/'
+mutant state_written_when_refused loader.rs 's/if verdict.number == SUCCESS {/if verdict.number != FORBIDDEN {/'
+mutant all_marks_wiped walk.rs 's/&mut marks\[..MARKS_LENGTH\]/\&mut marks[..]/'
+mutant ramp_of_0F_is_acceleration effect.rs 's/if code == 0x0F { state.deceleration() }/if code == 0x0F { state.acceleration() }/'
+mutant slope_without_memory effect.rs 's/turn.start == 1 \&\& state.start_level() == 0/turn.start == 1/'
+echo "$passed found, $failed failed"
+[ "$failed" -eq 0 ]

@@ -1,0 +1,54 @@
+//! The numbers of the papers, each named once: limits, tasks, and document 01's refusals.
+
+/// Document 01, "The image": the only format there is.
+pub const FORMAT: u32 = 1;
+/// "block count (1 to 1500)".
+pub const MOST_BLOCKS: usize = 1500;
+/// "A block is a code byte and D1 to D7".
+pub const BLOCK_LENGTH: usize = 8;
+/// "BIAS, PLC, mathematics".
+pub const TASKS: usize = 3;
+/// "depth (0 to 8)": the longest return path.
+pub const MOST_DEPTH: usize = 8;
+/// A mark for each place: task, block, depth. 40,500 of them (13).
+pub const MARKS_LENGTH: usize = TASKS * MOST_BLOCKS * (MOST_DEPTH + 1);
+/// "256 input levels, one byte for each pin number".
+pub const INPUTS_LENGTH: usize = 256;
+
+/// Task numbers of document 01, "Walks".
+pub const BIAS: usize = 0;
+pub const PLC: usize = 1;
+pub const MATHEMATICS: usize = 2;
+
+/// Ranges of document 01, "The commands carried".
+pub const MOST_SPEED: u32 = 12_000;
+pub const MOST_RAMP: u32 = 64_000;
+/// The manual at 5A: "permissible variable content: 0...65535".
+pub const MOST_VARIABLE_WAIT: i32 = 65_535;
+/// The manual at 59: "0...131070 ms".
+pub const MOST_WAIT: u32 = 131_070;
+
+/// Document 01, "Refused because of the input".
+pub const SUCCESS: u32 = 0;
+pub const ENDS_EARLY: u32 = 1;
+pub const NOT_SHORTEST: u32 = 2;
+pub const BAD_HEADER: u32 = 3;
+pub const LEFT_OVER: u32 = 4;
+pub const BAD_CODE: u32 = 5;
+pub const NOT_ON_DRIVE: u32 = 6;
+pub const BAD_OPERAND: u32 = 7;
+pub const UNUSED_NOT_ZERO: u32 = 8;
+pub const FORBIDDEN: u32 = 9;
+pub const TOO_DEEP: u32 = 10;
+pub const NO_CALL: u32 = 11;
+pub const PAST_END: u32 = 12;
+pub const MARKS_SHORT: u32 = 13;
+pub const ROOM_SHORT: u32 = 14;
+pub const BAD_INPUTS: u32 = 15;
+
+/// Document 01, "Refused because of the state".
+pub const NO_STATE: u32 = 16;
+pub const OTHER_IMAGE: u32 = 17;
+pub const NOT_RUNNING: u32 = 18;
+pub const ZERO_DIVISOR: u32 = 19;
+pub const BAD_CONTENT: u32 = 20;

@@ -1,0 +1,146 @@
+//! The manual's examples run on the reference: reads lines of an image and steps, prints a trace.
+//! A line is the image and records of steps, both in hexadecimal digits, with a space between them.
+
+use reference::answer::{Answer, STOP};
+use reference::engine::Given;
+use reference::image;
+use reference::number::*;
+use reference::state::{State, RUNNING, STATE_LENGTH};
+use std::fmt::Write as _;
+use std::io::{self, BufRead, Write as _};
+
+/// Bytes of a record of steps.
+const RECORD_LENGTH: usize = 8;
+
+/// One step of an example, to be done `times` times.
+struct Step {
+    times: usize,
+    task: u32,
+    start: u8,
+    reached: u8,
+    inputs: [u8; INPUTS_LENGTH],
+}
+
+fn main() -> io::Result<()> {
+    let mut out = String::new();
+    for (number, line) in io::stdin().lock().lines().enumerate() {
+        let _ = writeln!(out, "example {}", number + 1);
+        example(&line?, &mut out);
+    }
+    io::stdout().write_all(out.as_bytes())
+}
+
+fn bytes_of(text: &str) -> Vec<u8> {
+    let digits = text.as_bytes().chunks(2);
+    digits.map(|pair| u8::from_str_radix(std::str::from_utf8(pair).unwrap_or(""), 16).expect("hexadecimal")).collect()
+}
+
+/// A record of eight bytes: how often, the task, the start input, position reached, and four inputs that are high (0: none).
+fn step_of(record: &[u8]) -> Step {
+    let mut inputs = [0; INPUTS_LENGTH];
+    for &pin in &record[4..] {
+        inputs[pin as usize] = 1;
+    }
+    Step { times: record[0] as usize, task: record[1] as u32, start: record[2], reached: record[3], inputs }
+}
+
+fn example(line: &str, out: &mut String) {
+    let (image, steps) = line.split_once(' ').unwrap_or((line, ""));
+    let image = bytes_of(image);
+    let mut state = vec![0; STATE_LENGTH];
+    let verdict = reference::load(&image, &mut vec![0; MARKS_LENGTH], &mut state);
+    if verdict.number != SUCCESS {
+        let _ = writeln!(out, "load {} place {} task {} depth {}", verdict.number, verdict.place, verdict.task, verdict.depth);
+        return;
+    }
+    let _ = writeln!(out, "load 0");
+    for step in bytes_of(steps).chunks_exact(RECORD_LENGTH).map(step_of) {
+        for _ in 0..step.times {
+            traced(&image, &mut state, &step, out);
+        }
+    }
+}
+
+/// Does one step and prints its line: who, where, what changed, which request, which answer.
+fn traced(image: &[u8], state: &mut [u8], step: &Step, out: &mut String) {
+    let mut before = state.to_vec();
+    let given = Given { inputs: &step.inputs, start: step.start, reached: step.reached };
+    let answer = reference::step(image, state, step.task, given);
+    let old = State::of(&mut before).expect("a state");
+    let new = State::of(state).expect("a state");
+    let head = fetched(image, &old, step.task);
+    let changes = changes(&old, &new);
+    let _ = writeln!(out, "task {}{head} : {changes} : {} : {}", step.task, request(&answer), place(&answer));
+}
+
+fn fetched(image: &[u8], old: &State, task: u32) -> String {
+    let task = task as usize;
+    if task >= TASKS || old.status(task) != RUNNING {
+        return String::new();
+    }
+    let Ok((_, blocks)) = image::read(image) else {
+        return String::new();
+    };
+    let at = old.block(task);
+    let bytes: Vec<String> = image::block(blocks, at as usize).iter().map(|byte| format!("{byte:02X}")).collect();
+    format!(" block {at} code {}", bytes.join(" "))
+}
+
+fn changes(old: &State, new: &State) -> String {
+    let mut all = Vec::new();
+    let mut note = |word: &str, was: i64, now: i64| {
+        if was != now {
+            all.push(format!("{word} = {now}"));
+        }
+    };
+    for number in 0..=255 {
+        note(&format!("variable {number}"), old.variable(number) as i64, new.variable(number) as i64);
+    }
+    for number in 0..=255 {
+        note(&format!("flag {number}"), old.flag(number) as i64, new.flag(number) as i64);
+    }
+    for number in 0..=255 {
+        note(&format!("output {number}"), old.output(number) as i64, new.output(number) as i64);
+    }
+    note("position", old.position() as i64, new.position() as i64);
+    note("speed", old.speed() as i64, new.speed() as i64);
+    note("acceleration", old.acceleration() as i64, new.acceleration() as i64);
+    note("deceleration", old.deceleration() as i64, new.deceleration() as i64);
+    note("mark", old.start_mark() as i64, new.start_mark() as i64);
+    note("level", old.start_level() as i64, new.start_level() as i64);
+    all.extend((0..TASKS).filter_map(|task| task_change(old, new, task)));
+    if all.is_empty() { "nothing".to_string() } else { all.join(", ") }
+}
+
+fn task_change(old: &State, new: &State, task: usize) -> Option<String> {
+    let record = |state: &State| {
+        let path: Vec<u16> = (0..MOST_DEPTH).map(|entry| state.entry(task, entry)).collect();
+        (state.status(task), state.block(task), state.start(task), state.depth(task), path, state.wait(task))
+    };
+    if record(old) == record(new) {
+        return None;
+    }
+    let wait = new.wait(task);
+    let (block, depth, status) = (new.block(task), new.depth(task), new.status(task));
+    Some(format!("task {task} at {block} depth {depth} status {status} wait {} {}", wait.time, wait.turns))
+}
+
+fn request(answer: &Answer) -> String {
+    let word = match answer.motion {
+        0 => return "none".to_string(),
+        STOP => return format!("stop mode {} ramp {}", answer.mode, answer.deceleration),
+        1 => "move to",
+        2 => "move by",
+        3 => "forward",
+        _ => "backward",
+    };
+    format!("{word} {} {} {} {}", answer.position, answer.speed, answer.acceleration, answer.deceleration)
+}
+
+fn place(answer: &Answer) -> String {
+    match answer.number {
+        SUCCESS | NOT_RUNNING => answer.number.to_string(),
+        BAD_INPUTS => format!("15 place {}", answer.place),
+        number => format!("{number} block {} task {} depth {}", answer.place, answer.task, answer.depth),
+    }
+}

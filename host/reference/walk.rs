@@ -1,0 +1,107 @@
+//! Document 01, "Walks": what one place breaks (9 to 12, and ruling 2's 7), and the search over all places that walks
+//! reach.
+
+use crate::answer::{Place, Verdict};
+use crate::command::row;
+use crate::image::{block, Block, Header};
+use crate::number::*;
+
+/// Ruling 2: a 51 whose mode ends another task than the one that executes it.
+pub fn foreign(block: &Block, task: usize) -> bool {
+    block[0] == 0x51 && block[1] != 0 && block[1] as usize != task + 1
+}
+
+/// 0, or what a place breaks: "9 command forbidden to the task; 10 52 at depth 8; 11 53 at depth 0; 12 a block it may
+/// continue with is past the end". The block has passed 5 to 8 and is no foreign 51.
+pub fn bad(header: &Header, block: &Block, place: Place) -> u32 {
+    let Some(row) = row(block[0]) else {
+        return BAD_CODE;
+    };
+    if !row.allowed(place.task) {
+        FORBIDDEN
+    } else if row.code == 0x52 && place.depth == MOST_DEPTH {
+        TOO_DEEP
+    } else if row.code == 0x53 && place.depth == 0 {
+        NO_CALL
+    } else if row.next && place.block + 1 >= header.count {
+        PAST_END
+    } else {
+        SUCCESS
+    }
+}
+
+/// The search: the marks say which places a walk has reached, `open` which of them it has yet to go on from.
+struct Search<'a> {
+    header: &'a Header,
+    blocks: &'a [u8],
+    marks: &'a mut [u8],
+    open: Vec<Place>,
+    least_foreign: Option<usize>,
+    least_bad: Option<(Place, u32)>,
+}
+
+/// What all walks say of a program whose blocks passed 5 to 8: 7 at the least foreign 51, else the least bad place, "by
+/// task, block, depth". Only the first 40,500 marks are touched.
+pub fn judge(header: &Header, blocks: &[u8], marks: &mut [u8]) -> Verdict {
+    let marks = &mut marks[..MARKS_LENGTH];
+    marks.fill(0);
+    let mut search = Search { header, blocks, marks, open: Vec::new(), least_foreign: None, least_bad: None };
+    search.reach(Place { task: BIAS, block: header.start, depth: 0 });
+    while let Some(place) = search.open.pop() {
+        search.visit(place);
+    }
+    match (search.least_foreign, search.least_bad) {
+        (Some(block), _) => Verdict::at(BAD_OPERAND, block),
+        (None, Some((place, number))) => Verdict::at_place(number, place),
+        (None, None) => Verdict::at(SUCCESS, 0),
+    }
+}
+
+impl Search<'_> {
+    /// Marks a place that a walk goes to.
+    fn reach(&mut self, place: Place) {
+        let mark = &mut self.marks[(place.task * MOST_BLOCKS + place.block) * (MOST_DEPTH + 1) + place.depth];
+        if *mark == 0 {
+            *mark = 1;
+            self.open.push(place);
+        }
+    }
+
+    /// Judges a place; "no walk continues from a bad place", nor from a foreign 51.
+    fn visit(&mut self, place: Place) {
+        let block = block(self.blocks, place.block);
+        if foreign(block, place.task) {
+            self.least_foreign = Some(self.least_foreign.map_or(place.block, |least| least.min(place.block)));
+            return;
+        }
+        match bad(self.header, block, place) {
+            SUCCESS => self.go_on(block, place),
+            number => {
+                if self.least_bad.is_none_or(|(least, _)| place < least) {
+                    self.least_bad = Some((place, number));
+                }
+            }
+        }
+    }
+
+    /// Every block that a command may continue with. A return to a start leads to a place that the walk's latest 54 or
+    /// 90, or its beginning, has already reached, so it adds none; 53 leads nowhere.
+    fn go_on(&mut self, block: &Block, place: Place) {
+        let Some(row) = row(block[0]) else {
+            return;
+        };
+        if let Some(named) = row.named(block) {
+            let named = named as usize;
+            self.reach(match row.code {
+                0x52 => Place { block: named, depth: place.depth + 1, ..place },
+                0x54 => Place { task: PLC, block: named, depth: 0 },
+                0x57 => Place { task: BIAS, block: named, depth: 0 },
+                0x90 => Place { task: MATHEMATICS, block: named, depth: 0 },
+                _ => Place { block: named, ..place },
+            });
+        }
+        if row.next {
+            self.reach(Place { block: place.block + 1, ..place });
+        }
+    }
+}
