@@ -12,6 +12,7 @@ use Rattle.state.specs.declared.State.{State}
 use Rattle.walk.specs.Index.{marksLength}
 use Rattle.walk.specs.Verdict.{verdictOf, isAccepted}
 use Rattle.walk.specs.declared.Verdict.{Verdict}
+use Rattle.walk.specs.declared.Verdict.the-variants.{MarksShort}
 use Rattle.le.specs.LittleEndian.{Bytes}
 use Rattle.layout.specs.Layout.{bufferLength, unusedLength}
 use Rattle.layout.specs.Decoded.{decoded}
@@ -21,7 +22,9 @@ use Rattle.layout.proofs.Round.{state-good}
 use Rattle.machine.specs.Given.{Inputs}
 use Rattle.machine.specs.Engine.{step}
 use Rattle.machine.specs.Theorem.{loaded}
-use Rattle.border.specs.Border.{numbered, verdictFor, refusedStep}
+use Rattle.machine.specs.declared.Motion.the-variants.{None}
+use Rattle.machine.specs.declared.Answer.the-variants.{NoTask, Inputs as BadInputs}
+use Rattle.border.specs.Border.{noState, numbered, verdictFor, noStateAnswer, answerFor}
 use Rattle.border.specs.declared.BiasVerdict.{BiasVerdict}
 use Rattle.border.specs.declared.BiasAnswer.{BiasAnswer}
 use Rattle.bias.specs.Load.{Load, refuseLoad, judgedLoad, load}
@@ -30,11 +33,11 @@ use Rattle.bias.specs.Step.{Stepped, refuse, handed, stepState, stepped}
 -- ---- loads
 
 module _ (image : List ℕ) (n : ℕ) (b : List ℕ) where
-  pub marks-short : n < marksLength → load image n b ≡ refuseLoad (numbered 13 n) b
+  pub marks-short : n < marksLength → load image n b ≡ refuseLoad (verdictFor (MarksShort n)) b
   unfolding load
   marks-short h = rw (lt-ltb n marksLength h)
 
-  pub no-buffer : marksLength ≤ n → (length b ≡ bufferLength → ⊥) → load image n b ≡ refuseLoad (numbered 16 0) b
+  pub no-buffer : marksLength ≤ n → (length b ≡ bufferLength → ⊥) → load image n b ≡ refuseLoad (numbered noState 0) b
   unfolding load
   no-buffer h d = rw (le-ltb n marksLength h, ne-eqb (length b) bufferLength d)
 
@@ -62,11 +65,11 @@ load-refused l r v b e q = (q ∙ ap (λ (m : Load). m .verdict) (sym e), ap (λ
 -- ---- steps
 
 module _ (image b : List ℕ) (x : Inputs) where
-  pub no-task : taskCount ≤ x .task → stepped image b x ≡ refuse 15 (x .task) b
+  pub no-task : taskCount ≤ x .task → stepped image b x ≡ refuse (answerFor None (NoTask (x .task))) b
   unfolding stepped
   no-task h = rw (le-ltb (x .task) taskCount h)
 
-  pub bad-inputs : x .task < taskCount → (length (x .levels) ≡ cells → ⊥) → stepped image b x ≡ refuse 15 (length (x .levels)) b
+  pub bad-inputs : x .task < taskCount → (length (x .levels) ≡ cells → ⊥) → stepped image b x ≡ refuse (answerFor None (BadInputs (length (x .levels)))) b
   unfolding stepped
   bad-inputs h d = rw (lt-ltb (x .task) taskCount h, ne-eqb (length (x .levels)) cells d)
 
@@ -74,7 +77,7 @@ module _ (image b : List ℕ) (x : Inputs) where
   unfolding stepped
   of-buffer h e = rw (lt-ltb (x .task) taskCount h, eq-eqb (length (x .levels)) cells e)
 
-  pub no-state : isState b ≡ false → stepState image b x ≡ refuse 16 0 b
+  pub no-state : isState b ≡ false → stepState image b x ≡ refuse noStateAnswer b
   unfolding stepState
   no-state e = rw e
 
@@ -83,8 +86,8 @@ module _ (image b : List ℕ) (x : Inputs) where
   of-state e = rw e
 
 -- a refused step, as its two promises have it
-pub step-refused : (s : Stepped) (r : BiasAnswer) (n p : ℕ) (b : List ℕ) → s ≡ refuse n p b → r ≡ refusedStep n p → (r ≡ s .answer) × (b ≡ s .buffer)
-step-refused s r n p b e q = (q ∙ ap (λ (m : Stepped). m .answer) (sym e), ap (λ (m : Stepped). m .buffer) (sym e))
+pub step-refused : (s : Stepped) (r a : BiasAnswer) (b : List ℕ) → s ≡ refuse a b → r ≡ a → (r ≡ s .answer) × (b ≡ s .buffer)
+step-refused s r a b e q = (q ∙ ap (λ (m : Stepped). m .answer) (sym e), ap (λ (m : Stepped). m .buffer) (sym e))
 
 -- ---- 16, test by test
 

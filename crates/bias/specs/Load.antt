@@ -8,10 +8,11 @@ use lib.ListN.{length}
 use Rattle.walk.specs.Index.{marksLength}
 use Rattle.walk.specs.Verdict.{verdictOf, isAccepted}
 use Rattle.walk.specs.declared.Verdict.{Verdict}
+use Rattle.walk.specs.declared.Verdict.the-variants.{MarksShort}
 use Rattle.layout.specs.Layout.{bufferLength}
 use Rattle.layout.specs.Encoded.{encoded}
 use Rattle.machine.specs.Theorem.{loaded}
-use Rattle.border.specs.Border.{numbered, verdictFor}
+use Rattle.border.specs.Border.{noState, numbered, verdictFor}
 use Rattle.border.specs.declared.BiasVerdict.{BiasVerdict}
 
 pub record Load : Type 0 where
@@ -29,5 +30,5 @@ judgedLoad image v b = record { verdict = verdictFor v; buffer = cond (isAccepte
 -- an image, marks of n bytes, and the buffer b
 unfoldable pub load : List ℕ → ℕ → List ℕ → Load
 load image n b =
-    cond (ltb n marksLength) (refuseLoad (numbered 13 n) b)
-    (cond (eqb (length b) bufferLength) (judgedLoad image (verdictOf image n) b) (refuseLoad (numbered 16 0) b))
+    cond (ltb n marksLength) (refuseLoad (verdictFor (MarksShort n)) b)
+    (cond (eqb (length b) bufferLength) (judgedLoad image (verdictOf image n) b) (refuseLoad (numbered noState 0) b))

@@ -1,4 +1,4 @@
--- What `bias_step` answers and leaves of the lent state buffer (document 01, "Running"): 15 first, then 16; then the step of the state that the
+-- What `bias_step` answers and leaves of the lent state buffer (document 01, "Refused because of the input" for 15, "Running" for the rest): 15 first, then 16; then the step of the state that the
 -- buffer holds, which is refused by 18 and 17 or carried out. Assumes nothing.
 use Prim.Native.Nat.{ℕ}
 use mathlib.Core.Bool.{cond}
@@ -13,7 +13,9 @@ use Rattle.layout.specs.Test.{isState}
 use Rattle.machine.specs.Given.{Inputs}
 use Rattle.machine.specs.Engine.{step}
 use Rattle.machine.specs.declared.Out.{Out}
-use Rattle.border.specs.Border.{refusedStep, answerFor}
+use Rattle.machine.specs.declared.Motion.the-variants.{None}
+use Rattle.machine.specs.declared.Answer.the-variants.{NoTask, Inputs as BadInputs}
+use Rattle.border.specs.Border.{noStateAnswer, answerFor}
 use Rattle.border.specs.declared.BiasAnswer.{BiasAnswer}
 
 pub record Stepped : Type 0 where
@@ -21,8 +23,8 @@ pub record Stepped : Type 0 where
   pub buffer : List ℕ
 
 -- refused: the buffer stays
-abbrev pub refuse : ℕ → ℕ → List ℕ → Stepped
-refuse number place b = record { answer = refusedStep number place; buffer = b }
+abbrev pub refuse : BiasAnswer → List ℕ → Stepped
+refuse a b = record { answer = a; buffer = b }
 
 -- what a step of the state hands out, and the bytes of the state after it
 unfoldable pub handed : Out → Stepped
@@ -30,10 +32,10 @@ handed o = record { answer = answerFor (o .motion) (o .answer); buffer = encoded
 
 -- the step of a buffer
 unfoldable pub stepState : List ℕ → List ℕ → Inputs → Stepped
-stepState image b x = cond (isState b) (handed (step image (decoded b) x)) (refuse 16 0 b)
+stepState image b x = cond (isState b) (handed (step image (decoded b) x)) (refuse noStateAnswer b)
 
 unfoldable pub stepped : List ℕ → List ℕ → Inputs → Stepped
 stepped image b x =
     cond (ltb (x .task) taskCount)
-    (cond (eqb (length (x .levels)) cells) (stepState image b x) (refuse 15 (length (x .levels)) b))
-    (refuse 15 (x .task) b)
+    (cond (eqb (length (x .levels)) cells) (stepState image b x) (refuse (answerFor None (BadInputs (length (x .levels)))) b))
+    (refuse (answerFor None (NoTask (x .task))) b)

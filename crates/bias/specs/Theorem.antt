@@ -10,6 +10,7 @@ use Rattle.flow.specs.Flow.{taskCount}
 use Rattle.walk.specs.Index.{marksLength}
 use Rattle.walk.specs.Says.{Judges}
 use Rattle.walk.specs.declared.Verdict.{Verdict}
+use Rattle.walk.specs.declared.Verdict.the-variants.{MarksShort}
 use Rattle.state.specs.State.{runs, taskAt}
 use Rattle.layout.specs.Layout.{bufferLength}
 use Rattle.layout.specs.Decoded.{decoded}
@@ -22,7 +23,7 @@ use Rattle.machine.specs.Run.{machineAfter, Permitted}
 use Rattle.machine.specs.Each.{Calls, noCalls, callsAfter, Step}
 use Rattle.machine.specs.declared.Answer.{Answer}
 use Rattle.machine.specs.declared.Answer.the-variants.{Done, NoTask, Inputs as BadInputs, NotRunning, Differs, Halted}
-use Rattle.border.specs.Border.{numbered, verdictFor, answerFor}
+use Rattle.border.specs.Border.{noState, numbered, verdictFor, answerFor}
 use Rattle.border.specs.declared.BiasVerdict.{BiasVerdict}
 use Rattle.bias.specs.Load.{load}
 use Rattle.bias.specs.Step.{stepped}
@@ -78,6 +79,6 @@ EveryRun = (image : List ℕ) (n : ℕ) (b : List ℕ) → Bytes image → load 
 
 -- 13, then 16, then what the image comes to (walk/specs/Says.antt): the header, the first block that 5 to 8 refuse, and else what walks say
 pub data Loads (image : List ℕ) (n : ℕ) (b : List ℕ) : BiasVerdict → Type 0 where
-  marks : n < marksLength → Loads image n b (numbered 13 n)
-  buffer : marksLength ≤ n → (length b ≡ bufferLength → ⊥) → Loads image n b (numbered 16 0)
+  marks : n < marksLength → Loads image n b (verdictFor (MarksShort n))
+  buffer : marksLength ≤ n → (length b ≡ bufferLength → ⊥) → Loads image n b (numbered noState 0)
   judged : marksLength ≤ n → length b ≡ bufferLength → (v : Verdict) → Judges image n v → Loads image n b (verdictFor v)

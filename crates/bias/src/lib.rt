@@ -1,12 +1,15 @@
 // The functions that C calls (include/bias.h). C passes a pointer and a length for each slice, of any length, so none of them has a precondition:
-// each answers every byte that a host can lend.
+// each answers whatever bytes a host lends.
 use border::BiasAnswer;
 use border::BiasVerdict;
 use image::reader;
+use machine::Answer;
+use machine::Motion;
 use places::LENGTH;
 use program::MARKS_LENGTH;
 use state::CELLS;
 use state::State;
+use walk::Verdict;
 ghost use mathlib.Core.Path.{_≡_};
 ghost use mathlib.Core.Bool.{true};
 ghost use mathlib.Core.List.{[], _∷_};
@@ -26,13 +29,6 @@ ghost use Rattle.border.specs.Border.{writtenFor};
 ghost use Rattle.bias.specs.Load.{load, judgedLoad};
 ghost use Rattle.bias.specs.Step.{handed, stepState, stepped};
 
-// Numbers of the refusals that are found here.
-const MARKS_SHORT: u32 = 13;
-
-const NOT_GIVEN: u32 = 15;
-
-const NO_STATE: u32 = 16;
-
 const TASK_COUNT: u32 = flow::TASK_COUNT as u32;
 
 // Loads an image: judges it, in the first MARKS_LENGTH bytes of marks, and puts its fresh state into the buffer where it is accepted.
@@ -44,10 +40,10 @@ pub extern "C" fn bias_load(image: &[u8], marks: &mut [u8], state: &mut [u8]) ->
 {
     let n = marks.len();
     if n < MARKS_LENGTH {
-        return border::numbered(MARKS_SHORT, n);
+        return border::verdict(Verdict::MarksShort(n));
     }
     if state.len() != LENGTH {
-        return border::numbered(NO_STATE, 0);
+        return border::numbered(border::NO_STATE, 0);
     }
     load_image(image, marks, state)
 }
@@ -98,14 +94,14 @@ pub extern "C" fn bias_step(
     ensures { λ _. ⌜ now (state .exit) ≡ stepped (now (image .entry)) (now (state .entry)) (inputsOf task (now (inputs .entry)) start reached) .buffer ⌝ }
 {
     if task >= TASK_COUNT {
-        return border::refused_step(NOT_GIVEN, task as usize);
+        return border::answer(Motion::None, Answer::NoTask(task));
     }
     let n = inputs.len();
     if n != CELLS {
-        return border::refused_step(NOT_GIVEN, n);
+        return border::answer(Motion::None, Answer::Inputs(n));
     }
     if state.len() != LENGTH {
-        return border::refused_step(NO_STATE, 0);
+        return border::no_state();
     }
     step_buffer(image, state, task, inputs, start, reached)
 }
@@ -126,10 +122,10 @@ fn step_buffer(
     let b = lend::copy_in(state);
     let s = reading::decode(&b);
     if !buffer::unused_zero(&b) {
-        return border::refused_step(NO_STATE, 0);
+        return border::no_state();
     }
     if !buffer::state_is(s) {
-        return border::refused_step(NO_STATE, 0);
+        return border::no_state();
     }
     step_state(image, state, s, task, inputs, start, reached)
 }

@@ -1,4 +1,4 @@
--- What C is handed (design, "The C border"): the structs of results, by document 01's number and place of what the library answers. Parts that
+-- What C is handed (include/bias.h): the structs of results, by document 01's number and place of what the library answers. Parts that
 -- are not named are 0, and so are the fields that a request does not carry. Assumes nothing.
 use Prim.Native.Nat.{ℕ}
 use mathlib.Core.Bool.{cond}
@@ -7,12 +7,15 @@ use Rattle.outcome.specs.Outcome.{numberOf, placeOf, done}
 use Rattle.walk.specs.Verdict.{verdictNumber, verdictPlace, verdictTask, verdictDepth}
 use Rattle.walk.specs.declared.Verdict.{Verdict}
 use Rattle.writer.specs.declared.Written.{Written}
-use Rattle.state.specs.declared.Axis.{Axis}
 use Rattle.machine.specs.Numbers.{answerNumber, answerPlace, answerTask, answerDepth, motionNumber, motionAxis, motionMode}
 use Rattle.machine.specs.declared.Motion.{Motion}
 use Rattle.machine.specs.declared.Answer.{Answer}
 use Rattle.border.specs.declared.BiasVerdict.{BiasVerdict}
 use Rattle.border.specs.declared.BiasAnswer.{BiasAnswer}
+
+-- 16: the lent buffer is no state. It is the buffer's own number; every other comes from what the library answers
+abbrev pub noState : ℕ
+noState = 16
 
 -- ---- loads and writes
 
@@ -28,11 +31,11 @@ writtenFor w = cond (done (w .outcome)) (numbered 0 (w .length)) (numbered (numb
 
 -- ---- steps
 
--- refused with a number and a place alone: no motion
-abbrev pub refusedStep : ℕ → ℕ → BiasAnswer
-refusedStep number place = record {
-  place = place;
-  number = number;
+-- 16, and no motion
+abbrev pub noStateAnswer : BiasAnswer
+noStateAnswer = record {
+  place = 0;
+  number = noState;
   task = 0;
   depth = 0;
   motion = 0;
@@ -56,7 +59,3 @@ answerFor m a = record {
   deceleration = motionAxis m .deceleration;
   mode = motionMode m;
 }
-
--- the parameters of a request that carries a deceleration alone
-abbrev pub stopAxis : ℕ → Axis
-stopAxis deceleration = record { position = pos 0; speed = 0; acceleration = 0; deceleration = deceleration }

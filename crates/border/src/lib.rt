@@ -6,8 +6,11 @@ use state::Axis;
 use walk::Verdict;
 use writer::Written;
 ghost use mathlib.Core.Path.{_≡_};
-ghost use Rattle.machine.specs.Numbers.{answerNumber, answerPlace, answerTask, answerDepth, motionNumber, motionAxis, motionMode};
-ghost use Rattle.border.specs.Border.{numbered, verdictFor, writtenFor, refusedStep, answerFor, stopAxis};
+ghost use Rattle.machine.specs.Numbers.{answerNumber, answerPlace, answerTask, answerDepth, motionNumber, stopAxis, motionAxis, motionMode};
+ghost use Rattle.border.specs.Border.{numbered, verdictFor, writtenFor, noStateAnswer, answerFor};
+
+// 16: the lent buffer is no state.
+pub const NO_STATE: u32 = 16;
 
 // The result of a load or a write.
 #[repr(C)]
@@ -68,13 +71,13 @@ pub fn written(w: Written) -> BiasVerdict
     numbered(outcome.number(), outcome.place())
 }
 
-// The result of a step that is refused with a number and a place alone: no motion.
-pub fn refused_step(number: u32, place: usize) -> BiasAnswer
-    ensures { λ r. ⌜ r ≡ refusedStep number place ⌝ }
+// The result of a step with a buffer that is no state: no motion.
+pub fn no_state() -> BiasAnswer
+    ensures { λ r. ⌜ r ≡ noStateAnswer ⌝ }
 {
     BiasAnswer {
-        place: place as u64,
-        number: number,
+        place: 0,
+        number: NO_STATE,
         task: 0,
         depth: 0,
         motion: 0,
@@ -173,8 +176,8 @@ fn motion_of(m: Motion) -> u32
     }
 }
 
-// No parameters, or none but a stop's deceleration.
-fn stop_by(deceleration: u16) -> Axis
+// A deceleration and no other parameter.
+fn stop_axis(deceleration: u16) -> Axis
     ensures { λ r. ⌜ r ≡ stopAxis deceleration ⌝ }
 {
     Axis {
@@ -190,12 +193,12 @@ fn axis_of(m: Motion) -> Axis
     ensures { λ r. ⌜ r ≡ motionAxis m ⌝ }
 {
     match m {
-        Motion::None => stop_by(0),
+        Motion::None => stop_axis(0),
         Motion::MoveTo(axis) => axis,
         Motion::MoveBy(axis) => axis,
         Motion::Forward(axis) => axis,
         Motion::Backward(axis) => axis,
-        Motion::Stop(_, deceleration) => stop_by(deceleration),
+        Motion::Stop(_, deceleration) => stop_axis(deceleration),
     }
 }
 

@@ -1,4 +1,4 @@
--- Document 01's number and place of an answer, and the numbers of a motion request as the C border has them (design, "The C border"). What an answer or a
+-- Document 01's number and place of an answer, and the numbers of a motion request as C is handed them (include/bias.h). What an answer or a
 -- request does not have is 0. Assumes nothing.
 use Prim.Native.Nat.{ℕ}
 use lib.IntN.{pos}
@@ -51,18 +51,18 @@ motionNumber (Forward a) = 3
 motionNumber (Backward a) = 4
 motionNumber (Stop mode ramp) = 5
 
--- the parameters that a move carries
-abbrev pub noAxis : Axis
-noAxis = record { position = pos 0; speed = 0; acceleration = 0; deceleration = 0 }
+-- a deceleration and no other parameter
+abbrev pub stopAxis : ℕ → Axis
+stopAxis deceleration = record { position = pos 0; speed = 0; acceleration = 0; deceleration = deceleration }
 
--- and a stop: its deceleration alone
+-- the parameters that a request carries: none, a move's four, or a stop's deceleration
 abbrev pub motionAxis : Motion → Axis
-motionAxis None = noAxis
+motionAxis None = stopAxis 0
 motionAxis (MoveTo a) = a
 motionAxis (MoveBy a) = a
 motionAxis (Forward a) = a
 motionAxis (Backward a) = a
-motionAxis (Stop mode ramp) = record { position = pos 0; speed = 0; acceleration = 0; deceleration = ramp }
+motionAxis (Stop mode ramp) = stopAxis ramp
 
 abbrev pub motionMode : Motion → ℕ
 motionMode None = 0

@@ -7,22 +7,22 @@ use mathlib.Core.Path.{refl, sym, ap, _∙_}
 use Rattle.bias.proofs.bias_load.Statement.{statement}
 use Rattle.bias.proofs.bias_load.Tie as tie
 
-numbered-requires : tie.Need-numbered-requires
-numbered-requires c κs = search needs
+verdict-requires : tie.Need-verdict-requires
+verdict-requires c κs = search needs
 
 returns : tie.Need-returns
 returns c =
     let a = c .before .before .before .before .before .args in
-    let r = load-refused _ _ _ _ (marks-short (now (a .image)) _ (now (a .state)) (c .before .if1 .taken)) (c .numbered .ensures) in
+    let r = load-refused _ _ _ _ (marks-short (now (a .image)) _ (now (a .state)) (c .before .if1 .taken)) (c .verdict .ensures) in
     (r .0, (r .1, record { long = refl; rest = λ k i. refl }))
 
-numbered-requires-2 : tie.Need-numbered-requires-2
-numbered-requires-2 c κs = search needs
+numbered-requires : tie.Need-numbered-requires
+numbered-requires c κs = search needs
 
 returns-2 : tie.Need-returns-2
 returns-2 c =
     let a = c .before .before .before .before .before .before .args in
-    let r = load-refused _ _ _ _ (no-buffer (now (a .image)) _ (now (a .state)) (c .before .before .if1 .left) (c .before .if2 .taken)) (c .numbered2 .ensures) in
+    let r = load-refused _ _ _ _ (no-buffer (now (a .image)) _ (now (a .state)) (c .before .before .if1 .left) (c .before .if2 .taken)) (c .numbered .ensures) in
     (r .0, (r .1, record { long = refl; rest = λ k i. refl }))
 
 load-image-requires : tie.Need-load-image-requires
@@ -45,9 +45,9 @@ pub bias-load-spec : {M : Type 1} → statement M
 bias-load-spec =
     tie.close
     (tie.spec
-    numbered-requires
+    verdict-requires
     returns
-    numbered-requires-2
+    numbered-requires
     returns-2
     load-image-requires
     same-length

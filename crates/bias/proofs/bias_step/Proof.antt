@@ -8,31 +8,31 @@ use mathlib.Core.Path.{sym, ap, _∙_}
 use Rattle.bias.proofs.bias_step.Statement.{statement}
 use Rattle.bias.proofs.bias_step.Tie as tie
 
-refused-step-requires : tie.Need-refused-step-requires
-refused-step-requires c κs = search needs
+answer-requires : tie.Need-answer-requires
+answer-requires c κs = search needs
 
 returns : tie.Need-returns
 returns c =
     let a = c .before .before .before .before .before .args in
-    step-refused _ _ _ _ _ (no-task (now (a .image)) (now (a .state)) (inputsOf (a .task) (now (a .inputs)) (a .start) (a .reached)) (c .before .if1 .taken)) (c .refused-step .ensures)
+    step-refused _ _ _ _ (no-task (now (a .image)) (now (a .state)) (inputsOf (a .task) (now (a .inputs)) (a .start) (a .reached)) (c .before .if1 .taken)) (c .answer .ensures)
 
-refused-step-requires-2 : tie.Need-refused-step-requires-2
-refused-step-requires-2 c κs = search needs
+answer-requires-2 : tie.Need-answer-requires-2
+answer-requires-2 c κs = search needs
 
 returns-2 : tie.Need-returns-2
 returns-2 c =
     let a = c .before .before .before .before .before .before .args in
-    step-refused _ _ _ _ _ (bad-inputs (now (a .image)) (now (a .state)) (inputsOf (a .task) (now (a .inputs)) (a .start) (a .reached)) (c .before .before .if1 .left) (c .before .if2 .taken)) (c .refused-step2 .ensures)
+    step-refused _ _ _ _ (bad-inputs (now (a .image)) (now (a .state)) (inputsOf (a .task) (now (a .inputs)) (a .start) (a .reached)) (c .before .before .if1 .left) (c .before .if2 .taken)) (c .answer2 .ensures)
 
-refused-step-requires-3 : tie.Need-refused-step-requires-3
-refused-step-requires-3 c κs = search needs
+no-state-requires : tie.Need-no-state-requires
+no-state-requires c κs = search needs
 
 returns-3 : tie.Need-returns-3
 returns-3 c =
     let a = c .before .before .before .before .before .before .before .args in
     let x = inputsOf (a .task) (now (a .inputs)) (a .start) (a .reached) in
     let e = of-buffer (now (a .image)) (now (a .state)) x (c .before .before .before .if1 .left) (c .before .before .if2 .left) in
-    step-refused _ _ _ _ _ (e ∙ no-state (now (a .image)) (now (a .state)) x (wrong-length (now (a .state)) (c .before .if3 .taken))) (c .refused-step3 .ensures)
+    step-refused _ _ _ _ (e ∙ no-state (now (a .image)) (now (a .state)) x (wrong-length (now (a .state)) (c .before .if3 .taken))) (c .no-state .ensures)
 
 step-buffer-requires : tie.Need-step-buffer-requires
 step-buffer-requires c κs = search needs
@@ -51,11 +51,11 @@ pub bias-step-spec : {M : Type 1} → statement M
 bias-step-spec =
     tie.close
     (tie.spec
-    refused-step-requires
+    answer-requires
     returns
-    refused-step-requires-2
+    answer-requires-2
     returns-2
-    refused-step-requires-3
+    no-state-requires
     returns-3
     step-buffer-requires
     same-length

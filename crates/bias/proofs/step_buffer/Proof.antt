@@ -28,8 +28,8 @@ decode-requires c κs = search needs
 unused-zero-requires : tie.Need-unused-zero-requires
 unused-zero-requires c κs = search needs
 
-refused-step-requires : tie.Need-refused-step-requires
-refused-step-requires c κs = search needs
+no-state-requires : tie.Need-no-state-requires
+no-state-requires c κs = search needs
 
 same-length : tie.Need-same-length
 same-length c = search needs
@@ -39,13 +39,13 @@ returns c =
     let a = c .before .before .before .before .before .before .before .before .before .before .before .args in
     let same = c .before .before .before .before .before .before .copy-in .ensures .0 in
     let u = sym (ap (λ (l : List ℕ). unusedZero l unusedLength) same) ∙ sym (c .before .before .unused-zero .ensures) ∙ not-true _ (c .before .if1 .taken) in
-    step-refused _ _ _ _ _ (no-state (now (a .image)) (now (a .state)) (inputsOf (a .task) (now (a .inputs)) (a .start) (a .reached)) (unused-not-zero (now (a .state)) (c .before .before .before .before .before .before .before .before .before .before .before .pre) u)) (c .refused-step .ensures)
+    step-refused _ _ _ _ (no-state (now (a .image)) (now (a .state)) (inputsOf (a .task) (now (a .inputs)) (a .start) (a .reached)) (unused-not-zero (now (a .state)) (c .before .before .before .before .before .before .before .before .before .before .before .pre) u)) (c .no-state .ensures)
 
 state-is-requires : tie.Need-state-is-requires
 state-is-requires c κs = search needs
 
-refused-step-requires-2 : tie.Need-refused-step-requires-2
-refused-step-requires-2 c κs = search needs
+no-state-requires-2 : tie.Need-no-state-requires-2
+no-state-requires-2 c κs = search needs
 
 same-length-2 : tie.Need-same-length-2
 same-length-2 c = search needs
@@ -56,7 +56,7 @@ returns-2 c =
     let same = c .before .before .before .before .before .before .before .before .copy-in .ensures .0 in
     let u = sym (ap (λ (l : List ℕ). unusedZero l unusedLength) same) ∙ sym (c .before .before .before .before .unused-zero .ensures) ∙ not-false _ (c .before .before .before .if1 .left) in
     let s = sym (ap stateIs (c .before .before .before .before .before .before .decode .ensures ∙ ap decoded same)) ∙ sym (c .before .before .state-is .ensures) ∙ not-true _ (c .before .if2 .taken) in
-    step-refused _ _ _ _ _ (no-state (now (a .image)) (now (a .state)) (inputsOf (a .task) (now (a .inputs)) (a .start) (a .reached)) (judged-no-state (now (a .state)) (c .before .before .before .before .before .before .before .before .before .before .before .before .before .pre) u s)) (c .refused-step2 .ensures)
+    step-refused _ _ _ _ (no-state (now (a .image)) (now (a .state)) (inputsOf (a .task) (now (a .inputs)) (a .start) (a .reached)) (judged-no-state (now (a .state)) (c .before .before .before .before .before .before .before .before .before .before .before .before .before .pre) u s)) (c .no-state2 .ensures)
 
 step-state-requires : tie.Need-step-state-requires
 step-state-requires c κs =
@@ -89,11 +89,11 @@ step-buffer-spec =
     copy-in-requires
     decode-requires
     unused-zero-requires
-    refused-step-requires
+    no-state-requires
     same-length
     returns
     state-is-requires
-    refused-step-requires-2
+    no-state-requires-2
     same-length-2
     returns-2
     step-state-requires

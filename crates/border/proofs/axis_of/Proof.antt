@@ -8,8 +8,8 @@ use Rattle.border.proofs.axis_of.Tie as tie
 enum-told : tie.Need-enum-told
 enum-told c = search needs
 
-stop-by-requires : tie.Need-stop-by-requires
-stop-by-requires c κs = search needs
+stop-axis-requires : tie.Need-stop-axis-requires
+stop-axis-requires c κs = search needs
 
 enum-known-m : tie.Need-enum-known-m
 enum-known-m c = search needs
@@ -26,11 +26,11 @@ enum-known-m-4 c = search needs
 enum-known-m-5 : tie.Need-enum-known-m-5
 enum-known-m-5 c = search needs
 
-stop-by-requires-2 : tie.Need-stop-by-requires-2
-stop-by-requires-2 c κs = search needs
+stop-axis-requires-2 : tie.Need-stop-axis-requires-2
+stop-axis-requires-2 c κs = search needs
 
 returns : tie.Need-returns
-returns c = c .stop-by .ensures ∙ ap motionAxis (sym (c .before .enum-told .given .1))
+returns c = c .stop-axis .ensures ∙ ap motionAxis (sym (c .before .enum-told .given .1))
 
 returns-2 : tie.Need-returns-2
 returns-2 c = search needs
@@ -45,20 +45,20 @@ returns-5 : tie.Need-returns-5
 returns-5 c = search needs
 
 returns-6 : tie.Need-returns-6
-returns-6 c = c .stop-by2 .ensures ∙ ap motionAxis (sym (c .before .before .m5 .given .1))
+returns-6 c = c .stop-axis2 .ensures ∙ ap motionAxis (sym (c .before .before .m5 .given .1))
 
 pub axis-of-spec : {M : Type 1} → statement M
 axis-of-spec =
     tie.close
     (tie.spec
     enum-told
-    stop-by-requires
+    stop-axis-requires
     enum-known-m
     enum-known-m-2
     enum-known-m-3
     enum-known-m-4
     enum-known-m-5
-    stop-by-requires-2
+    stop-axis-requires-2
     returns
     returns-2
     returns-3
