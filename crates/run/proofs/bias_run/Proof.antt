@@ -1,0 +1,69 @@
+-- `run::bias_run` meets its contract: the load decides, and where it answers 0 the run is one that the theorem speaks of. Assumes nothing.
+use borrow.Author.Needs.{needs}
+use denote.Ref.{now}
+use lib.ListN.{length}
+use mathlib.Core.List.{List}
+use mathlib.Core.Path.{ap, _∙_}
+use Prim.Native.Nat.{ℕ}
+use Rattle.bias.specs.Run.{bufferAfter}
+use Rattle.run.specs.Steps.{stepsOf}
+use Rattle.run.proofs.Laws.{refused, accepted, theorem}
+use Rattle.run.proofs.bias_run.Statement.{statement}
+use Rattle.run.proofs.bias_run.Tie as tie
+
+bias-load-requires : tie.Need-bias-load-requires
+bias-load-requires c κs = search needs
+
+same-length : tie.Need-same-length
+same-length c = search needs
+
+same-length-2 : tie.Need-same-length-2
+same-length-2 c = search needs
+
+returns : tie.Need-returns
+returns c =
+    let a = c .before .before .before .before .before .before .before .before .before .before .before .before .before .args in
+    let l = c .before .before .before .before .before .before .bias-load .ensures in
+    let n = length (now (a .marks)) in (
+      l .0,
+      (
+        l .1 .0 ∙ refused (now (a .image)) n (now (a .state)) (now (a .steps)) _ (l .0) (c .if1 .taken),
+        (l .1 .1, theorem (now (a .image)) n (now (a .state)) (now (a .steps)) _ (l .0) (λ k. c .before .before .before .before .before .before .before .before .before .before .before .before .shared-slice-known .given k .fits)),
+      ),
+    )
+
+run-steps-requires : tie.Need-run-steps-requires
+run-steps-requires c κs = search needs
+
+same-length-3 : tie.Need-same-length-3
+same-length-3 c = search needs
+
+same-length-4 : tie.Need-same-length-4
+same-length-4 c = search needs
+
+returns-2 : tie.Need-returns-2
+returns-2 c =
+    let a = c .before .before .before .before .before .before .before .before .before .before .before .before .before .before .before .before .before .args in
+    let l = c .before .before .before .before .before .before .before .before .before .before .bias-load .ensures in
+    let n = length (now (a .marks)) in (
+      l .0,
+      (
+        c .before .before .run-steps .ensures
+            ∙ ap (λ (b : List ℕ). bufferAfter (now (a .image)) b (stepsOf (now (a .steps)))) (l .1 .0)
+            ∙ accepted (now (a .image)) n (now (a .state)) (now (a .steps)) _ (l .0) (c .before .before .before .before .if1 .left),
+        (l .1 .1, theorem (now (a .image)) n (now (a .state)) (now (a .steps)) _ (l .0) (λ k. c .before .before .before .before .before .before .before .before .before .before .before .before .before .before .before .before .shared-slice-known .given k .fits)),
+      ),
+    )
+
+pub bias-run-spec : {M : Type 1} → statement M
+bias-run-spec =
+    tie.close
+    (tie.spec
+    bias-load-requires
+    same-length
+    same-length-2
+    returns
+    run-steps-requires
+    same-length-3
+    same-length-4
+    returns-2)
