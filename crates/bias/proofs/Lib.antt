@@ -1,3 +1,5 @@
 pub mod Ways
+pub mod Every
 pub mod Loads
 pub mod Runs
+pub mod Demand

@@ -4,6 +4,7 @@ use Prim.Native.Nat.{ℕ, _<_, _≤_}
 use native.Mathlib.Omega.{arith}
 use mathlib.Core.Path.{_≡_, refl, sym, ap, _∙_, subst}
 use mathlib.Core.Bool.{Bool, true, false}
+use mathlib.Core.Logic.{_↔_}
 use mathlib.Core.List.{List}
 use lib.Dec.{eqb}
 use lib.ListN.{length}
@@ -29,8 +30,8 @@ use Rattle.machine.specs.Theorem.{loaded}
 use Rattle.border.specs.Border.{verdictFor}
 use Rattle.border.specs.declared.BiasVerdict.{BiasVerdict}
 use Rattle.bias.specs.Load.{Load, judgedLoad, load}
-use Rattle.bias.specs.Theorem.{Loads}
-use Rattle.bias.proofs.Ways.{marks-short, no-buffer, of-image, verdict-is, begins}
+use Rattle.bias.specs.Theorem.{Loads, LoadOf, WellFormed, SomeBad}
+use Rattle.bias.proofs.Ways.{marks-short, no-buffer, of-image, verdict-is, stays, begins}
 
 module _ (image : List ℕ) (n : ℕ) (b : List ℕ) where
   -- by cases: 13, 16, or the image
@@ -78,6 +79,14 @@ module _ (image : List ℕ) (n : ℕ) (b : List ℕ) where
   bad-number fault.NoCall d e = omega arith
   bad-number fault.PastEnd d e = omega arith
 
+  not-accepted : (v : Verdict) → (verdictNumber v ≡ 0 → ⊥) → isAccepted v ≡ false
+  not-accepted verdict.Accepted d = absurd (d refl)
+  not-accepted (verdict.MarksShort m) d = refl
+  not-accepted (verdict.Image o) d = refl
+  not-accepted (verdict.Block m k) d = refl
+  not-accepted (verdict.Foreign k) d = refl
+  not-accepted (verdict.Bad f p) d = refl
+
   accepted-says : {v : Verdict} → Judges image n v → verdictNumber v ≡ 0 → v ≡ verdict.Accepted
   accepted-says (Judges.marks short) e = absurd (omega arith)
   accepted-says (Judges.header room d) e = absurd (not-zero (headerOf image .outcome) d e)
@@ -101,3 +110,35 @@ module _ (image : List ℕ) (n : ℕ) (b : List ℕ) where
       (λ short. let e = ap (λ (v : BiasVerdict). v .number) (answered _ (marks-short image n b short)) in absurd (omega arith))
       (λ room wrong. let e = ap (λ (v : BiasVerdict). v .number) (answered _ (no-buffer image n b room wrong)) in absurd (omega arith))
       (λ room right. ap (λ (m : Load). m .buffer) (of-image image n b room right) ∙ begins image (verdictOf image n) b (ap isAccepted (accepted-load z)))
+
+  pub kept-load : (load image n b .verdict .number ≡ 0 → ⊥) → load image n b .buffer ≡ b
+  kept-load d =
+      ways
+      (λ short. ap (λ (m : Load). m .buffer) (marks-short image n b short))
+      (λ room wrong. ap (λ (m : Load). m .buffer) (no-buffer image n b room wrong))
+      (λ room right.
+      let e = ap (λ (v : BiasVerdict). v .number) (answered _ (of-image image n b room right) ∙ verdict-is image (verdictOf image n) b) in
+      ap (λ (m : Load). m .buffer) (of-image image n b room right) ∙ stays image (verdictOf image n) b (not-accepted (verdictOf image n) (λ z. d (e ∙ z))))
+
+  pub load-of : LoadOf image n b
+  load-of = record { answer = λ v. (loads-only v, λ e. rw e loads); accepted = fresh-load; refused = kept-load }
+
+  -- ---- refused exactly when some walk reaches a bad place
+
+  module _ (w : WellFormed image n b) where
+    number-is : load image n b .verdict .number ≡ verdictNumber (verdictOf image n)
+    number-is = ap (λ (v : BiasVerdict). v .number) (answered _ (of-image image n b (w .marks) (w .buffer)) ∙ verdict-is image (verdictOf image n) b)
+
+    both-ways : {v : Verdict} → Judges image n v → (verdictNumber v ≡ 0 → ⊥) ↔ SomeBad image
+    both-ways (Judges.marks short) = absurd (let m = w .marks in omega arith)
+    both-ways (Judges.header room d) = clash (sym (w .header) ∙ d)
+    both-ways (Judges.block room d c l all bad) = absurd (bad (w .blocks c l))
+    both-ways (Judges.walks room d all v (Says.accepted f g)) = (λ r. absurd (r refl), λ s. absurd (g (s .place) (s .bad)))
+    both-ways (Judges.walks room d all v (Says.foreign p f g)) = absurd (w .own p f)
+    both-ways (Judges.walks room d all v (Says.bad f p q g)) =
+        (λ r. record { place = p; bad = q }, λ s e. bad-number (faultAt (headerOf image .header) (blocksOf image) p) (q .1) e)
+
+    pub refused-exactly : (load image n b .verdict .number ≡ 0 → ⊥) ↔ SomeBad image
+    refused-exactly =
+        let e = both-ways (verdict-judges image n) in
+        (λ r. e .0 (λ z. r (number-is ∙ z)), λ s z. e .1 s (sym number-is ∙ z))

@@ -5,11 +5,12 @@ use mathlib.Core.Path.{_≡_, refl, sym, ap, _∙_, subst}
 use mathlib.Core.Bool.{Bool, true, false}
 use mathlib.Core.List.{List, [], _∷_, map}
 use lib.Dec.{eqb, ltb}
-use lib.ListN.{length}
+use lib.ListN.{length, getD}
 use borrow.Author.Tests.{lt-ltb, le-ltb, eq-eqb, ne-eqb, eqb-true, eqb-false}
 use Rattle.le.specs.LittleEndian.{Bytes}
 use Rattle.number.proofs.Choice.{by, clash, either}
-use Rattle.image.specs.Scan.{blocksOf}
+use Rattle.image.specs.Scan.{headerOf, blocksOf}
+use Rattle.rows.specs.Rows.{rowOf}
 use Rattle.flow.specs.Flow.{taskCount}
 use Rattle.point.specs.declared.Point.{Point}
 use Rattle.walk.specs.Program.{commandAt}
@@ -22,10 +23,10 @@ use Rattle.layout.specs.Decoded.{decoded}
 use Rattle.layout.specs.Encoded.{encoded}
 use Rattle.layout.specs.Test.{isState}
 use Rattle.layout.proofs.Round.{decode-encode, good-state}
-use Rattle.machine.specs.Given.{Inputs}
+use Rattle.machine.specs.Given.{Inputs, level}
 use Rattle.machine.specs.Engine.{given, fits, pointOf, answerTo, performed, taskStep, step}
 use Rattle.machine.specs.Effect.{effectOf}
-use Rattle.machine.specs.Reference.{Machine, Did, begun, turn}
+use Rattle.machine.specs.Reference.{Thread, Machine, Did, idle, begun, replies, does, lost, tries, acts, turn}
 use Rattle.machine.specs.Alike.{Alike}
 use Rattle.machine.specs.Run.{outs, dids, stateAfter, machineAfter, SameHanded, Permitted}
 use Rattle.machine.specs.Each.{Calls, noCalls, callsAfter, Step, EveryStep}
@@ -43,7 +44,7 @@ use Rattle.border.specs.declared.BiasAnswer.{BiasAnswer}
 use Rattle.bias.specs.Load.{load}
 use Rattle.bias.specs.Step.{Stepped, refuse, handed, stepState, stepped}
 use Rattle.bias.specs.Run.{answers, bufferAfter, referenceAnswers}
-use Rattle.bias.specs.Theorem.{refused, StepOn, EveryStepOn, Run, EveryRun}
+use Rattle.bias.specs.Theorem.{refused, differs, StepOn, EveryStepOn, Run, EveryRun}
 use Rattle.bias.proofs.Loads.{accepted-load, fresh-load}
 use Rattle.bias.proofs.Ways.{no-task, bad-inputs, of-buffer, of-state}
 
@@ -101,6 +102,50 @@ refused-stays image s x =
     effect : Effect
     effect = effectOf (given s (taskAt s (x .task)) x) (commandAt (blocksOf image) (taskAt s (x .task) .block)) (s .values)
 
+-- the reference machine never says that the image differs
+reply-same : (o : Outcome) (t : ℕ) (k : Thread) → differs (replies o t k) ≡ false
+reply-same outcome.GoOn t k = refl
+reply-same (outcome.Stay time turns) t k = refl
+reply-same (outcome.Jump a) t k = refl
+reply-same (outcome.Call a) t k = refl
+reply-same outcome.Return t k = refl
+reply-same (outcome.Start u a) t k = refl
+reply-same outcome.Restart t k = refl
+reply-same outcome.End t k = refl
+reply-same (outcome.Halt n) t k = refl
+
+turn-same : (image : List ℕ) (m : Machine) (x : Inputs) → differs (turn image m x .answer) ≡ false
+unfolding turn acts tries does
+turn-same image m x =
+    either Same (ltb 2 (x .task)) refl
+    (either Same (eqb (length (x .levels)) 256)
+    (either Same (k .runs)
+    (either Same (ltb (k .block) (headerOf image .header .count))
+    (either Same (eqb (rowOf (commandAt (blocksOf image) (k .block) .code) .layout) 0) refl
+    (either Same (lost (effect .outcome) (k .returns)) refl (reply-same (effect .outcome) (x .task) k)))
+    refl)
+    refl)
+    refl)
+  where
+    Same : Did → Type 0
+    Same d = differs (d .answer) ≡ false
+
+    k : Thread
+    k = getD (m .threads) (x .task) idle
+
+    effect : Effect
+    effect =
+        effectOf
+        (record {
+          model = headerOf image .header .drive .model;
+          levels = x .levels;
+          start = level (x .start);
+          reached = level (x .reached);
+          time = k .time;
+          turns = k .turns;
+        })
+        (commandAt (blocksOf image) (k .block)) (m .values)
+
 -- ---- a list of steps
 
 module _ (image : List ℕ) (bytes : Bytes image) where
@@ -121,23 +166,26 @@ module _ (image : List ℕ) (bytes : Bytes image) where
       let f = ap (λ (b : List ℕ). answers image b xs) (buffer-is image s g x) ∙ answers-are (step image s x .state) (next-good s g x) (turn image m x .machine) xs h in
       λ ι. e ι ∷ f ι
 
-  step-on : (s : State) → Good s → (calls : Calls) (x : Inputs) → Step image calls s x → StepOn image calls (encoded s) x
-  step-on s g calls x p =
+  step-on : (s : State) → Good s → (calls : Calls) (x : Inputs) → Step image calls s x → differs (step image s x .answer) ≡ false → StepOn image calls (encoded s) x
+  step-on s g calls x p same =
       let d = decode-encode s g in
       record {
         held = good-state s g;
         parts = subst (λ (r : State). Step image calls r x) (sym d) p;
         answer = answer-is image s g x ∙ ap (λ (r : State). answerFor (step image r x .motion) (step image r x .answer)) (sym d);
         state = ap decoded (buffer-is image s g x) ∙ decode-encode (step image s x .state) (next-good s g x) ∙ ap (λ (r : State). step image r x .state) (sym d);
+        same = ap (λ (r : State). differs (step image r x .answer)) d ∙ same;
         stays = λ r. buffer-is image s g x ∙ ap encoded (refused-stays image s x (sym (ap (λ (r : State). refused (step image r x .answer)) d) ∙ r));
       }
 
-  each-on : (s : State) → Good s → (calls : Calls) (xs : List Inputs) → EveryStep image calls s xs → EveryStepOn image calls (encoded s) xs
-  each-on s g calls [] h = EveryStepOn.none
-  each-on s g calls (x ∷ xs) (EveryStep.more p h) =
-      let later = each-on (step image s x .state) (next-good s g x) (callsAfter image s x calls) xs h in
+  each-on : (s : State) → Good s → (m : Machine) (calls : Calls) (xs : List Inputs) → EveryStep image calls s xs → SameHanded (outs image s xs) (dids image m xs)
+      → EveryStepOn image calls (encoded s) xs
+  unfolding outs dids
+  each-on s g m calls [] h i = EveryStepOn.none
+  each-on s g m calls (x ∷ xs) (EveryStep.more p h) (SameHanded.more a o i) =
+      let later = each-on (step image s x .state) (next-good s g x) (turn image m x .machine) (callsAfter image s x calls) xs h i in
       let first = subst (λ (b : List ℕ). EveryStepOn image (callsAfter image s x calls) b xs) (sym (buffer-is image s g x)) later in
-      EveryStepOn.more (step-on s g calls x p) (subst (λ (r : State). EveryStepOn image (callsAfter image r x calls) (stepped image (encoded s) x .buffer) xs) (sym (decode-encode s g)) first)
+      EveryStepOn.more (step-on s g calls x p (ap differs a ∙ turn-same image m x)) (subst (λ (r : State). EveryStepOn image (callsAfter image r x calls) (stepped image (encoded s) x .buffer) xs) (sym (decode-encode s g)) first)
 
 -- ---- from a load that answers 0
 
@@ -160,7 +208,7 @@ module _ (image : List ℕ) (n : ℕ) (bytes : Bytes image) (ok : verdictOf imag
         same = answers-are image bytes (loaded image) loaded-good (begun image) xs (r .answers);
         alike = subst (λ (q : State). Alike q (machineAfter image (begun image) xs)) (sym d) (r .alike);
         permitted = subst (λ (q : State). (t : ℕ) → t < taskCount → taskAt q t .status ≡ runs → Permitted image t (taskAt q t)) (sym d) (r .permitted);
-        steps = each-on image bytes (loaded image) loaded-good noCalls xs (r .steps);
+        steps = each-on image bytes (loaded image) loaded-good (begun image) noCalls xs (r .steps) (r .answers);
         held = ap isState e ∙ good-state s (r .good bytes);
       }
 

@@ -1,4 +1,5 @@
 pub mod Load
 pub mod Step
+pub mod Every
 pub mod Run
 pub mod Theorem

@@ -1,25 +1,31 @@
--- Demand 3, of the functions that C calls (design, "Demand 3, one theorem"): parts 1 to 6 as `every-run` in proofs/Runs.antt, part 7 as `loads` and
--- `loads-only` in proofs/Loads.antt. Assumes nothing.
+-- Demand 3, of the functions that C calls (docs/PROMISES.md numbers its parts), as one claim, `Demand`: parts 1 to 6 are `EveryRun`, part 7 is `EveryLoad`, with
+-- the user's own sentence beside it. Proved as `demand` in proofs/Demand.antt. Assumes nothing.
 use Prim.Native.Nat.{ℕ, _<_, _≤_}
 use mathlib.Core.Path.{_≡_}
 use mathlib.Core.Bool.{Bool, true, false}
+use mathlib.Core.Logic.{_↔_}
 use mathlib.Core.List.{List, [], _∷_}
 use lib.ListN.{length}
 use Rattle.le.specs.LittleEndian.{Bytes}
+use Rattle.outcome.specs.Outcome.{done}
+use Rattle.image.specs.Scan.{headerOf, blocksOf}
 use Rattle.flow.specs.Flow.{taskCount}
+use Rattle.point.specs.declared.Point.{Point}
 use Rattle.walk.specs.Index.{marksLength}
-use Rattle.walk.specs.Says.{Judges}
+use Rattle.walk.specs.Says.{BadAt, NoForeign, BlockPasses, Judges}
 use Rattle.walk.specs.declared.Verdict.{Verdict}
 use Rattle.walk.specs.declared.Verdict.the-variants.{MarksShort}
 use Rattle.state.specs.State.{runs, taskAt}
 use Rattle.layout.specs.Layout.{bufferLength}
 use Rattle.layout.specs.Decoded.{decoded}
+use Rattle.layout.specs.Encoded.{encoded}
 use Rattle.layout.specs.Test.{isState}
 use Rattle.machine.specs.Given.{Inputs}
 use Rattle.machine.specs.Engine.{step}
 use Rattle.machine.specs.Reference.{begun}
 use Rattle.machine.specs.Alike.{Alike}
 use Rattle.machine.specs.Run.{machineAfter, Permitted}
+use Rattle.machine.specs.Theorem.{loaded}
 use Rattle.machine.specs.Each.{Calls, noCalls, callsAfter, Step}
 use Rattle.machine.specs.declared.Answer.{Answer}
 use Rattle.machine.specs.declared.Answer.the-variants.{Done, NoTask, Inputs as BadInputs, NotRunning, Differs, Halted}
@@ -40,6 +46,15 @@ refused NotRunning = true
 refused (Differs p) = true
 refused (Halted n p) = false
 
+-- 17: the lent image differs from the loaded one
+abbrev pub differs : Answer → Bool
+differs Done = false
+differs (NoTask t) = false
+differs (BadInputs n) = false
+differs NotRunning = false
+differs (Differs p) = true
+differs (Halted n p) = false
+
 pub record StepOn (image : List ℕ) (calls : Calls) (b : List ℕ) (x : Inputs) : Type 0 where
   -- the buffer is a state
   pub held : isState b ≡ true
@@ -48,6 +63,8 @@ pub record StepOn (image : List ℕ) (calls : Calls) (b : List ℕ) (x : Inputs)
   -- which are of this step: what it hands out is the answer, and the state after it is what the buffer holds then
   pub answer : stepped image b x .answer ≡ answerFor (step image (decoded b) x .motion) (step image (decoded b) x .answer)
   pub state : decoded (stepped image b x .buffer) ≡ step image (decoded b) x .state
+  -- it is not refused by 17 (nor by 16, since the buffer is a state)
+  pub same : differs (step image (decoded b) x .answer) ≡ false
   -- refused, it leaves the buffer as it was
   pub stays : refused (step image (decoded b) x .answer) ≡ true → stepped image b x .buffer ≡ b
 
@@ -75,10 +92,44 @@ pub record Run (image b : List ℕ) (xs : List Inputs) : Type 0 where
 abbrev pub EveryRun : Type 0
 EveryRun = (image : List ℕ) (n : ℕ) (b : List ℕ) → Bytes image → load image n b .verdict .number ≡ 0 → (xs : List Inputs) → Run image (load image n b .buffer) xs
 
--- ---- part 7: what a load answers
+-- ---- part 7: loads
 
 -- 13, then 16, then what the image comes to (walk/specs/Says.antt): the header, the first block that 5 to 8 refuse, and else what walks say
 pub data Loads (image : List ℕ) (n : ℕ) (b : List ℕ) : BiasVerdict → Type 0 where
   marks : n < marksLength → Loads image n b (verdictFor (MarksShort n))
   buffer : marksLength ≤ n → (length b ≡ bufferLength → ⊥) → Loads image n b (numbered noState 0)
   judged : marksLength ≤ n → length b ≡ bufferLength → (v : Verdict) → Judges image n v → Loads image n b (verdictFor v)
+
+pub record LoadOf (image : List ℕ) (n : ℕ) (b : List ℕ) : Type 0 where
+  -- the answer is that, and nothing else is
+  pub answer : (v : BiasVerdict) → Loads image n b v ↔ (v ≡ load image n b .verdict)
+  -- after 0 the buffer holds the fresh state, and else it is as it was
+  pub accepted : load image n b .verdict .number ≡ 0 → load image n b .buffer ≡ encoded (loaded image)
+  pub refused : (load image n b .verdict .number ≡ 0 → ⊥) → load image n b .buffer ≡ b
+
+abbrev pub EveryLoad : Type 0
+EveryLoad = (image : List ℕ) (n : ℕ) (b : List ℕ) → LoadOf image n b
+
+-- header, blocks and lent lengths are well formed: 13, 16 and 1 to 8 let them pass, with the 7 of a 51 that would end another task
+pub record WellFormed (image : List ℕ) (n : ℕ) (b : List ℕ) : Type 0 where
+  pub marks : marksLength ≤ n
+  pub buffer : length b ≡ bufferLength
+  pub header : done (headerOf image .outcome) ≡ true
+  pub blocks : (k : ℕ) → k < headerOf image .header .count → BlockPasses (headerOf image .header) (blocksOf image) k
+  pub own : NoForeign (headerOf image .header) (blocksOf image)
+
+-- some walk reaches a bad place
+pub record SomeBad (image : List ℕ) : Type 0 where
+  pub place : Point
+  pub bad : BadAt (headerOf image .header) (blocksOf image) place
+
+-- then a load is refused exactly when some walk reaches a bad place
+abbrev pub RefusedExactly : Type 0
+RefusedExactly = (image : List ℕ) (n : ℕ) (b : List ℕ) → WellFormed image n b → (load image n b .verdict .number ≡ 0 → ⊥) ↔ SomeBad image
+
+-- ---- the whole
+
+pub record Demand : Type 0 where
+  pub runs : EveryRun
+  pub loads : EveryLoad
+  pub exactly : RefusedExactly

@@ -246,11 +246,11 @@ module _ (image : List ℕ) (bytes : Bytes image) (s : State) (g : Good s) (x : 
   unfolding successors
   next q m = successors-within h bs p q (record { task = l; block = known .block; depth = known .depth }) (rw fault-free m)
 
-  fit-here : Fit (h .count) c
+  pub fit-here : Fit (h .count) c
   unfolding commandAt
   fit-here = fit h (blockAt bs (k .block)) (bytes-at image bytes (k .block)) (eqb-true _ 0 (block-fits .0))
 
-  law : Law (c .code) c (given s k x) (s .values) e
+  pub law : Law (c .code) c (given s k x) (s .values) e
   law = every-law (given s k x) c (s .values) (layout-some (c .code) t (passed .allowed))
 
   tasks : GoodTasks h (s .tasks)
