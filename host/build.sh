@@ -1,18 +1,24 @@
 #!/bin/sh
 # Builds the host programs with plain cc and rustc into target/host: example, makefeed, diff, fuzz, bench, trace, and the
 # reference as an archive of its own. A missing compiler is a failure.
-# Usage: host/build.sh LIBRARY        LIBRARY is the archive of the proved library, as `rt staticlib bias` makes it
+# Usage: host/build.sh                proves the library and makes its archive first (rt staticlib bias)
+#        host/build.sh LIBRARY        with an archive that is there
 #        host/build.sh --stand-in     the reference under the library's names, to try the programs without a library
 set -eu
-if [ $# -ne 1 ]; then
-    echo "usage: host/build.sh LIBRARY | --stand-in" >&2
+if [ $# -gt 1 ]; then
+    echo "usage: host/build.sh [LIBRARY | --stand-in]" >&2
     exit 2
 fi
-case $1 in
---stand-in | /*) library=$1 ;;
-*) library=$PWD/$1 ;;
+library=${1:-}
+case $library in
+"" | --stand-in | /*) ;;
+*) library=$PWD/$library ;;
 esac
 cd "$(dirname "$0")/.."
+if [ -z "$library" ]; then
+    rt staticlib bias
+    library=$PWD/target/staticlib/libbias.a
+fi
 out=target/host
 system="-lpthread -ldl -lm"
 

@@ -1,6 +1,6 @@
 #!/bin/sh
 # Builds the host programs (host/build.sh) and runs every test on them; the last line is 'N passed, M failed'.
-# Usage: host/check.sh LIBRARY | --stand-in
+# Usage: host/check.sh [LIBRARY | --stand-in], as for host/build.sh
 # MANUAL names the folder with the manual's examples (stdin) and their trace (stdout); crates/manual unless set.
 set -eu
 "$(dirname "$0")/build.sh" "$@"

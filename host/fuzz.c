@@ -12,6 +12,10 @@
 
 #include "bias.h"
 
+/* The results have the sizes that the library hands back. */
+typedef char verdict_has_24_bytes[sizeof(bias_verdict) == 24 ? 1 : -1];
+typedef char answer_has_48_bytes[sizeof(bias_answer) == 48 ? 1 : -1];
+
 enum { GUARD = 0xA5, DEFAULT_CALLS = 100000, TASKS = 3, HIGHEST_NUMBER = 20 };
 #define DEFAULT_SEED 631u
 

@@ -1,28 +1,44 @@
 /* bias.h - load, step and write BIAS motion programs.
  *
  * For drive firmware that has to run an old BIAS program (631, 635, 637, 637+, 637f). You keep the program's image and a
- * state buffer; bias_load judges the image and fills the state; then, each trajectory cycle, bias_step carries out one
- * command of the task that you name and tells you whether an axis is to be moved. bias_write makes an image.
+ * state buffer; bias_load judges the image and fills the state; then, in each cycle of the old drive, bias_step carries
+ * out one command of the task that you name and tells you whether the axis is to be moved. bias_write makes an image.
  *
- * The library keeps nothing of its own: no globals, no heap, no threads, no calls to the system. Everything it knows is
- * in the buffers that you lend. Two programs with two states may be stepped from two threads.
+ * What is written here of answers, of their order and of the content of lent buffers is proved of the library's source
+ * (docs/PROMISES.md). What is not proved says so.
+ *
+ * All that the library knows is in the buffers that you lend: the language it is written in has no globals, no heap and
+ * no threads. Seen in the archive, not proved: of other libraries it needs memcpy and memset alone. Two states may be
+ * stepped from two threads; one state from one thread at a time.
  *
  * WHAT YOU PROMISE
  *   - A pointer and its length describe memory that you own. Nothing else is asked of a length or a content: every
  *     byte that can be lent is answered, with a refusal where it has to be. Of a buffer of length 0 no byte is read;
  *     its pointer should still not be null.
  *   - Buffers lent in one call don't overlap. Buffers need no alignment.
- *   - Between a load and the steps after it the image stays as it is. (A changed header, length or current block is
- *     refused by 17; a change elsewhere in the image is not seen until a task comes there.)
- *   - Nobody but the library writes a state buffer. A copy of it, byte for byte, is the same state.
+ *   - Between a load and the steps after it the image stays as it is. Another header or length is refused by 17, and so
+ *     is a current block that is no permitted command there. Any other change goes unnoticed, and then what runs is not
+ *     the program that was judged: 17 is no checksum.
+ *   - Nobody but the library writes a state buffer. 16 refuses what is no state; it is no checksum either. A copy of the
+ *     buffer, byte for byte, is the same state.
  *
  * WHAT YOU LEND
- *   image   as long as the program: at most 12,008 bytes; only read
+ *   image   the program's bytes; only read. One of more than 12,008 bytes is always refused
  *   marks   BIAS_MARKS_LENGTH (40,500) bytes or more, during bias_load only; its content needs no clearing, and is
- *           anything afterwards; bytes past 40,500 are not touched
+ *           anything afterwards; the library leaves bytes behind the first 40,500 alone
  *   state   BIAS_STATE_LENGTH (2,048) bytes exactly, one buffer for each program that runs
  *   inputs  BIAS_INPUTS_LENGTH (256) bytes exactly, during bias_step only; only read
- * Besides, a call uses at most 16 KiB of stack.
+ * Besides, a step uses about 8 KiB of stack and a load or a write under 1 KiB, as measured on x86-64 (docs/BENCH.md).
+ *
+ * IN EACH CYCLE
+ *   1. Read the input pins into inputs, and the start input (which is a pin as well: lend it in both places).
+ *   2. Step BIAS, then the PLC and mathematics, each once or more. Waits (59, 5A) count BIAS steps of 1,899 or 844 us, by
+ *      the drive type in the image's header and not by your own cycle: step BIAS once in that time.
+ *   3. Hand each motion request to the axis when it comes. From that step on, position_reached has to be 0 until the
+ *      axis has done what was asked; else a 58 right behind a move passes at once.
+ *   4. Carry the output levels from the state buffer to the pins. After a load they are all 0.
+ *   5. Note 19 and 20 when they come: they come once, and from then on that task answers 18. No motion is asked for when
+ *      a task halts or ends; stopping the axis is up to you.
  */
 #ifndef BIAS_H
 #define BIAS_H
@@ -43,7 +59,7 @@ extern "C" {
 #define BIAS_BLOCK_LENGTH 8u        /* a command code and seven operand bytes */
 #define BIAS_MOST_BLOCKS 1500u
 #define BIAS_MOST_DEPTH 8u          /* calls (52) that a task may be inside of */
-#define BIAS_MOST_IMAGE_LENGTH 12008u /* header of 4 + 2 + 2 bytes, 1500 blocks */
+#define BIAS_MOST_IMAGE_LENGTH 12008u /* header of 4 + 2 + 2 bytes, 1500 blocks; room enough for any bias_write */
 #define BIAS_FORMAT 1u
 
 /* What firmware may read in a state buffer; the bytes behind them may move with a later format. */
@@ -79,7 +95,7 @@ enum {
     BIAS_MOTION_STOP = 5              /* mode and deceleration */
 };
 enum {
-    BIAS_STOP_ABRUPT = 0,             /* the target becomes the present position */
+    BIAS_STOP_ABRUPT = 0,             /* the target becomes the present position; a deceleration is carried all the same */
     BIAS_STOP_GUIDED = 1              /* along the deceleration ramp */
 };
 
@@ -89,8 +105,9 @@ enum {
     BIAS_SUCCESS = 0,
     /* the image, from bias_load; 1, 3 and 4 also from bias_write */
     BIAS_ENDS_EARLY = 1,              /* the image's length; bias_write: blocks too short, their length */
-    BIAS_NOT_SHORTEST = 2,            /* a header number in a longer form than needed: its first byte */
-    BIAS_BAD_HEADER = 3,              /* a header number out of range: its first byte */
+    BIAS_NOT_SHORTEST = 2,            /* a header number longer than needed, or a second byte of 128 or more: its first byte */
+    BIAS_BAD_HEADER = 3,              /* a header number out of range, a board not for the type, a start not below the count:
+                                         its first byte; bias_write: the byte where it would stand */
     BIAS_LEFT_OVER = 4,               /* the first byte left over; bias_write: blocks too long, their length */
     BIAS_BAD_CODE = 5,                /* a command that is not carried: block */
     BIAS_NOT_ON_DRIVE = 6,            /* a pin or command that the drive lacks: block */
@@ -104,9 +121,10 @@ enum {
     BIAS_MARKS_SHORT = 13,            /* bias_load: marks under 40,500 bytes: their length */
     BIAS_ROOM_SHORT = 14,             /* bias_write: no room for the image: the length needed */
     BIAS_BAD_INPUTS = 15,             /* bias_step: no such task: its number; or not 256 inputs: their length */
-    BIAS_NO_STATE = 16,               /* the state has another length than 2,048 or is no state: none */
+    BIAS_NO_STATE = 16,               /* the state has another length than 2,048, or, in bias_step, is no state: none */
     /* steps */
-    BIAS_OTHER_IMAGE = 17,            /* not the loaded image, or its current block is not permitted: block, task, depth */
+    BIAS_OTHER_IMAGE = 17,            /* header or length not the loaded image's, or the current block breaks 5 to 12, or a wait
+                                         is pending there and it is no wait: block, task, depth */
     BIAS_NOT_RUNNING = 18,            /* the task was never started, has ended or is halted: none */
     BIAS_ZERO_DIVISOR = 19,           /* 8D by a variable that holds 0; the task halts: block, task, depth */
     BIAS_BAD_CONTENT = 20             /* 31 to 33 or 5A read a variable out of range; the task halts: block, task, depth */
@@ -121,7 +139,7 @@ typedef struct {
 
 /* The answer of bias_step. Fields that the motion request does not carry are 0. */
 typedef struct {
-    uint64_t place;                   /* block (before the step), or for 15 the number or length */
+    uint64_t place;                   /* of 17, 19 and 20 the block before the step, of 15 the number or length, else 0 */
     uint32_t number;                  /* BIAS_SUCCESS or the refusal */
     uint32_t task, depth;             /* of 17, 19 and 20, else 0 */
     uint32_t motion;                  /* BIAS_MOTION_...; a refused or halting step has none */
@@ -135,9 +153,9 @@ typedef struct {
 /* Judges an image and, when it is accepted, writes the state of a program about to begin: BIAS at the program start, the
  * PLC and mathematics never started, all variables, flags and outputs 0, the start input taken as high before.
  *
- * Refusals, first come first: 13, 16, the header by 1, 2, 3, the length by 1 or 4, each block by 5, 6, 7, 8, then what
- * the program's ways can reach: 7 for a 51 that would end another task, 9 to 12. A refused load leaves the state buffer
- * as it was. */
+ * The first of these is told: 13, 16, the header's numbers by 1, 2, 3, the length by 1 or 4, each block upwards by 5, 6,
+ * 7, 8; then what the program can reach, with every condition taken both ways: 7 for a 51 that would end another task, at
+ * the least such block, and else 9 to 12 at the least bad place. A refused load leaves the state buffer as it was. */
 bias_verdict bias_load(const uint8_t *image, size_t image_len,
                        uint8_t *marks, size_t marks_len,
                        uint8_t *state, size_t state_len);
@@ -148,13 +166,15 @@ bias_verdict bias_load(const uint8_t *image, size_t image_len,
  *   state, state_len    what bias_load left and the steps since have changed
  *   task                BIAS_TASK_...; call once for each task and cycle, or in any order you like
  *   inputs, inputs_len  256 levels, inputs[n] for pin n; anything but 0 is high
- *   start_input         the start input's level; anything but 0 is high. A move without a start mark waits for it to
- *                       be high at a BIAS step and low at the one before
+ *   start_input         the start input's level; anything but 0 is high; looked at in BIAS steps. A move without a start
+ *                       mark waits for it to be high in a BIAS step and low in the BIAS step before it (a refused step
+ *                       does not count); as load leaves it, it counts as high before
  *   position_reached    anything but 0: the axis has reached its position (58 waits for it)
  *
- * Waits (59, 5A) count BIAS steps, so step BIAS once a cycle. 18 is no fault: a task that is not running has nothing to
- * do. Refusals 15, 16, 18 and 17, in this order, change nothing. 19 and 20 halt the task, note the start input's level
- * for BIAS, and change nothing else; the task stays halted until a 54, 57 or 90 of another task starts it anew. */
+ * 15, 16, 18 and 17 are tested in this order, and a step that they refuse leaves the state buffer as it was. 18 is no
+ * fault: a task that is not running has nothing to do. 19 and 20 halt the task and, in a BIAS step, note the start
+ * input's level; the rest of the state stays. The task stays halted until a 54, 57 or 90 of another task starts it
+ * anew. In a run from an accepted load, with image and state left alone, 16 and 17 do not come. */
 bias_answer bias_step(const uint8_t *image, size_t image_len,
                       uint8_t *state, size_t state_len,
                       uint32_t task,
@@ -170,8 +190,9 @@ bias_answer bias_step(const uint8_t *image, size_t image_len,
  *   blocks, blocks_len  8 bytes for each block
  *   out, out_len        room for the image; bytes behind it stay as they are
  *
- * Refusals: 3 (place: the byte where that number would stand), 1 or 4 for blocks that are too short or too long, 14. A
- * refused write leaves `out` as it was. On success `place` is the image's length. */
+ * Refusals, in this order: 3 (place: the byte where that number would stand), 1 or 4 for blocks that are too short or too
+ * long (place: their length), 14 (place: the length needed). A refused write leaves `out` as it was. On success `place`
+ * is the image's length. */
 bias_verdict bias_write(uint32_t format, uint32_t type, uint32_t slot_b, uint32_t slot_c,
                         uint32_t start, uint32_t count,
                         const uint8_t *blocks, size_t blocks_len,

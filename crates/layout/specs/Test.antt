@@ -1,4 +1,4 @@
--- 16: which buffers are a state (design, "The state buffer"). The tests are made of the state that the buffer is read as; only its length and its unused
+-- 16: which buffers are a state (docs/STATE.md). The tests are made of the state that the buffer is read as; only its length and its unused
 -- bytes are the buffer's own. Assumes nothing.
 use Prim.Native.Nat.{ℕ, zero, suc, _+_}
 use mathlib.Core.Bool.{Bool, true, _&&_, _||_, not}

@@ -1,4 +1,4 @@
--- What is proved of steps on values: the theorem over every list of steps (design, "Demand 3, one theorem", parts 1 to 6; part 7 is `exactly` in
+-- What is proved of steps on values: the theorem over every list of steps (demand 3, parts 1 to 6 in docs/PROMISES.md; part 7 is `exactly` in
 -- walk/proofs/Judged.antt), proved as `every-run` in proofs/Runs.antt; and that a step keeps good states, proved as `keeps-good` in
 -- proofs/Keeps.antt. Assumes nothing.
 use Prim.Native.Nat.{ℕ, _<_}
