@@ -7,7 +7,6 @@ use machine::Moment;
 use machine::Motion;
 use machine::Outcome;
 use operands::Command;
-use state::Axis;
 use state::Values;
 ghost use mathlib.Core.Path.{_≡_};
 ghost use mathlib.Core.Bool.{true, cond};

@@ -2,15 +2,14 @@
 -- Assumes nothing.
 use Prim.Native.Nat.{ℕ, _<_, _≤_}
 use native.Mathlib.Omega.{arith}
-use mathlib.Core.Path.{_≡_, refl, sym, ap, _∙_, subst}
+use mathlib.Core.Path.{_≡_, refl, ap, _∙_, subst}
 use mathlib.Core.Bool.{Bool, true, false}
 use mathlib.Core.List.{List}
 use lib.Dec.{eqb}
 use lib.ListN.{length}
-use borrow.Author.Tests.{lt-ltb, eq-eqb, ne-eqb, eqb-true, eqb-false}
+use borrow.Author.Tests.{lt-ltb, eq-eqb, eqb-true}
 use Rattle.le.specs.LittleEndian.{Bytes}
 use Rattle.image.specs.Scan.{blocksOf}
-use Rattle.number.proofs.Choice.{by}
 use Rattle.flow.specs.Flow.{taskCount}
 use Rattle.walk.specs.Program.{commandAt}
 use Rattle.state.specs.State.{cells, runs, taskAt}
@@ -18,7 +17,6 @@ use Rattle.state.specs.Good.{Good}
 use Rattle.state.specs.declared.Task.{Task}
 use Rattle.state.specs.declared.State.{State}
 use Rattle.layout.specs.Decoded.{decoded}
-use Rattle.layout.specs.Encoded.{encoded}
 use Rattle.layout.specs.Test.{isState}
 use Rattle.layout.proofs.Round.{state-good, encode-decode, good-state, decode-encode}
 use Rattle.machine.specs.Given.{Inputs}
@@ -37,8 +35,8 @@ use Rattle.machine.proofs.Keeps.{keeps-good, law, fit-here}
 use Rattle.border.specs.Border.{answerFor}
 use Rattle.border.specs.declared.BiasAnswer.{BiasAnswer}
 use Rattle.bias.specs.Step.{Stepped, refuse, handed, stepped}
-use Rattle.bias.specs.Every.{Way, StepOf, EveryStep}
-use Rattle.bias.proofs.Ways.{no-task, bad-inputs, of-buffer, no-state, of-state}
+use Rattle.bias.specs.Every.{Way, EveryStep}
+use Rattle.bias.proofs.Ways.{no-task, bad-inputs, of-buffer, no-state, of-state, asked}
 
 module _ (image b : List ℕ) (x : Inputs) where
   number-of : (a : Stepped) → stepped image b x ≡ a → stepped image b x .answer .number ≡ a .answer .number
@@ -136,17 +134,9 @@ module _ (image b : List ℕ) (x : Inputs) where
     unfolding handed
     task-held = ap isState (buffer-of _ was) ∙ good-state (step image s x .state) (keeps-good image bytes s good x)
 
-  -- by cases: no such task, inputs of another length, or both given
-  asked : {P : Type 0} → (taskCount ≤ x .task → P) → (x .task < taskCount → (length (x .levels) ≡ cells → ⊥) → P) → (x .task < taskCount → length (x .levels) ≡ cells → P) → P
-  asked {P} no-such wrong right = by (x .task) taskCount (λ l. go l (eqb (length (x .levels)) cells) refl) no-such
-    where
-      go : x .task < taskCount → (t : Bool) → eqb (length (x .levels)) cells ≡ t → P
-      go l true q = right l (eqb-true _ _ q)
-      go l false q = wrong l (eqb-false _ _ q)
-
   every-way : Bytes image → Bytes b → Way image b x
   every-way bytes own =
-      asked
+      asked image b x
       (λ l. turned-away _ (no-task image b x l) (omega arith) (omega arith) refl)
       (λ l n. turned-away _ (bad-inputs image b x l n) (omega arith) (omega arith) refl)
       (λ l g. state-or-not l g (isState b) refl)
@@ -157,7 +147,7 @@ module _ (image b : List ℕ) (x : Inputs) where
 
   every-held : Bytes image → Bytes b → isState b ≡ true → isState (stepped image b x .buffer) ≡ true
   every-held bytes own is =
-      asked
+      asked image b x
       (λ l. ap isState (buffer-of _ (no-task image b x l)) ∙ is)
       (λ l n. ap isState (buffer-of _ (bad-inputs image b x l n)) ∙ is)
       (λ l g. task-held bytes own l g is)

@@ -29,7 +29,7 @@ use Rattle.layout.specs.Encoded.{encoded}
 use Rattle.machine.specs.Theorem.{loaded}
 use Rattle.border.specs.Border.{verdictFor}
 use Rattle.border.specs.declared.BiasVerdict.{BiasVerdict}
-use Rattle.bias.specs.Load.{Load, judgedLoad, load}
+use Rattle.bias.specs.Load.{Load, load}
 use Rattle.bias.specs.Theorem.{Loads, LoadOf, WellFormed, SomeBad}
 use Rattle.bias.proofs.Ways.{marks-short, no-buffer, of-image, verdict-is, stays, begins}
 
@@ -95,20 +95,24 @@ module _ (image : List ℕ) (n : ℕ) (b : List ℕ) where
   accepted-says (Judges.walks room d all v (Says.foreign p f g)) e = absurd (omega arith)
   accepted-says (Judges.walks room d all v (Says.bad f p q g)) e = absurd (bad-number (faultAt (headerOf image .header) (blocksOf image) p) (q .1) e)
 
-  pub accepted-load : load image n b .verdict .number ≡ 0 → verdictOf image n ≡ verdict.Accepted
-  accepted-load z =
+  -- the number of a load that comes to the image is that of its verdict
+  number-is : marksLength ≤ n → length b ≡ bufferLength → load image n b .verdict .number ≡ verdictNumber (verdictOf image n)
+  number-is room right = ap (λ (v : BiasVerdict). v .number) (answered _ (of-image image n b room right) ∙ verdict-is image (verdictOf image n) b)
+
+  -- a load that answers 0 comes to the image
+  zero-way : {P : Type 0} → load image n b .verdict .number ≡ 0 → (marksLength ≤ n → length b ≡ bufferLength → P) → P
+  zero-way z f =
       ways
       (λ short. let e = ap (λ (v : BiasVerdict). v .number) (answered _ (marks-short image n b short)) in absurd (omega arith))
       (λ room wrong. let e = ap (λ (v : BiasVerdict). v .number) (answered _ (no-buffer image n b room wrong)) in absurd (omega arith))
-      (λ room right.
-      let e = ap (λ (v : BiasVerdict). v .number) (answered _ (of-image image n b room right) ∙ verdict-is image (verdictOf image n) b) in
-      accepted-says (verdict-judges image n) (sym e ∙ z))
+      f
+
+  pub accepted-load : load image n b .verdict .number ≡ 0 → verdictOf image n ≡ verdict.Accepted
+  accepted-load z = zero-way z (λ room right. accepted-says (verdict-judges image n) (sym (number-is room right) ∙ z))
 
   pub fresh-load : load image n b .verdict .number ≡ 0 → load image n b .buffer ≡ encoded (loaded image)
   fresh-load z =
-      ways
-      (λ short. let e = ap (λ (v : BiasVerdict). v .number) (answered _ (marks-short image n b short)) in absurd (omega arith))
-      (λ room wrong. let e = ap (λ (v : BiasVerdict). v .number) (answered _ (no-buffer image n b room wrong)) in absurd (omega arith))
+      zero-way z
       (λ room right. ap (λ (m : Load). m .buffer) (of-image image n b room right) ∙ begins image (verdictOf image n) b (ap isAccepted (accepted-load z)))
 
   pub kept-load : (load image n b .verdict .number ≡ 0 → ⊥) → load image n b .buffer ≡ b
@@ -117,8 +121,8 @@ module _ (image : List ℕ) (n : ℕ) (b : List ℕ) where
       (λ short. ap (λ (m : Load). m .buffer) (marks-short image n b short))
       (λ room wrong. ap (λ (m : Load). m .buffer) (no-buffer image n b room wrong))
       (λ room right.
-      let e = ap (λ (v : BiasVerdict). v .number) (answered _ (of-image image n b room right) ∙ verdict-is image (verdictOf image n) b) in
-      ap (λ (m : Load). m .buffer) (of-image image n b room right) ∙ stays image (verdictOf image n) b (not-accepted (verdictOf image n) (λ z. d (e ∙ z))))
+      ap (λ (m : Load). m .buffer) (of-image image n b room right)
+      ∙ stays image (verdictOf image n) b (not-accepted (verdictOf image n) (λ z. d (number-is room right ∙ z))))
 
   pub load-of : LoadOf image n b
   load-of = record { answer = λ v. (loads-only v, λ e. rw e loads); accepted = fresh-load; refused = kept-load }
@@ -126,9 +130,6 @@ module _ (image : List ℕ) (n : ℕ) (b : List ℕ) where
   -- ---- refused exactly when some walk reaches a bad place
 
   module _ (w : WellFormed image n b) where
-    number-is : load image n b .verdict .number ≡ verdictNumber (verdictOf image n)
-    number-is = ap (λ (v : BiasVerdict). v .number) (answered _ (of-image image n b (w .marks) (w .buffer)) ∙ verdict-is image (verdictOf image n) b)
-
     both-ways : {v : Verdict} → Judges image n v → (verdictNumber v ≡ 0 → ⊥) ↔ SomeBad image
     both-ways (Judges.marks short) = absurd (let m = w .marks in omega arith)
     both-ways (Judges.header room d) = clash (sym (w .header) ∙ d)
@@ -141,4 +142,5 @@ module _ (image : List ℕ) (n : ℕ) (b : List ℕ) where
     pub refused-exactly : (load image n b .verdict .number ≡ 0 → ⊥) ↔ SomeBad image
     refused-exactly =
         let e = both-ways (verdict-judges image n) in
-        (λ r. e .0 (λ z. r (number-is ∙ z)), λ s z. e .1 s (sym number-is ∙ z))
+        let m = number-is (w .marks) (w .buffer) in
+        (λ r. e .0 (λ z. r (m ∙ z)), λ s z. e .1 s (sym m ∙ z))

@@ -1,14 +1,13 @@
 -- The theorem over every list of steps, of the functions that C calls: along a run the buffer is the bytes of the state that the engine's run on values
 -- has come to (machine/proofs/Runs.antt), since a good state is read back from its bytes and a step keeps good states. Assumes nothing.
-use Prim.Native.Nat.{ℕ, _<_, _≤_}
+use Prim.Native.Nat.{ℕ, _<_}
 use mathlib.Core.Path.{_≡_, refl, sym, ap, _∙_, subst}
-use mathlib.Core.Bool.{Bool, true, false}
-use mathlib.Core.List.{List, [], _∷_, map}
+use mathlib.Core.Bool.{true, false}
+use mathlib.Core.List.{List, [], _∷_}
 use lib.Dec.{eqb, ltb}
 use lib.ListN.{length, getD}
-use borrow.Author.Tests.{lt-ltb, le-ltb, eq-eqb, ne-eqb, eqb-true, eqb-false}
 use Rattle.le.specs.LittleEndian.{Bytes}
-use Rattle.number.proofs.Choice.{by, clash, either}
+use Rattle.number.proofs.Choice.{clash, either}
 use Rattle.image.specs.Scan.{headerOf, blocksOf}
 use Rattle.rows.specs.Rows.{rowOf}
 use Rattle.flow.specs.Flow.{taskCount}
@@ -40,13 +39,11 @@ use Rattle.machine.specs.Theorem as values
 use Rattle.machine.proofs.Runs as machine
 use Rattle.engine.proofs.Laws as engine
 use Rattle.border.specs.Border.{answerFor}
-use Rattle.border.specs.declared.BiasAnswer.{BiasAnswer}
-use Rattle.bias.specs.Load.{load}
-use Rattle.bias.specs.Step.{Stepped, refuse, handed, stepState, stepped}
+use Rattle.bias.specs.Step.{Stepped, handed, stepped}
 use Rattle.bias.specs.Run.{answers, bufferAfter, referenceAnswers}
 use Rattle.bias.specs.Theorem.{refused, differs, StepOn, EveryStepOn, Run, EveryRun}
 use Rattle.bias.proofs.Loads.{accepted-load, fresh-load}
-use Rattle.bias.proofs.Ways.{no-task, bad-inputs, of-buffer, of-state}
+use Rattle.bias.proofs.Ways.{no-task, bad-inputs, of-buffer, of-state, asked}
 
 -- ---- one step of the bytes of a good state
 
@@ -55,14 +52,10 @@ module _ (image : List ℕ) (s : State) (g : Good s) (x : Inputs) where
   is-step : stepped image (encoded s) x ≡ handed (step image s x)
   unfolding handed
   is-step =
-      by (x .task) taskCount
-      (λ l. go l (eqb (length (x .levels)) cells) refl)
+      asked image (encoded s) x
       (λ l. no-task image (encoded s) x l ∙ ap handed (engine.no-task image s x l))
-    where
-      go : x .task < taskCount → (t : Bool) → eqb (length (x .levels)) cells ≡ t → stepped image (encoded s) x ≡ handed (step image s x)
-      go l true e =
-          of-buffer image (encoded s) x l (eqb-true _ _ e) ∙ of-state image (encoded s) x (good-state s g) ∙ ap (λ (r : State). handed (step image r x)) (decode-encode s g)
-      go l false e = let n = eqb-false _ _ e in bad-inputs image (encoded s) x l n ∙ ap handed (engine.bad-inputs image s x l n)
+      (λ l n. bad-inputs image (encoded s) x l n ∙ ap handed (engine.bad-inputs image s x l n))
+      (λ l e. of-buffer image (encoded s) x l e ∙ of-state image (encoded s) x (good-state s g) ∙ ap (λ (r : State). handed (step image r x)) (decode-encode s g))
 
   buffer-is : stepped image (encoded s) x .buffer ≡ encoded (step image s x .state)
   unfolding handed

@@ -1,24 +1,23 @@
 -- Each way that a load and a step go, by the test that leads there. Assumes nothing.
 use Prim.Native.Nat.{ℕ, _<_, _≤_}
 use mathlib.Core.Path.{_≡_, refl, sym, ap, _∙_}
-use mathlib.Core.Bool.{true, false}
+use mathlib.Core.Bool.{Bool, true, false}
 use mathlib.Core.List.{List}
 use lib.ListN.{length}
-use borrow.Author.Tests.{lt-ltb, le-ltb, eq-eqb, ne-eqb}
+use lib.Dec.{eqb}
+use borrow.Author.Tests.{lt-ltb, le-ltb, eq-eqb, ne-eqb, eqb-true, eqb-false}
+use Rattle.number.proofs.Choice.{by}
 use Rattle.flow.specs.Flow.{taskCount}
 use Rattle.state.specs.State.{cells}
-use Rattle.state.specs.Good.{Good}
 use Rattle.state.specs.declared.State.{State}
 use Rattle.walk.specs.Index.{marksLength}
 use Rattle.walk.specs.Verdict.{verdictOf, isAccepted}
 use Rattle.walk.specs.declared.Verdict.{Verdict}
 use Rattle.walk.specs.declared.Verdict.the-variants.{MarksShort}
-use Rattle.le.specs.LittleEndian.{Bytes}
 use Rattle.layout.specs.Layout.{bufferLength, unusedLength}
 use Rattle.layout.specs.Decoded.{decoded}
 use Rattle.layout.specs.Encoded.{encoded}
 use Rattle.layout.specs.Test.{unusedZero, stateIs, isState}
-use Rattle.layout.proofs.Round.{state-good}
 use Rattle.machine.specs.Given.{Inputs}
 use Rattle.machine.specs.Engine.{step}
 use Rattle.machine.specs.Theorem.{loaded}
@@ -85,11 +84,30 @@ module _ (image b : List ℕ) (x : Inputs) where
   unfolding stepState
   of-state e = rw e
 
+  -- by cases: no such task, inputs of another length, or both given
+  pub asked : {P : Type 0} → (taskCount ≤ x .task → P) → (x .task < taskCount → (length (x .levels) ≡ cells → ⊥) → P) → (x .task < taskCount → length (x .levels) ≡ cells → P) → P
+  asked {P} no-such wrong right = by (x .task) taskCount (λ l. go l (eqb (length (x .levels)) cells) refl) no-such
+    where
+      go : x .task < taskCount → (t : Bool) → eqb (length (x .levels)) cells ≡ t → P
+      go l true q = right l (eqb-true _ _ q)
+      go l false q = wrong l (eqb-false _ _ q)
+
 -- a refused step, as its two promises have it
 pub step-refused : (s : Stepped) (r a : BiasAnswer) (b : List ℕ) → s ≡ refuse a b → r ≡ a → (r ≡ s .answer) × (b ≡ s .buffer)
 step-refused s r a b e q = (q ∙ ap (λ (m : Stepped). m .answer) (sym e), ap (λ (m : Stepped). m .buffer) (sym e))
 
 -- ---- 16, test by test
+
+-- the tests of a copy of the buffer are those of the buffer
+module _ (b copy : List ℕ) (same : copy ≡ b) where
+  pub unused-of : (t : Bool) → t ≡ unusedZero copy unusedLength → unusedZero b unusedLength ≡ t
+  unused-of t e = sym (e ∙ ap (λ (l : List ℕ). unusedZero l unusedLength) same)
+
+  pub read-of : (s : State) → s ≡ decoded copy → s ≡ decoded b
+  read-of s e = e ∙ ap decoded same
+
+  pub state-of : (s : State) → s ≡ decoded copy → (t : Bool) → t ≡ stateIs s → stateIs (decoded b) ≡ t
+  state-of s e t q = sym (q ∙ ap stateIs (read-of s e))
 
 module _ (b : List ℕ) where
   pub wrong-length : (length b ≡ bufferLength → ⊥) → isState b ≡ false

@@ -1,7 +1,6 @@
 // What C is handed (include/bias.h): the two structs of results, and document 01's numbers and places in them. Parts that an answer does not name are 0.
 use machine::Answer;
 use machine::Motion;
-use outcome::Outcome;
 use state::Axis;
 use walk::Verdict;
 use writer::Written;

@@ -5,8 +5,6 @@ use machine::Outcome;
 use operands::Command;
 use state::Values;
 ghost use mathlib.Core.Path.{_≡_};
-ghost use mathlib.Core.Bool.{cond};
-ghost use lib.ListN.{getD};
 ghost use Rattle.machine.specs.Given.{level};
 ghost use Rattle.machine.specs.declared.Outcome.the-variants.{GoOn};
 ghost use Rattle.machine.specs.Effect.{effect, assigns, sets, flows, jumpIf, halts, flag, output, variable, compares};

@@ -10,7 +10,7 @@ use Rattle.operands.specs.declared.Command.{Command}
 use Rattle.flow.specs.Flow.{taskCount}
 use Rattle.point.specs.Fault.{mostDepth}
 use Rattle.state.specs.State.{cells, runs, taskAt}
-use Rattle.state.specs.Good.{GoodTask, Good}
+use Rattle.state.specs.Good.{Good}
 use Rattle.state.proofs.Bounds.{wait-fits}
 use Rattle.state.specs.declared.Task.{Task}
 use Rattle.state.specs.declared.Values.{Values}

@@ -1,5 +1,4 @@
 // One step of one task: the tests in document 01's order (15, 18, 17; 16 is the buffer's), then the command.
-use fault::Fault;
 use image::Header;
 use image::reader;
 use machine::Answer;
@@ -18,7 +17,6 @@ ghost use mathlib.Core.List.{[]};
 ghost use mathlib.Core.Bool.{true};
 ghost use Prim.Native.Nat.{_<_, _≤_};
 ghost use Rattle.point.specs.Fault.{mostDepth};
-ghost use lib.ListN.{length};
 ghost use Rattle.state.specs.State.{taskAt};
 ghost use Rattle.state.specs.Good.{Good};
 ghost use Rattle.machine.specs.Given.{inputsOf};

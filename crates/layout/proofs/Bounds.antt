@@ -1,16 +1,13 @@
 -- The numbers of a good state fit their bytes. Assumes nothing.
-use Prim.Native.Nat.{ℕ, zero, suc, _*_, _<_, _≤_}
+use Prim.Native.Nat.{ℕ, _<_}
 use native.Mathlib.Omega.{arith}
-use native.Mathlib.Nat.{mul-le-mul-left}
 use mathlib.Core.Path.{_≡_}
 use lib.ListN.{length, getD}
-use borrow.Author.Tests.{leb-false}
-use Rattle.drive.specs.Types.{types, cycleOf}
 use Rattle.image.specs.Good.{Good as GoodHeader}
 use Rattle.image.specs.declared.Header.{Header}
 use Rattle.number.proofs.Choice.{by}
 use Rattle.point.specs.Fault.{mostDepth}
-use Rattle.state.specs.Good.{GoodWait, GoodTask}
+use Rattle.state.specs.Good.{GoodTask}
 use Rattle.state.specs.declared.Task.{Task}
 use Rattle.state.proofs.Bounds.{wait-fits}
 

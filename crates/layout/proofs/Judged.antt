@@ -1,9 +1,8 @@
 -- 16 and good states say the same: a good state passes every test, and a state that passes them, and whose lists have the lengths of the layout, is good.
 -- Assumes nothing.
-use Prim.Native.Nat.{ℕ, zero, suc, _+_, _*_, _<_, _≤_}
+use Prim.Native.Nat.{ℕ, zero, suc, _<_, _≤_}
 use native.Mathlib.Omega.{arith}
-use native.Mathlib.Numerals.{add-one}
-use mathlib.Core.Path.{_≡_, refl, sym, ap, _∙_, subst}
+use mathlib.Core.Path.{_≡_, refl, sym, subst}
 use mathlib.Core.Bool.{Bool, true, false, _&&_, _||_, not}
 use mathlib.Core.List.{List}
 use mathlib.Core.Logic.{_⊎_, inl, inr, ⊎-elim}
@@ -11,7 +10,7 @@ use lib.Dec.{eqb, ltb, leb}
 use lib.IntN.{pos}
 use lib.ListN.{length, getD, List·getD-eq-default}
 use borrow.Author.Count.{below-more}
-use borrow.Author.Tests.{ltb-true, leb-true, eqb-true, not-true, lt-ltb, le-leb, eq-eqb, lt-leb}
+use borrow.Author.Tests.{ltb-true, leb-true, eqb-true, not-true, lt-ltb, le-leb, eq-eqb}
 use mir.Syntax.{w32}
 use mir.Val.{SFits}
 use Rattle.command.specs.Judged.{mostSpeed, mostRamp, mostLevel, upTo}
@@ -21,9 +20,9 @@ use Rattle.image.specs.Good.{Good as GoodHeader}
 use Rattle.image.specs.Rows.{format1, countInRange}
 use Rattle.image.specs.declared.Header.{Header}
 use Rattle.image.proofs.Scanning.{count-range}
-use Rattle.number.proofs.Choice.{by, both, clash}
+use Rattle.number.proofs.Choice.{by, both}
 use Rattle.point.specs.Fault.{mostDepth}
-use Rattle.state.specs.Good.{GoodWait, GoodTask, InRange, GoodAxis, GoodValues, Good}
+use Rattle.state.specs.Good.{GoodWait, GoodTask, InRange, GoodValues, Good}
 use Rattle.state.specs.State.{cells, halted, taskAt}
 use Rattle.state.specs.Wait.{due, longest}
 use Rattle.state.specs.declared.Task.{Task}

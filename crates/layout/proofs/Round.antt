@@ -1,13 +1,13 @@
 -- The state buffer both ways: a good state is read back from its bytes; a buffer that 16 lets pass is written back from the state it holds; the first
 -- buffers are states, and the second hold good ones. Assumes nothing.
-use Prim.Native.Nat.{ℕ, zero, suc, _+_, _*_, _<_, _≤_}
+use Prim.Native.Nat.{ℕ, zero, suc, _+_, _*_, _<_}
 use native.Mathlib.Omega.{arith}
 use mathlib.Core.Path.{_≡_, refl, sym, ap, _∙_, subst}
-use mathlib.Core.Bool.{true, _&&_}
-use mathlib.Core.List.{List, [], _∷_, _++_}
+use mathlib.Core.Bool.{true}
+use mathlib.Core.List.{List, [], _∷_}
 use lib.Dec.{eqb}
 use lib.IntN.{pos}
-use lib.ListN.{length, getD, replicate, length-append, length-replicate, getD-replicate, List·getD-eq-default}
+use lib.ListN.{length, getD, replicate, length-replicate, getD-replicate, List·getD-eq-default}
 use borrow.Author.Tests.{eqb-true, eq-eqb}
 use mir.Syntax.{w32}
 use mir.Val.{SFits}
@@ -21,7 +21,7 @@ use Rattle.places.proofs.Tables.{length-table, getD-table}
 use Rattle.state.specs.Good.{Good}
 use Rattle.state.specs.State.{cells, noTask, taskAt}
 use Rattle.state.specs.declared.State.{State}
-use Rattle.layout.specs.Layout.{bufferLength, variablesAt, flagsAt, outputsAt, headerAt, axisAt, startsAt, stackAt, taskPlace, unusedAt, unusedLength}
+use Rattle.layout.specs.Layout.{bufferLength, variablesAt, flagsAt, outputsAt, axisAt, startsAt, stackAt, taskPlace, unusedAt, unusedLength}
 use Rattle.layout.specs.Decoded.{variablesIn, levelsIn, headerIn, stackIn, decoded}
 use Rattle.layout.specs.Encoded.{encoded}
 use Rattle.layout.specs.Test.{stateIs, unusedZero, isState}

@@ -1,9 +1,9 @@
 -- The other way: a buffer has, at its place, the bytes of the stretch that is read there. Assumes nothing.
-use Prim.Native.Nat.{ℕ, zero, suc, _+_, _*_, _<_, _≤_}
+use Prim.Native.Nat.{ℕ, zero, suc, _+_, _*_, _<_}
 use native.Mathlib.Omega.{arith}
-use mathlib.Core.Path.{_≡_, refl, sym, ap, _∙_, subst}
-use mathlib.Core.Bool.{true, _&&_}
-use mathlib.Core.List.{List, [], _∷_, _++_}
+use mathlib.Core.Path.{_≡_, refl, sym, _∙_, subst}
+use mathlib.Core.Bool.{true}
+use mathlib.Core.List.{List}
 use lib.Dec.{eqb}
 use lib.IntN.{ℤ, pos}
 use lib.ListN.{length, getD, replicate, length-replicate, getD-replicate}
@@ -16,12 +16,11 @@ use Rattle.point.specs.Fault.{mostDepth}
 use Rattle.places.specs.Places.{numberAt, signedAt, signedBytes}
 use Rattle.places.proofs.Has.{Has, nil, cons, join, run, of-number, of-signed}
 use Rattle.places.proofs.Tables.{length-table, getD-table}
-use Rattle.state.specs.State.{cells, taskAt}
+use Rattle.state.specs.State.{cells}
 use Rattle.state.specs.declared.Task.{Task}
-use Rattle.state.specs.declared.State.{State}
 use Rattle.layout.specs.Layout.{variablesAt, flagsAt, outputsAt, headerAt, axisAt, startsAt, stackAt, timeAt, taskPlace, unusedAt, unusedLength}
-use Rattle.layout.specs.Decoded.{variablesIn, levelsIn, headerIn, axisIn, valuesIn, stackIn, taskIn, decoded}
-use Rattle.layout.specs.Encoded.{variableBytes, headerBytes, axisBytes, startBytes, stackBytes, taskBytes}
+use Rattle.layout.specs.Decoded.{variablesIn, levelsIn, headerIn, valuesIn, stackIn, taskIn, decoded}
+use Rattle.layout.specs.Encoded.{variableBytes, headerBytes, axisBytes, stackBytes, taskBytes}
 use Rattle.layout.specs.Test.{unusedZero}
 use Rattle.layout.proofs.Sizes.{length-stack}
 use Rattle.layout.proofs.Stretches.{Stretches, moved}

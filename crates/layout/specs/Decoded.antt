@@ -8,7 +8,7 @@ use Rattle.image.specs.declared.Header.{Header}
 use Rattle.point.specs.Fault.{mostDepth}
 use Rattle.flow.specs.Flow.{bias, plc, mathematics}
 use Rattle.places.specs.Places.{numberAt, signedAt, table}
-use Rattle.state.specs.State.{cells, task}
+use Rattle.state.specs.State.{cells}
 use Rattle.state.specs.declared.Task.{Task}
 use Rattle.state.specs.declared.Axis.{Axis}
 use Rattle.state.specs.declared.Values.{Values}

@@ -10,7 +10,6 @@ use Rattle.point.specs.Fault.{mostDepth}
 use Rattle.places.specs.Places.{signedBytes, runs}
 use Rattle.state.specs.State.{cells, taskAt}
 use Rattle.state.specs.declared.Task.{Task}
-use Rattle.state.specs.declared.Axis.{Axis}
 use Rattle.state.specs.declared.Values.{Values}
 use Rattle.state.specs.declared.State.{State}
 use Rattle.layout.specs.Layout.{unusedLength}

@@ -14,7 +14,6 @@ use Rattle.point.specs.Fault.{mostDepth}
 use Rattle.state.specs.State.{cells, halted, taskAt}
 use Rattle.state.specs.Wait.{due, longest}
 use Rattle.state.specs.declared.Task.{Task}
-use Rattle.state.specs.declared.Axis.{Axis}
 use Rattle.state.specs.declared.Values.{Values}
 use Rattle.state.specs.declared.State.{State}
 use Rattle.layout.specs.Layout.{bufferLength, unusedAt, unusedLength}

@@ -1,5 +1,5 @@
 -- Where 17 lets a command pass there is room for its call, and something for its return to go to. Assumes nothing.
-use Prim.Native.Nat.{ℕ, _<_, _≤_}
+use Prim.Native.Nat.{ℕ, _≤_}
 use mathlib.Core.Path.{_≡_, sym, _∙_}
 use mathlib.Core.Bool.{true, _&&_}
 use mathlib.Core.List.{List}
@@ -13,7 +13,6 @@ use Rattle.operands.specs.declared.Command.{Command}
 use Rattle.flow.specs.Flow.{flowOf}
 use Rattle.fault.specs.Fault.{faultNumber}
 use Rattle.point.specs.Fault.{mostDepth}
-use Rattle.point.specs.declared.Point.{Point}
 use Rattle.walk.specs.Program.{commandAt, faultAt, blockNumber}
 use Rattle.walk.proofs.Within.{Passes, passes}
 use Rattle.state.specs.declared.Task.{Task}

@@ -17,7 +17,6 @@ use Rattle.rows.specs.Rows.{hex, rows, rowIn, rowOf}
 use Rattle.operands.specs.declared.Command.{Command}
 use Rattle.command.specs.Judged.{mostSpeed, mostRamp, mostRun, mostLevel, inRange}
 use Rattle.flow.specs.Flow.{bias, plc, mathematics, flowBy}
-use Rattle.flow.specs.declared.Flow.the-variants as flow
 use Rattle.state.specs.State.{withFlag, withOutput, withAxis, withMark, withPosition, withSpeed, withAcceleration, withDeceleration}
 use Rattle.state.specs.Wait.{longest, mostTime}
 use Rattle.state.specs.declared.Values.{Values}

@@ -7,7 +7,6 @@ use lib.ListN.{getD}
 use Rattle.le.specs.LittleEndian.{Bytes}
 use Rattle.flow.specs.Flow.{taskCount}
 use Rattle.walk.specs.Walk.{Walk}
-use Rattle.walk.specs.declared.Verdict.the-variants as verdict
 use Rattle.state.specs.State.{runs, noTask, taskAt, fresh, freshValues, running, neverStarted}
 use Rattle.state.specs.declared.Values.{Values}
 use Rattle.state.specs.declared.State.{State}

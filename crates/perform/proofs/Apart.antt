@@ -1,10 +1,10 @@
 -- The rows of one group are those of a code that the other groups do not have: by one test of codes for each group, computed over its rows. Assumes nothing.
-use Prim.Native.Nat.{ℕ, _≤_, _<_}
+use Prim.Native.Nat.{ℕ}
 use mathlib.Core.Path.{_≡_, refl, sym, ap, _∙_}
 use mathlib.Core.Bool.{Bool, true, false, _&&_, _||_, not, cond}
 use mathlib.Core.List.{List, [], _∷_, _++_}
-use lib.Dec.{T, eqb, ltb, leb}
-use borrow.Author.Tests.{ne-eqb, lt-ltb, le-ltb, eq-eqb, le-leb, lt-leb}
+use lib.Dec.{T, eqb, ltb}
+use borrow.Author.Tests.{ne-eqb}
 use Rattle.number.proofs.Choice.{clash}
 use Rattle.rows.specs.Rows.{hex}
 use Rattle.machine.specs.Effect.{Deed, Row, nothing, deedIn, rows, axisRows, controlRows, levelRows, variableRows}

@@ -1,7 +1,7 @@
 -- What a command breaks at a point (document 01: place) of a walk: 7 for a 51 that ends another task, then 9, 10, 11, 12 (document 01, "Refused
 -- because of the input"). Assumes nothing.
 use Prim.Native.Nat.{ℕ}
-use mathlib.Core.Bool.{Bool, true, false, _||_, cond}
+use mathlib.Core.Bool.{Bool, false, _||_, cond}
 use mathlib.Core.List.{List, [], _∷_}
 use lib.Dec.{eqb, leb}
 use Rattle.image.specs.declared.Header.{Header}

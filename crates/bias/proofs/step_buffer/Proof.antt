@@ -1,20 +1,15 @@
 -- `bias::step_buffer` meets its contract: 16, test by test, then the step. Assumes nothing.
 use borrow.Author.Needs.{needs}
-use Rattle.bias.proofs.Ways.{no-state, of-state, step-refused, unused-not-zero, judged-no-state, judged-state}
+use Rattle.bias.proofs.Ways.{no-state, of-state, step-refused, unused-of, read-of, state-of, unused-not-zero, judged-no-state, judged-state}
 use Rattle.bias.specs.Step.{Stepped, handed}
 use Rattle.machine.specs.Engine.{step}
 use Rattle.machine.specs.Given.{inputsOf}
 use Rattle.layout.proofs.Round.{state-good}
-use Rattle.layout.specs.Test.{unusedZero, stateIs}
-use Rattle.layout.specs.Decoded.{decoded}
-use Rattle.layout.specs.Layout.{unusedLength}
 use Rattle.state.specs.declared.State.{State}
 use Rattle.state.specs.Good.{Good}
 use Rattle.le.specs.LittleEndian.{Bytes}
 use denote.Ref.{now}
 use borrow.Author.Tests.{not-true, not-false}
-use Prim.Native.Nat.{ℕ}
-use mathlib.Core.List.{List}
 use mathlib.Core.Path.{sym, ap, _∙_, subst}
 use Rattle.bias.proofs.step_buffer.Statement.{statement}
 use Rattle.bias.proofs.step_buffer.Tie as tie
@@ -37,8 +32,7 @@ same-length c = search needs
 returns : tie.Need-returns
 returns c =
     let a = c .before .before .before .before .before .before .before .before .before .before .before .args in
-    let same = c .before .before .before .before .before .before .copy-in .ensures .0 in
-    let u = sym (ap (λ (l : List ℕ). unusedZero l unusedLength) same) ∙ sym (c .before .before .unused-zero .ensures) ∙ not-true _ (c .before .if1 .taken) in
+    let u = unused-of (now (a .state)) _ (c .before .before .before .before .before .before .copy-in .ensures .0) _ (c .before .before .unused-zero .ensures) ∙ not-true _ (c .before .if1 .taken) in
     step-refused _ _ _ _ (no-state (now (a .image)) (now (a .state)) (inputsOf (a .task) (now (a .inputs)) (a .start) (a .reached)) (unused-not-zero (now (a .state)) (c .before .before .before .before .before .before .before .before .before .before .before .pre) u)) (c .no-state .ensures)
 
 state-is-requires : tie.Need-state-is-requires
@@ -54,18 +48,18 @@ returns-2 : tie.Need-returns-2
 returns-2 c =
     let a = c .before .before .before .before .before .before .before .before .before .before .before .before .before .args in
     let same = c .before .before .before .before .before .before .before .before .copy-in .ensures .0 in
-    let u = sym (ap (λ (l : List ℕ). unusedZero l unusedLength) same) ∙ sym (c .before .before .before .before .unused-zero .ensures) ∙ not-false _ (c .before .before .before .if1 .left) in
-    let s = sym (ap stateIs (c .before .before .before .before .before .before .decode .ensures ∙ ap decoded same)) ∙ sym (c .before .before .state-is .ensures) ∙ not-true _ (c .before .if2 .taken) in
+    let u = unused-of (now (a .state)) _ same _ (c .before .before .before .before .unused-zero .ensures) ∙ not-false _ (c .before .before .before .if1 .left) in
+    let s = state-of (now (a .state)) _ same _ (c .before .before .before .before .before .before .decode .ensures) _ (c .before .before .state-is .ensures) ∙ not-true _ (c .before .if2 .taken) in
     step-refused _ _ _ _ (no-state (now (a .image)) (now (a .state)) (inputsOf (a .task) (now (a .inputs)) (a .start) (a .reached)) (judged-no-state (now (a .state)) (c .before .before .before .before .before .before .before .before .before .before .before .before .before .pre) u s)) (c .no-state2 .ensures)
 
 step-state-requires : tie.Need-step-state-requires
 step-state-requires c κs =
     let a = c .before .before .before .before .before .before .before .before .before .before .before .before .before .args in
-    let same = c .before .before .before .before .before .before .before .before .copy-in .ensures .0 in
-    let u = sym (ap (λ (l : List ℕ). unusedZero l unusedLength) same) ∙ sym (c .before .before .before .before .unused-zero .ensures) ∙ not-false _ (c .before .before .before .if1 .left) in
-    let d = c .before .before .before .before .before .before .decode .ensures ∙ ap decoded same in
-    let s = sym (ap stateIs d) ∙ sym (c .before .before .state-is .ensures) ∙ not-false _ (c .before .if2 .left) in
-    (c .before .before .before .before .before .before .before .before .before .before .before .before .before .pre, subst Good (sym d) (state-good (now (a .state)) (subst Bytes same (c .before .before .before .before .before .before .before .before .copy-in .ensures .1)) (judged-state (now (a .state)) (c .before .before .before .before .before .before .before .before .before .before .before .before .before .pre) u s)))
+    let copied = c .before .before .before .before .before .before .before .before .copy-in .ensures in
+    let u = unused-of (now (a .state)) _ (copied .0) _ (c .before .before .before .before .unused-zero .ensures) ∙ not-false _ (c .before .before .before .if1 .left) in
+    let s = state-of (now (a .state)) _ (copied .0) _ (c .before .before .before .before .before .before .decode .ensures) _ (c .before .before .state-is .ensures) ∙ not-false _ (c .before .if2 .left) in
+    let d = read-of (now (a .state)) _ (copied .0) _ (c .before .before .before .before .before .before .decode .ensures) in
+    (c .before .before .before .before .before .before .before .before .before .before .before .before .before .pre, subst Good (sym d) (state-good (now (a .state)) (subst Bytes (copied .0) (copied .1)) (judged-state (now (a .state)) (c .before .before .before .before .before .before .before .before .before .before .before .before .before .pre) u s)))
 
 same-length-3 : tie.Need-same-length-3
 same-length-3 c = search needs
@@ -75,9 +69,9 @@ returns-3 c =
     let a = c .before .before .before .before .before .before .before .before .before .before .before .before .before .before .before .before .args in
     let x = inputsOf (a .task) (now (a .inputs)) (a .start) (a .reached) in
     let same = c .before .before .before .before .before .before .before .before .before .before .before .copy-in .ensures .0 in
-    let u = sym (ap (λ (l : List ℕ). unusedZero l unusedLength) same) ∙ sym (c .before .before .before .before .before .before .before .unused-zero .ensures) ∙ not-false _ (c .before .before .before .before .before .before .if1 .left) in
-    let d = c .before .before .before .before .before .before .before .before .before .decode .ensures ∙ ap decoded same in
-    let s = sym (ap stateIs d) ∙ sym (c .before .before .before .before .before .state-is .ensures) ∙ not-false _ (c .before .before .before .before .if2 .left) in
+    let u = unused-of (now (a .state)) _ same _ (c .before .before .before .before .before .before .before .unused-zero .ensures) ∙ not-false _ (c .before .before .before .before .before .before .if1 .left) in
+    let s = state-of (now (a .state)) _ same _ (c .before .before .before .before .before .before .before .before .before .decode .ensures) _ (c .before .before .before .before .before .state-is .ensures) ∙ not-false _ (c .before .before .before .before .if2 .left) in
+    let d = read-of (now (a .state)) _ same _ (c .before .before .before .before .before .before .before .before .before .decode .ensures) in
     let e = ap (λ (s : State). handed (step (now (a .image)) s x)) d ∙ sym (of-state (now (a .image)) (now (a .state)) x (judged-state (now (a .state)) (c .before .before .before .before .before .before .before .before .before .before .before .before .before .before .before .before .pre) u s)) in
     let r = c .before .before .step-state .ensures in
     (r .0 ∙ ap (λ (m : Stepped). m .answer) e, r .1 ∙ ap (λ (m : Stepped). m .buffer) e)

@@ -2,9 +2,6 @@
 use borrow.Author.Needs.{needs}
 use Rattle.effect.proofs.jump_if.Statement.{statement}
 use Rattle.effect.proofs.jump_if.Tie as tie
-use Rattle.effect.proofs.jump_if.Reads as reads
-use Rattle.effect.proofs.jump_if.Lts as lts
-use Rattle.effect.proofs.flows.Reads as flows-reads
 
 flows-requires : tie.Need-flows-requires
 flows-requires c κs = search needs

@@ -1,6 +1,6 @@
 -- `lend::copy_in` meets its contract: the source is as long as the array, so nothing is left of the zeros. Assumes nothing.
 use borrow.Author.Needs.{needs}
-use mathlib.Core.Path.{_≡_, sym, subst}
+use mathlib.Core.Path.{sym, subst}
 use native.Mathlib.Omega.{arith}
 use Rattle.le.specs.LittleEndian.{Bytes}
 use Rattle.lend.proofs.Filled.{filled}

@@ -6,9 +6,6 @@ use denote.Ref.{now}
 use Rattle.machine.specs.Given.{level}
 use Rattle.levels.proofs.input.Statement.{statement}
 use Rattle.levels.proofs.input.Tie as tie
-use Rattle.levels.proofs.input.Reads as reads
-use Rattle.levels.proofs.input.Lts as lts
-use Rattle.effect.proofs.level.Reads as level-reads
 
 shared-slice-read-level : tie.Need-shared-slice-read-level
 shared-slice-read-level c = search needs

@@ -1,10 +1,10 @@
 -- `reading::levels_in` meets its contract: a table filled from the front. Assumes nothing.
-use Prim.Native.Nat.{ℕ, _+_, _*_, _-_, _≤_}
+use Prim.Native.Nat.{ℕ, _+_, _-_, _≤_}
 use native.Mathlib.Omega.{arith}
 use mathlib.Core.Path.{_≡_, refl}
 use denote.Ref.{now}
 use lib.ListN.{length, getD, take, length-set}
-use Rattle.places.specs.Places.{table, numberAt, signedAt}
+use Rattle.places.specs.Places.{table}
 use Rattle.places.proofs.Tables.{none, more, all}
 use Rattle.layout.specs.Decoded.{levelsIn}
 use borrow.Author.Needs.{needs}

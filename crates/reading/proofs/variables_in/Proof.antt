@@ -1,10 +1,10 @@
 -- `reading::variables_in` meets its contract: a table filled from the front. Assumes nothing.
 use Prim.Native.Nat.{ℕ, _+_, _*_, _-_, _≤_}
 use native.Mathlib.Omega.{arith}
-use mathlib.Core.Path.{_≡_, refl}
+use mathlib.Core.Path.{_≡_}
 use denote.Ref.{now}
-use lib.ListN.{length, getD, take, length-set}
-use Rattle.places.specs.Places.{table, numberAt, signedAt}
+use lib.ListN.{length, take, length-set}
+use Rattle.places.specs.Places.{table, signedAt}
 use Rattle.places.proofs.Tables.{none, more, all}
 use mir.Syntax.{w32}
 use Rattle.arith.proofs.Range.{got}

@@ -5,13 +5,11 @@ use native.Mathlib.Omega.{arith}
 use lib.ListN.{set}
 use borrow.Author.Needs.{needs}
 use Rattle.state.specs.declared.Task.{Task}
-use Rattle.machine.specs.Engine.{tasksAfter, startAnew}
+use Rattle.machine.specs.Engine.{tasksAfter}
 use Rattle.machine.specs.declared.Outcome.{Outcome}
 use Rattle.machine.specs.Deep.{Deep}
 use Rattle.tasks.proofs.after.Statement.{statement}
 use Rattle.tasks.proofs.after.Tie as tie
-use Rattle.tasks.proofs.after.Reads as reads
-use Rattle.tasks.proofs.after.Lts as lts
 
 call-to-requires : tie.Need-call-to-requires
 call-to-requires c κs = let st = c .before .before .before in (st .pre .0, subst (Deep (st .args .k .depth)) (c .before .outcome3 .given .1) (st .pre .1))

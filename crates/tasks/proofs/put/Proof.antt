@@ -4,8 +4,6 @@ use borrow.Author.Needs.{needs}
 use Rattle.tasks.proofs.Past.{set-past}
 use Rattle.tasks.proofs.put.Statement.{statement}
 use Rattle.tasks.proofs.put.Tie as tie
-use Rattle.tasks.proofs.put.Reads as reads
-use Rattle.tasks.proofs.put.Lts as lts
 
 mul-tasks : tie.Need-mul-tasks
 mul-tasks c = search needs

@@ -1,6 +1,6 @@
 -- `flag_number` meets its contract: the flags from the last one down. Assumes nothing.
 use Prim.Native.Nat.{ℕ, _+_, _-_, _*_, _≤_}
-use mathlib.Core.Path.{_≡_, refl, sym, ap, _∙_}
+use mathlib.Core.Path.{_≡_, ap, _∙_}
 use native.Mathlib.Omega.{arith}
 use borrow.Author.Needs.{needs}
 use Rattle.machine.specs.Effect.{flagNumber}
@@ -8,10 +8,6 @@ use Rattle.variables.specs.Capped.{capped}
 use Rattle.variables.proofs.Capping.{none, more, all}
 use Rattle.variables.proofs.flag_number.Statement.{statement}
 use Rattle.variables.proofs.flag_number.Tie as tie
-use Rattle.variables.proofs.flag_number.Reads as reads
-use Rattle.variables.proofs.flag_number.Lts as lts
-use Rattle.variables.proofs.level_at.Reads as level-at-reads
-use Rattle.variables.proofs.with_flag.Reads as with-flag-reads
 
 abbrev Inv-loop : tie.InvT-loop
 Inv-loop first count flags number₀ left₀ number left = (left ≤ count) × (number ≡ capped (flagNumber flags (first + left) (count - left)))

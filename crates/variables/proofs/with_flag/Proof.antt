@@ -4,8 +4,6 @@ use borrow.Author.Needs.{needs}
 use Rattle.variables.proofs.Capping.{capped-low, capped-high}
 use Rattle.variables.proofs.with_flag.Statement.{statement}
 use Rattle.variables.proofs.with_flag.Tie as tie
-use Rattle.variables.proofs.with_flag.Reads as reads
-use Rattle.variables.proofs.with_flag.Lts as lts
 
 mul-sum : tie.Need-mul-sum
 mul-sum c = search needs

@@ -1,5 +1,5 @@
 -- `writing::put_axis` meets its contract: one number put behind the other. Assumes nothing.
-use Prim.Native.Nat.{ℕ, _+_, _<_}
+use Prim.Native.Nat.{_+_, _<_}
 use native.Mathlib.Omega.{arith}
 use mathlib.Core.Path.{refl, ap, _∙_}
 use denote.Ref.{now}

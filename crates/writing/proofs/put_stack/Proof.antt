@@ -1,7 +1,6 @@
 -- `writing::put_stack` meets its contract: after i turns the bytes of i blocks are put. Assumes nothing.
-use Prim.Native.Nat.{ℕ, _+_, _*_, _-_, _≤_}
-use native.Mathlib.Omega.{arith}
-use mathlib.Core.Path.{_≡_, refl, ap, _∙_}
+use Prim.Native.Nat.{ℕ, _-_, _≤_}
+use mathlib.Core.Path.{_≡_, refl, _∙_}
 use lib.ListN.{getD}
 use Rattle.le.specs.LittleEndian.{leBytes}
 use Rattle.places.specs.Places.{puts, runs}

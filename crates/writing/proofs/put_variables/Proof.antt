@@ -1,6 +1,5 @@
 -- `writing::put_variables` meets its contract: after k turns the bytes of k variables are put. Assumes nothing.
 use Prim.Native.Nat.{ℕ, _+_, _*_, _-_, _≤_}
-use native.Mathlib.Omega.{arith}
 use mathlib.Core.Path.{_≡_, refl, ap, _∙_}
 use lib.ListN.{getD}
 use lib.IntN.{ℤ, pos}
