@@ -2,6 +2,7 @@
 // finds it.
 use command::ranges::MOST_RAMP;
 use command::ranges::MOST_SPEED;
+use machine::Cause;
 use machine::Effect;
 use machine::Moment;
 use machine::Motion;
@@ -15,7 +16,8 @@ ghost use lib.IntN.{pos};
 ghost use Rattle.state.specs.State.{withAxis, withMark, withPosition, withSpeed, withAcceleration, withDeceleration};
 ghost use Rattle.command.specs.Judged.{mostSpeed, mostRamp};
 ghost use Rattle.machine.specs.Given.{givenAt};
-ghost use Rattle.machine.specs.Effect.{effect, sets, flows, halts, assigns, variable, within, natural, started, outOfRange, axisRows, deedIn};
+ghost use Rattle.machine.specs.Effect.{effect, sets, flows, halts, assigns, variable, within, natural, started, axisRows, deedIn};
+ghost use Rattle.machine.specs.declared.Cause.the-variants.{BadContent};
 ghost use Rattle.machine.specs.declared.Motion.the-variants as motion;
 ghost use Rattle.machine.specs.declared.Outcome.the-variants.{GoOn, Stay};
 
@@ -209,36 +211,36 @@ fn natural(most: u16, content: i32) -> u16
 
 // 31: speed = variable x.
 fn load_speed(c: Command, v: Values) -> Effect
-    ensures { λ r. ⌜ r ≡ cond (within 1 mostSpeed (variable v (c .x))) (sets (withAxis (withSpeed (natural (variable v (c .x))) (v .axis)) v)) (halts outOfRange v) ⌝ }
+    ensures { λ r. ⌜ r ≡ cond (within 1 mostSpeed (variable v (c .x))) (sets (withAxis (withSpeed (natural (variable v (c .x))) (v .axis)) v)) (halts BadContent v) ⌝ }
 {
     let content = effect::variable(v, c.x);
     if within(MOST_SPEED, content) {
         let axis = v.axis;
         return effect::sets(v.with_axis(axis.with_speed(natural(MOST_SPEED, content))));
     }
-    effect::halts(effect::OUT_OF_RANGE, v)
+    effect::halts(Cause::BadContent, v)
 }
 
 // 32: acceleration = variable x.
 fn load_acceleration(c: Command, v: Values) -> Effect
-    ensures { λ r. ⌜ r ≡ cond (within 1 mostRamp (variable v (c .x))) (sets (withAxis (withAcceleration (natural (variable v (c .x))) (v .axis)) v)) (halts outOfRange v) ⌝ }
+    ensures { λ r. ⌜ r ≡ cond (within 1 mostRamp (variable v (c .x))) (sets (withAxis (withAcceleration (natural (variable v (c .x))) (v .axis)) v)) (halts BadContent v) ⌝ }
 {
     let content = effect::variable(v, c.x);
     if within(MOST_RAMP, content) {
         let axis = v.axis;
         return effect::sets(v.with_axis(axis.with_acceleration(natural(MOST_RAMP, content))));
     }
-    effect::halts(effect::OUT_OF_RANGE, v)
+    effect::halts(Cause::BadContent, v)
 }
 
 // 33: deceleration = variable x.
 fn load_deceleration(c: Command, v: Values) -> Effect
-    ensures { λ r. ⌜ r ≡ cond (within 1 mostRamp (variable v (c .x))) (sets (withAxis (withDeceleration (natural (variable v (c .x))) (v .axis)) v)) (halts outOfRange v) ⌝ }
+    ensures { λ r. ⌜ r ≡ cond (within 1 mostRamp (variable v (c .x))) (sets (withAxis (withDeceleration (natural (variable v (c .x))) (v .axis)) v)) (halts BadContent v) ⌝ }
 {
     let content = effect::variable(v, c.x);
     if within(MOST_RAMP, content) {
         let axis = v.axis;
         return effect::sets(v.with_axis(axis.with_deceleration(natural(MOST_RAMP, content))));
     }
-    effect::halts(effect::OUT_OF_RANGE, v)
+    effect::halts(Cause::BadContent, v)
 }

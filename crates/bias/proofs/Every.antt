@@ -1,156 +1,245 @@
--- Every step of bytes is carried out, or refused and changes nothing, or halts its task: by the tests that lead there, and by the law of the command's row.
--- Assumes nothing.
+-- Every step of bytes goes one of the ways of specs/Every.antt, by the tests that lead there, and what it answers and leaves is that way's: a command halts exactly
+-- for its reason, and where it halts no wait was pending. Assumes nothing.
 use Prim.Native.Nat.{ℕ, _<_, _≤_}
 use native.Mathlib.Omega.{arith}
-use mathlib.Core.Path.{_≡_, refl, ap, _∙_, subst}
-use mathlib.Core.Bool.{Bool, true, false}
+use mathlib.Core.Path.{_≡_, refl, sym, ap, _∙_, subst}
+use mathlib.Core.Bool.{Bool, true, false, _&&_, _||_, not}
+use mathlib.Core.Logic.{⊎-elim}
 use mathlib.Core.List.{List}
 use lib.Dec.{eqb}
-use lib.ListN.{length}
-use borrow.Author.Tests.{lt-ltb, eq-eqb, eqb-true}
+use lib.ListN.{length, set}
+use borrow.Author.Tests.{lt-ltb, eq-eqb, ne-eqb, eqb-true, eqb-false}
 use Rattle.le.specs.LittleEndian.{Bytes}
+use Rattle.number.proofs.Choice.{clash, both}
 use Rattle.image.specs.Scan.{blocksOf}
+use Rattle.rows.specs.Rows.{hex}
+use Rattle.operands.specs.declared.Command.{Command}
 use Rattle.flow.specs.Flow.{taskCount}
 use Rattle.walk.specs.Program.{commandAt}
-use Rattle.state.specs.State.{cells, runs, taskAt}
-use Rattle.state.specs.Good.{Good}
+use Rattle.state.specs.State.{cells, runs, halted, task, taskAt}
+use Rattle.state.specs.Good.{Good, GoodWait}
 use Rattle.state.specs.declared.Task.{Task}
+use Rattle.state.specs.declared.Values.{Values}
 use Rattle.state.specs.declared.State.{State}
 use Rattle.layout.specs.Decoded.{decoded}
+use Rattle.layout.specs.Encoded.{encoded}
 use Rattle.layout.specs.Test.{isState}
-use Rattle.layout.proofs.Round.{state-good, encode-decode, good-state, decode-encode}
+use Rattle.layout.proofs.Round.{state-good, encode-decode, good-state}
 use Rattle.machine.specs.Given.{Inputs}
-use Rattle.machine.specs.Effect.{effectOf}
-use Rattle.machine.specs.Engine.{given, fits, pointOf, answerTo, noted, tasksAfter, performed, taskStep, step}
+use Rattle.machine.specs.Effect.{effectOf, isSet}
+use Rattle.machine.specs.Engine.{given, isWait, isLoaded, blockFits, waitFits, fits, pointOf, answerTo, noted, stopped, tasksAfter, performed, carriedOut, taskStep, step}
 use Rattle.machine.specs.Engine as engine
-use Rattle.machine.specs.Numbers.{answerNumber}
+use Rattle.machine.specs.Each.{commandOf, Reason}
+use Rattle.machine.specs.declared.Cause.{Cause}
+use Rattle.machine.specs.declared.Motion.the-variants.{None}
 use Rattle.machine.specs.declared.Answer.{Answer}
-use Rattle.machine.specs.declared.Answer.the-variants.{NotRunning, Differs}
+use Rattle.machine.specs.declared.Answer.the-variants.{Done, NotRunning, Differs, Halted}
 use Rattle.machine.specs.declared.Effect.{Effect}
 use Rattle.machine.specs.declared.Out.{Out}
 use Rattle.machine.specs.declared.Outcome.{Outcome}
 use Rattle.machine.specs.declared.Outcome.the-variants as outcome
-use Rattle.machine.proofs.Laws.{Halting, isHalt}
+use Rattle.machine.proofs.Laws.{Law, Halting, isHalt}
+use Rattle.machine.proofs.Halts.{halts-for}
 use Rattle.machine.proofs.Keeps.{keeps-good, law, fit-here}
 use Rattle.border.specs.Border.{answerFor}
 use Rattle.border.specs.declared.BiasAnswer.{BiasAnswer}
 use Rattle.bias.specs.Step.{Stepped, refuse, handed, stepped}
-use Rattle.bias.specs.Every.{Way, EveryStep}
+use Rattle.bias.specs.Every.{withStatus, haltedState, Asked, Held, Running, Ready, ReasonHere, Way, EveryStep}
 use Rattle.bias.proofs.Ways.{no-task, bad-inputs, of-buffer, no-state, of-state, asked}
 
+-- ---- where a command halts, no wait is pending
+
+-- a code that is no wait
+not-waiting : (c : Command) (time code : ℕ) → (isSet time ≡ true → isWait (c .code) ≡ true) → c .code ≡ code → isWait code ≡ false → time ≡ 0
+not-waiting c time code w e f = go (eqb time 0) refl
+  where
+    go : (t : Bool) → eqb time 0 ≡ t → time ≡ 0
+    go true i = eqb-true time 0 i
+    go false i = clash (sym (w (ap not i)) ∙ ap isWait e ∙ f)
+
+-- 8D and 31 to 33 are none, and a 5A halts only where none is pending
+unpending : (c : Command) (v : Values) (time : ℕ) {q : Cause} → Reason c v time q → (isSet time ≡ true → isWait (c .code) ≡ true) → time ≡ 0
+unpending c v time (Reason.divisor e z) w = not-waiting c time (hex 8 13) w e refl
+unpending c v time (Reason.speed e z) w = not-waiting c time (hex 3 1) w e refl
+unpending c v time (Reason.acceleration e z) w = not-waiting c time (hex 3 2) w e refl
+unpending c v time (Reason.deceleration e z) w = not-waiting c time (hex 3 3) w e refl
+unpending c v time (Reason.waiting e t z) w = t
+
+-- then no turns are counted either
+no-turns : (model time turns : ℕ) → GoodWait model time turns → time ≡ 0 → turns ≡ 0
+no-turns model _ _ GoodWait.none e = refl
+no-turns model _ _ (GoodWait.pending l m d) e = absurd (omega arith)
+
+-- so that halting changes the status alone
+status-alone : (k : Task) → k .time ≡ 0 → k .turns ≡ 0 → stopped halted k ≡ withStatus halted k
+status-alone k e f = λ ι. task halted (k .block) (k .start) (k .depth) (k .stack) (sym e ι) (sym f ι)
+
+-- ---- one step
+
 module _ (image b : List ℕ) (x : Inputs) where
-  number-of : (a : Stepped) → stepped image b x ≡ a → stepped image b x .answer .number ≡ a .answer .number
-  number-of a e = ap (λ (m : Stepped). m .answer .number) e
+  -- what a step answers and leaves
+  record Gives (a : BiasAnswer) (after : List ℕ) : Type 0 where
+    answer : a ≡ stepped image b x .answer
+    buffer : after ≡ stepped image b x .buffer
 
-  motion-of : (a : Stepped) → stepped image b x ≡ a → stepped image b x .answer .motion ≡ a .answer .motion
-  motion-of a e = ap (λ (m : Stepped). m .answer .motion) e
+  given-by : (a : BiasAnswer) (after : List ℕ) → stepped image b x ≡ record { answer = a; buffer = after } → Gives a after
+  given-by a after e = record { answer = ap (λ (m : Stepped). m .answer) (sym e); buffer = ap (λ (m : Stepped). m .buffer) (sym e) }
 
-  buffer-of : (a : Stepped) → stepped image b x ≡ a → stepped image b x .buffer ≡ a .buffer
-  buffer-of a e = ap (λ (m : Stepped). m .buffer) e
-
-  -- refused before the state is looked at
-  turned-away : (a : BiasAnswer) → stepped image b x ≡ refuse a b → 15 ≤ a .number → a .number ≤ 18 → a .motion ≡ 0 → Way image b x
-  turned-away a e low high still = let n = number-of _ e in Way.refused (omega arith) (omega arith) (motion-of _ e ∙ still) (buffer-of _ e)
-
-  module _ (bytes : Bytes image) (own : Bytes b) (l : x .task < taskCount) (given256 : length (x .levels) ≡ cells) (is : isState b ≡ true) where
+  module _ (bytes : Bytes image) (own : Bytes b) where
     abbrev s : State
     s = decoded b
 
     abbrev k : Task
     k = taskAt s (x .task)
 
-    good : Good s
-    good = state-good b own is
+    good : isState b ≡ true → Good s
+    good is = state-good b own is
 
-    was : stepped image b x ≡ handed (step image s x)
-    was = of-buffer image b x l given256 ∙ of-state image b x is
-
-    to-task : step image s x ≡ taskStep image s x k
+    to-task : Held b x → stepped image b x ≡ handed (taskStep image s x k)
     unfolding step
-    to-task = rw (lt-ltb (x .task) taskCount l, eq-eqb (length (x .levels)) cells given256)
+    to-task h =
+        of-buffer image b x (h .asked .task) (h .asked .levels)
+        ∙ of-state image b x (h .state)
+        ∙ ap handed (rw (lt-ltb (x .task) taskCount (h .asked .task), eq-eqb (length (x .levels)) cells (h .asked .levels)))
 
     -- refused by 18 or 17: the state is put back as it was
-    put-back : (a : Answer) → step image s x ≡ engine.refuse s a → 15 ≤ answerNumber a → answerNumber a ≤ 18 → Way image b x
+    put-back : Held b x → (a : Answer) → taskStep image s x k ≡ engine.refuse s a → Gives (answerFor None a) b
     unfolding handed
-    put-back a e low high =
-        let r = was ∙ ap handed e in
-        let n = number-of _ r in
-        Way.refused (omega arith) (omega arith) (motion-of _ r) (buffer-of _ r ∙ encode-decode b own is)
+    put-back h a e =
+        given-by (answerFor None a) b (to-task h ∙ ap handed e ∙ (λ ι. record { answer = answerFor None a; buffer = encode-decode b own (h .state) ι }))
 
-    module _ (r : k .status ≡ runs) (pass : fits image (s .header) (x .task) k ≡ true) where
+    module _ (r : Ready image b x) where
       abbrev e : Effect
-      e = effectOf (given s k x) (commandAt (blocksOf image) (k .block)) (s .values)
+      e = effectOf (given s k x) (commandOf image s x) (s .values)
 
-      performs : step image s x ≡ performed s x k e
+      performs : stepped image b x ≡ handed (performed s x k e)
       unfolding taskStep
-      performs = to-task ∙ rw (eq-eqb (k .status) runs r, pass)
+      performs = to-task (r .runs .held) ∙ ap handed (rw (eq-eqb (k .status) runs (r .runs .running), r .fits))
 
       -- the command's number is 0 where it does not halt its task
-      zero-number : (o : Outcome) → e .outcome ≡ o → answerNumber (answerTo o (pointOf (x .task) k)) ≡ 0 → Way image b x
+      carried : (o : Outcome) → e .outcome ≡ o → answerTo o (pointOf (x .task) k) ≡ Done
+          → Gives (answerFor (carriedOut image s x k .motion) Done) (encoded (carriedOut image s x k .state))
       unfolding handed performed
-      zero-number o q z =
-          Way.done (number-of _ (was ∙ ap handed performs) ∙ ap (λ (o : Outcome). answerNumber (answerTo o (pointOf (x .task) k))) q ∙ z)
+      carried o q z =
+          given-by _ _ (performs ∙ (λ ι. record { answer = answerFor (e .motion) ((ap (λ (o : Outcome). answerTo o (pointOf (x .task) k)) q ∙ z) ι); buffer = encoded (carriedOut image s x k .state) }))
 
-      halting : (n : ℕ) → e .outcome ≡ outcome.Halt n → Way image b x
+      task-good : Good s
+      task-good = good (r .runs .held .state)
+
+      rule : Law (commandOf image s x .code) (commandOf image s x) (given s k x) (s .values) e
+      rule = law image bytes s task-good x (r .runs .held .asked .task) (r .runs .running) (r .fits)
+
+      reason-of : (q : Cause) → e .outcome ≡ outcome.Halt q → ReasonHere image b x q
+      reason-of q i =
+          let fitting = fit-here image bytes s task-good x (r .runs .held .asked .task) (r .runs .running) (r .fits) in
+          subst (Halting (commandOf image s x) (s .values) (k .time)) i (rule .outcome .halt (s .header .count) (fitting .ranges))
+
+      -- 17 lets a pending wait stand at a wait alone
+      wait-here : isSet (k .time) ≡ true → isWait (commandOf image s x .code) ≡ true
+      unfolding fits
+      wait-here t =
+          let here = both (isLoaded image (s .header)) (blockFits (s .header) (blocksOf image) (x .task) k && waitFits (blocksOf image) k) (r .fits) in
+          let waiting = both (blockFits (s .header) (blocksOf image) (x .task) k) (waitFits (blocksOf image) k) (here .1) .1 in
+          sym (ap (λ (u : Bool). not u || isWait (commandOf image s x .code)) t) ∙ waiting
+
+      halting : (q : Cause) → e .outcome ≡ outcome.Halt q → Gives (answerFor None (Halted q (pointOf (x .task) k))) (encoded (haltedState s x))
       unfolding handed performed
-      halting n q =
-          let own-law = law image bytes s good x l r pass in
-          let still = own-law .still (ap isHalt q) in
-          let fitting = fit-here image bytes s good x l r pass in
-          let after = was ∙ ap handed performs in
-          let next = keeps-good image bytes s good x in
-          Way.halts n
-          (subst (Halting (commandAt (blocksOf image) (k .block)) (s .values) (k .time)) q (own-law .outcome .halt (s .header .count) (fitting .ranges)))
-          (ap (λ (m : Stepped). m .answer) after ∙ (λ ι. answerFor (still .1 ι) (answerTo (q ι) (pointOf (x .task) k))))
-          (ap decoded (buffer-of _ was)
-          ∙ decode-encode (step image s x .state) next
-          ∙ ap (λ (o : Out). o .state) performs
-          ∙ (λ ι. record { values = noted (x .task) (x .start) (still .0 ι); header = s .header; tasks = tasksAfter (s .header .start) (x .task) k (q ι) (s .tasks) }))
+      halting q i =
+          let still = rule .still (ap isHalt i) in
+          let time = unpending (commandOf image s x) (s .values) (k .time) (reason-of q i) wait-here in
+          let turns = no-turns (s .header .drive .model) (k .time) (k .turns) (task-good .task (x .task) (r .runs .held .asked .task) .wait) time in
+          given-by _ _ (performs
+          ∙ (λ ι. record {
+            answer = answerFor (still .1 ι) (answerTo (i ι) (pointOf (x .task) k));
+            buffer = encoded (record { values = noted (x .task) (x .start) (still .0 ι); header = s .header; tasks = tasksAfter (s .header .start) (x .task) k (i ι) (s .tasks) });
+          })
+          ∙ (λ ι. record {
+            answer = answerFor None (Halted q (pointOf (x .task) k));
+            buffer = encoded (record { values = noted (x .task) (x .start) (s .values); header = s .header; tasks = set (s .tasks) (x .task) (status-alone k time turns ι) });
+          }))
 
-      performed-way : (o : Outcome) → e .outcome ≡ o → Way image b x
-      performed-way outcome.GoOn q = zero-number _ q refl
-      performed-way (outcome.Stay time turns) q = zero-number _ q refl
-      performed-way (outcome.Jump a) q = zero-number _ q refl
-      performed-way (outcome.Call a) q = zero-number _ q refl
-      performed-way outcome.Return q = zero-number _ q refl
-      performed-way (outcome.Start u a) q = zero-number _ q refl
-      performed-way outcome.Restart q = zero-number _ q refl
-      performed-way outcome.End q = zero-number _ q refl
-      performed-way (outcome.Halt n) q = halting n q
+      -- a command without a reason does not halt
+      going : ((q : Cause) → ReasonHere image b x q → ⊥) → (o : Outcome) → e .outcome ≡ o
+          → Gives (answerFor (carriedOut image s x k .motion) Done) (encoded (carriedOut image s x k .state))
+      going n outcome.GoOn i = carried _ i refl
+      going n (outcome.Stay time turns) i = carried _ i refl
+      going n (outcome.Jump a) i = carried _ i refl
+      going n (outcome.Call a) i = carried _ i refl
+      going n outcome.Return i = carried _ i refl
+      going n (outcome.Start u a) i = carried _ i refl
+      going n outcome.Restart i = carried _ i refl
+      going n outcome.End i = carried _ i refl
+      going n (outcome.Halt q) i = absurd (n q (reason-of q i))
 
-    task-way : Way image b x
+    -- ---- what a way says is what the step gives
+
+    gives : (a : BiasAnswer) (after : List ℕ) → Way image b x a after → Gives a after
     unfolding taskStep
-    task-way = runs-or-not (eqb (k .status) runs) refl
-      where
-        passes-or-not : k .status ≡ runs → (t : Bool) → fits image (s .header) (x .task) k ≡ t → Way image b x
-        passes-or-not r true p = performed-way r p (effectOf (given s k x) (commandAt (blocksOf image) (k .block)) (s .values) .outcome) refl
-        passes-or-not r false p = put-back (Differs (pointOf (x .task) k)) (to-task ∙ rw (eq-eqb (k .status) runs r, p)) (omega arith) (omega arith)
+    gives _ _ (Way.noTask l) = given-by _ _ (no-task image b x l)
+    gives _ _ (Way.badInputs l n) = given-by _ _ (bad-inputs image b x l n)
+    gives _ _ (Way.noState q is) = given-by _ _ (of-buffer image b x (q .task) (q .levels) ∙ no-state image b x is)
+    gives _ _ (Way.notRunning h n) = put-back h NotRunning (rw (ne-eqb (k .status) runs n))
+    gives _ _ (Way.differs h f) = put-back (h .held) (Differs (pointOf (x .task) k)) (rw (eq-eqb (k .status) runs (h .running), f))
+    gives _ _ (Way.done r n) = going r n (e r .outcome) refl
+    gives _ _ (Way.halts r q h) = halting r q (halts-for (given s k x) (commandOf image s x) (s .values) h)
 
-        runs-or-not : (t : Bool) → eqb (k .status) runs ≡ t → Way image b x
-        runs-or-not true q = passes-or-not (eqb-true _ _ q) (fits image (s .header) (x .task) k) refl
-        runs-or-not false q = put-back NotRunning (to-task ∙ rw q) (omega arith) (omega arith)
+    -- ---- a step goes some way
 
-    task-held : isState (stepped image b x .buffer) ≡ true
+    goes : {a : BiasAnswer} {after : List ℕ} → Way image b x a after → Way image b x (stepped image b x .answer) (stepped image b x .buffer)
+    goes {a} {after} w = let g = gives a after w in subst (λ (l : List ℕ). Way image b x (stepped image b x .answer) l) (g .buffer) (subst (λ (r : BiasAnswer). Way image b x r after) (g .answer) w)
+
+    abbrev Some : Type 0
+    Some = Way image b x (stepped image b x .answer) (stepped image b x .buffer)
+
+    -- a command that comes to o, which is no halt, has no reason to
+    unhalted : (r : Ready image b x) (o : Outcome) → e r .outcome ≡ o → isHalt o ≡ false → Some
+    unhalted r o i f = goes (Way.done r (λ q h. clash (ap isHalt (sym (halts-for (given s k x) (commandOf image s x) (s .values) h) ∙ i) ∙ f)))
+
+    executed-way : (r : Ready image b x) (o : Outcome) → e r .outcome ≡ o → Some
+    executed-way r outcome.GoOn i = unhalted r _ i refl
+    executed-way r (outcome.Stay time turns) i = unhalted r _ i refl
+    executed-way r (outcome.Jump a) i = unhalted r _ i refl
+    executed-way r (outcome.Call a) i = unhalted r _ i refl
+    executed-way r outcome.Return i = unhalted r _ i refl
+    executed-way r (outcome.Start u a) i = unhalted r _ i refl
+    executed-way r outcome.Restart i = unhalted r _ i refl
+    executed-way r outcome.End i = unhalted r _ i refl
+    executed-way r (outcome.Halt q) i = goes (Way.halts r q (reason-of r q i))
+
+    running-way : Running b x → (t : Bool) → fits image (s .header) (x .task) k ≡ t → Some
+    running-way h true f = let r : Ready image b x = record { runs = h; fits = f } in executed-way r (e r .outcome) refl
+    running-way h false f = goes (Way.differs h f)
+
+    held-way : Held b x → (t : Bool) → eqb (k .status) runs ≡ t → Some
+    held-way h true f = running-way (record { held = h; running = eqb-true _ _ f }) (fits image (s .header) (x .task) k) refl
+    held-way h false f = goes (Way.notRunning h (eqb-false _ _ f))
+
+    asked-way : Asked x → (t : Bool) → isState b ≡ t → Some
+    asked-way q true is = held-way (record { asked = q; state = is }) (eqb (k .status) runs) refl
+    asked-way q false is = goes (Way.noState q is)
+
+    some-way : Some
+    some-way =
+        asked image b x
+        (λ l. goes (Way.noTask l))
+        (λ l n. goes (Way.badInputs l n))
+        (λ l g. asked-way (record { task = l; levels = g }) (isState b) refl)
+
+    -- ---- a state stays one
+
+    held-after : isState b ≡ true → isState (stepped image b x .buffer) ≡ true
     unfolding handed
-    task-held = ap isState (buffer-of _ was) ∙ good-state (step image s x .state) (keeps-good image bytes s good x)
-
-  every-way : Bytes image → Bytes b → Way image b x
-  every-way bytes own =
-      asked image b x
-      (λ l. turned-away _ (no-task image b x l) (omega arith) (omega arith) refl)
-      (λ l n. turned-away _ (bad-inputs image b x l n) (omega arith) (omega arith) refl)
-      (λ l g. state-or-not l g (isState b) refl)
-    where
-      state-or-not : x .task < taskCount → length (x .levels) ≡ cells → (t : Bool) → isState b ≡ t → Way image b x
-      state-or-not l g true is = task-way bytes own l g is
-      state-or-not l g false is = turned-away _ (of-buffer image b x l g ∙ no-state image b x is) (omega arith) (omega arith) refl
-
-  every-held : Bytes image → Bytes b → isState b ≡ true → isState (stepped image b x .buffer) ≡ true
-  every-held bytes own is =
-      asked image b x
-      (λ l. ap isState (buffer-of _ (no-task image b x l)) ∙ is)
-      (λ l n. ap isState (buffer-of _ (bad-inputs image b x l n)) ∙ is)
-      (λ l g. task-held bytes own l g is)
+    held-after is =
+        asked image b x
+        (λ l. ap (λ (m : Stepped). isState (m .buffer)) (no-task image b x l) ∙ is)
+        (λ l n. ap (λ (m : Stepped). isState (m .buffer)) (bad-inputs image b x l n) ∙ is)
+        (λ l g. ap (λ (m : Stepped). isState (m .buffer)) (of-buffer image b x l g ∙ of-state image b x is) ∙ good-state (step image s x .state) (keeps-good image bytes s (good is) x))
 
 pub every-step : EveryStep
-every-step image b bytes own x = record { way = every-way image b x bytes own; held = every-held image b x bytes own }
+every-step image b bytes own x = record {
+  way = λ a after. (
+    λ w. let g = gives image b x bytes own a after w in (g .answer, g .buffer),
+    λ e. rw (e .0, e .1) (some-way image b x bytes own),
+  );
+  held = held-after image b x bytes own;
+}

@@ -4,7 +4,7 @@ use Prim.Native.Nat.{ℕ, _<_, _≤_}
 use native.Mathlib.Omega.{arith}
 use mathlib.Core.Path.{_≡_, refl, sym, ap, _∙_, subst}
 use mathlib.Core.Bool.{Bool, true, false}
-use mathlib.Core.Logic.{_↔_}
+use mathlib.Core.Logic.{_↔_, _⊎_, inl, inr, ⊎-elim}
 use mathlib.Core.List.{List}
 use lib.Dec.{eqb}
 use lib.ListN.{length}
@@ -19,7 +19,7 @@ use Rattle.fault.specs.declared.Fault.{Fault}
 use Rattle.fault.specs.declared.Fault.the-variants as fault
 use Rattle.walk.specs.Index.{marksLength}
 use Rattle.walk.specs.Program.{faultAt}
-use Rattle.walk.specs.Says.{Says, Judges}
+use Rattle.walk.specs.Says.{NoForeign, Says, Judges}
 use Rattle.walk.specs.Verdict.{verdictNumber, verdictOf, isAccepted}
 use Rattle.walk.specs.declared.Verdict.{Verdict}
 use Rattle.walk.specs.declared.Verdict.the-variants as verdict
@@ -30,7 +30,7 @@ use Rattle.machine.specs.Theorem.{loaded}
 use Rattle.border.specs.Border.{verdictFor}
 use Rattle.border.specs.declared.BiasVerdict.{BiasVerdict}
 use Rattle.bias.specs.Load.{Load, load}
-use Rattle.bias.specs.Theorem.{Loads, LoadOf, WellFormed, SomeBad}
+use Rattle.bias.specs.Theorem.{Loads, LoadOf, WellFormed, SomeBad, SomeForeign, RefusedExactly}
 use Rattle.bias.proofs.Ways.{marks-short, no-buffer, of-image, verdict-is, stays, begins}
 
 module _ (image : List ℕ) (n : ℕ) (b : List ℕ) where
@@ -127,20 +127,42 @@ module _ (image : List ℕ) (n : ℕ) (b : List ℕ) where
   pub load-of : LoadOf image n b
   load-of = record { answer = λ v. (loads-only v, λ e. rw e loads); accepted = fresh-load; refused = kept-load }
 
-  -- ---- refused exactly when some walk reaches a bad place
+  -- what a load answers 0 to is well formed, in both readings
+  fits-well : marksLength ≤ n → length b ≡ bufferLength → {v : Verdict} → Judges image n v → verdictNumber v ≡ 0
+      → WellFormed image n b × NoForeign (headerOf image .header) (blocksOf image)
+  fits-well room right (Judges.marks short) e = absurd (omega arith)
+  fits-well room right (Judges.header m d) e = absurd (not-zero (headerOf image .outcome) d e)
+  fits-well room right (Judges.block m d c l all bad) e = absurd (bad e)
+  fits-well room right (Judges.walks m d all v (Says.accepted f g)) e = (record { marks = room; buffer = right; header = d; blocks = all }, f)
+  fits-well room right (Judges.walks m d all v (Says.foreign p f g)) e = absurd (omega arith)
+  fits-well room right (Judges.walks m d all v (Says.bad f p q g)) e = absurd (bad-number (faultAt (headerOf image .header) (blocksOf image) p) (q .1) e)
+
+  pub well-formed : load image n b .verdict .number ≡ 0 → WellFormed image n b × NoForeign (headerOf image .header) (blocksOf image)
+  well-formed z = zero-way z (λ room right. fits-well room right (verdict-judges image n) (sym (number-is room right) ∙ z))
+
+  -- ---- refused exactly when some walk reaches a bad place or a 51 that would end another task
 
   module _ (w : WellFormed image n b) where
-    both-ways : {v : Verdict} → Judges image n v → (verdictNumber v ≡ 0 → ⊥) ↔ SomeBad image
+    both-ways : {v : Verdict} → Judges image n v → (verdictNumber v ≡ 0 → ⊥) ↔ (SomeBad image ⊎ SomeForeign image)
     both-ways (Judges.marks short) = absurd (let m = w .marks in omega arith)
     both-ways (Judges.header room d) = clash (sym (w .header) ∙ d)
     both-ways (Judges.block room d c l all bad) = absurd (bad (w .blocks c l))
-    both-ways (Judges.walks room d all v (Says.accepted f g)) = (λ r. absurd (r refl), λ s. absurd (g (s .place) (s .bad)))
-    both-ways (Judges.walks room d all v (Says.foreign p f g)) = absurd (w .own p f)
+    both-ways (Judges.walks room d all v (Says.accepted f g)) =
+        (λ r. absurd (r refl), λ s. absurd (⊎-elim (λ (a : SomeBad image). g (a .place) (a .bad)) (λ (a : SomeForeign image). f (a .place) (a .foreign)) s))
+    both-ways (Judges.walks room d all v (Says.foreign p f g)) = (λ r. inr (record { place = p; foreign = f }), λ s e. omega arith)
     both-ways (Judges.walks room d all v (Says.bad f p q g)) =
-        (λ r. record { place = p; bad = q }, λ s e. bad-number (faultAt (headerOf image .header) (blocksOf image) p) (q .1) e)
+        (λ r. inl (record { place = p; bad = q }), λ s e. bad-number (faultAt (headerOf image .header) (blocksOf image) p) (q .1) e)
 
-    pub refused-exactly : (load image n b .verdict .number ≡ 0 → ⊥) ↔ SomeBad image
-    refused-exactly =
+    refused-by-form : (load image n b .verdict .number ≡ 0 → ⊥) ↔ (SomeBad image ⊎ SomeForeign image)
+    refused-by-form =
         let e = both-ways (verdict-judges image n) in
         let m = number-is (w .marks) (w .buffer) in
         (λ r. e .0 (λ z. r (m ∙ z)), λ s z. e .1 s (sym m ∙ z))
+
+    -- where no walk reaches such a 51
+    refused-by-place : NoForeign (headerOf image .header) (blocksOf image) → (load image n b .verdict .number ≡ 0 → ⊥) ↔ SomeBad image
+    refused-by-place own =
+        (λ r. ⊎-elim (λ (a : SomeBad image). a) (λ (a : SomeForeign image). absurd (own (a .place) (a .foreign))) (refused-by-form .0 r), λ s. refused-by-form .1 (inl s))
+
+pub refused-exactly : RefusedExactly
+refused-exactly = record { byForm = refused-by-form; byPlace = refused-by-place }

@@ -1,44 +1,94 @@
--- Every step, of whatever bytes, in a run or not (demand 1): it is carried out, or refused and changes nothing, or halts its task by 19 or 20. Proved as
--- `every-step` in proofs/Every.antt. Assumes nothing.
-use Prim.Native.Nat.{ℕ, _≤_}
+-- Every step, of whatever bytes, in a run or not (demand 1): which way it goes, and of each way the condition, the whole answer and the whole buffer. Proved
+-- as `every-step` in proofs/Every.antt. Assumes nothing.
+use Prim.Native.Nat.{ℕ, _<_, _≤_}
 use mathlib.Core.Path.{_≡_}
-use mathlib.Core.Bool.{true}
+use mathlib.Core.Bool.{true, false}
+use mathlib.Core.Logic.{_↔_}
 use mathlib.Core.List.{List}
-use lib.ListN.{set}
+use lib.ListN.{length, set}
 use Rattle.le.specs.LittleEndian.{Bytes}
-use Rattle.state.specs.State.{halted, taskAt}
+use Rattle.flow.specs.Flow.{taskCount}
+use Rattle.state.specs.State.{cells, runs, halted, task, taskAt}
+use Rattle.state.specs.declared.Task.{Task}
 use Rattle.state.specs.declared.State.{State}
 use Rattle.layout.specs.Decoded.{decoded}
+use Rattle.layout.specs.Encoded.{encoded}
 use Rattle.layout.specs.Test.{isState}
 use Rattle.machine.specs.Given.{Inputs}
-use Rattle.machine.specs.Engine.{pointOf, noted, stopped}
+use Rattle.machine.specs.Engine.{pointOf, noted, fits, carriedOut}
 use Rattle.machine.specs.Each.{commandOf, Reason}
+use Rattle.machine.specs.declared.Cause.{Cause}
 use Rattle.machine.specs.declared.Motion.the-variants.{None}
-use Rattle.machine.specs.declared.Answer.the-variants.{Halted}
-use Rattle.border.specs.Border.{answerFor}
+use Rattle.machine.specs.declared.Answer.the-variants.{Done, NoTask, Inputs as BadInputs, NotRunning, Differs, Halted}
+use Rattle.border.specs.Border.{noStateAnswer, answerFor}
+use Rattle.border.specs.declared.BiasAnswer.{BiasAnswer}
 use Rattle.bias.specs.Step.{stepped}
 
--- what 19 and 20 leave: the task is halted, a BIAS step has noted the start level, and nothing else has changed
+-- ---- what 19 and 20 leave
+
+-- block, start, call stack and wait stay
+abbrev pub withStatus : ℕ → Task → Task
+withStatus status k = task status (k .block) (k .start) (k .depth) (k .stack) (k .time) (k .turns)
+
+-- the task is halted, a BIAS step has noted the start level, and nothing else has changed
 abbrev pub haltedState : State → Inputs → State
 haltedState s x = record {
   values = noted (x .task) (x .start) (s .values);
   header = s .header;
-  tasks = set (s .tasks) (x .task) (stopped halted (taskAt s (x .task)));
+  tasks = set (s .tasks) (x .task) (withStatus halted (taskAt s (x .task)));
 }
 
-pub data Way (image b : List ℕ) (x : Inputs) : Type 0 where
-  -- carried out
-  done : stepped image b x .answer .number ≡ 0 → Way image b x
-  -- 15 to 18: no motion, and the buffer is as it was
-  refused : 15 ≤ stepped image b x .answer .number → stepped image b x .answer .number ≤ 18 → stepped image b x .answer .motion ≡ 0
-      → stepped image b x .buffer ≡ b → Way image b x
-  -- 19 or 20, for its reason, at the task's point, with no motion
-  halts : (n : ℕ) → Reason (commandOf image (decoded b) x) (decoded b .values) (taskAt (decoded b) (x .task) .time) n
-      → stepped image b x .answer ≡ answerFor None (Halted n (pointOf (x .task) (taskAt (decoded b) (x .task))))
-      → decoded (stepped image b x .buffer) ≡ haltedState (decoded b) x → Way image b x
+-- ---- the tests, in their order
+
+-- 15 lets the step pass
+pub record Asked (x : Inputs) : Type 0 where
+  pub task : x .task < taskCount
+  pub levels : length (x .levels) ≡ cells
+
+-- and so does 16
+pub record Held (b : List ℕ) (x : Inputs) : Type 0 where
+  pub asked : Asked x
+  pub state : isState b ≡ true
+
+-- 18 too
+pub record Running (b : List ℕ) (x : Inputs) : Type 0 where
+  pub held : Held b x
+  pub running : taskAt (decoded b) (x .task) .status ≡ runs
+
+-- and 17: the command at the task's block is executed
+pub record Ready (image b : List ℕ) (x : Inputs) : Type 0 where
+  pub runs : Running b x
+  pub fits : fits image (decoded b .header) (x .task) (taskAt (decoded b) (x .task)) ≡ true
+
+-- the command has this reason to halt its task
+abbrev pub ReasonHere : List ℕ → List ℕ → Inputs → Cause → Type 0
+ReasonHere image b x = Reason (commandOf image (decoded b) x) (decoded b .values) (taskAt (decoded b) (x .task) .time)
+
+-- ---- the ways of a step, each with its answer and the buffer after it
+
+pub data Way (image b : List ℕ) (x : Inputs) : BiasAnswer → List ℕ → Type 0 where
+  -- 15: there is no such task
+  noTask : taskCount ≤ x .task → Way image b x (answerFor None (NoTask (x .task))) b
+  -- 15: the input levels have another length
+  badInputs : x .task < taskCount → (length (x .levels) ≡ cells → ⊥) → Way image b x (answerFor None (BadInputs (length (x .levels)))) b
+  -- 16
+  noState : Asked x → isState b ≡ false → Way image b x noStateAnswer b
+  -- 18
+  notRunning : Held b x → (taskAt (decoded b) (x .task) .status ≡ runs → ⊥) → Way image b x (answerFor None NotRunning) b
+  -- 17, at the task's point
+  differs : Running b x → fits image (decoded b .header) (x .task) (taskAt (decoded b) (x .task)) ≡ false
+      → Way image b x (answerFor None (Differs (pointOf (x .task) (taskAt (decoded b) (x .task))))) b
+  -- carried out: the motion and the state are those of the command
+  done : Ready image b x → ((q : Cause) → ReasonHere image b x q → ⊥)
+      → Way image b x (answerFor (carriedOut image (decoded b) x (taskAt (decoded b) (x .task)) .motion) Done)
+      (encoded (carriedOut image (decoded b) x (taskAt (decoded b) (x .task)) .state))
+  -- 19 or 20, at the task's point, with no motion
+  halts : Ready image b x → (q : Cause) → ReasonHere image b x q
+      → Way image b x (answerFor None (Halted q (pointOf (x .task) (taskAt (decoded b) (x .task))))) (encoded (haltedState (decoded b) x))
 
 pub record StepOf (image b : List ℕ) (x : Inputs) : Type 0 where
-  pub way : Way image b x
+  -- a step goes one of these ways, and what it answers and leaves is nothing else
+  pub way : (a : BiasAnswer) (after : List ℕ) → Way image b x a after ↔ ((a ≡ stepped image b x .answer) × (after ≡ stepped image b x .buffer))
   -- and a buffer that is a state is one afterwards
   pub held : isState b ≡ true → isState (stepped image b x .buffer) ≡ true
 

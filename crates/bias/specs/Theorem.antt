@@ -3,7 +3,7 @@
 use Prim.Native.Nat.{ℕ, _<_, _≤_}
 use mathlib.Core.Path.{_≡_}
 use mathlib.Core.Bool.{Bool, true, false}
-use mathlib.Core.Logic.{_↔_}
+use mathlib.Core.Logic.{_↔_, _⊎_}
 use mathlib.Core.List.{List, [], _∷_}
 use lib.ListN.{length}
 use Rattle.le.specs.LittleEndian.{Bytes}
@@ -12,7 +12,7 @@ use Rattle.image.specs.Scan.{headerOf, blocksOf}
 use Rattle.flow.specs.Flow.{taskCount}
 use Rattle.point.specs.declared.Point.{Point}
 use Rattle.walk.specs.Index.{marksLength}
-use Rattle.walk.specs.Says.{BadAt, NoForeign, BlockPasses, Judges}
+use Rattle.walk.specs.Says.{BadAt, ForeignAt, NoForeign, BlockPasses, Judges}
 use Rattle.walk.specs.declared.Verdict.{Verdict}
 use Rattle.walk.specs.declared.Verdict.the-variants.{MarksShort}
 use Rattle.state.specs.State.{runs, taskAt}
@@ -44,7 +44,7 @@ refused (NoTask t) = true
 refused (BadInputs n) = true
 refused NotRunning = true
 refused (Differs p) = true
-refused (Halted n p) = false
+refused (Halted q p) = false
 
 -- 17: the lent image differs from the loaded one
 abbrev pub differs : Answer → Bool
@@ -53,7 +53,7 @@ differs (NoTask t) = false
 differs (BadInputs n) = false
 differs NotRunning = false
 differs (Differs p) = true
-differs (Halted n p) = false
+differs (Halted q p) = false
 
 pub record StepOn (image : List ℕ) (calls : Calls) (b : List ℕ) (x : Inputs) : Type 0 where
   -- the buffer is a state
@@ -110,22 +110,30 @@ pub record LoadOf (image : List ℕ) (n : ℕ) (b : List ℕ) : Type 0 where
 abbrev pub EveryLoad : Type 0
 EveryLoad = (image : List ℕ) (n : ℕ) (b : List ℕ) → LoadOf image n b
 
--- header, blocks and lent lengths are well formed: 13, 16 and 1 to 8 let them pass, with the 7 of a 51 that would end another task
+-- header, blocks and lent lengths are well formed: 13, 16, 1 to 4 and, of each block by itself, 5 to 8 let them pass
 pub record WellFormed (image : List ℕ) (n : ℕ) (b : List ℕ) : Type 0 where
   pub marks : marksLength ≤ n
   pub buffer : length b ≡ bufferLength
   pub header : done (headerOf image .outcome) ≡ true
   pub blocks : (k : ℕ) → k < headerOf image .header .count → BlockPasses (headerOf image .header) (blocksOf image) k
-  pub own : NoForeign (headerOf image .header) (blocksOf image)
 
 -- some walk reaches a bad place
 pub record SomeBad (image : List ℕ) : Type 0 where
   pub place : Point
   pub bad : BadAt (headerOf image .header) (blocksOf image) place
 
--- then a load is refused exactly when some walk reaches a bad place
-abbrev pub RefusedExactly : Type 0
-RefusedExactly = (image : List ℕ) (n : ℕ) (b : List ℕ) → WellFormed image n b → (load image n b .verdict .number ≡ 0 → ⊥) ↔ SomeBad image
+-- some walk reaches a 51 that would end another task
+pub record SomeForeign (image : List ℕ) : Type 0 where
+  pub place : Point
+  pub foreign : ForeignAt (headerOf image .header) (blocksOf image) place
+
+-- a load of bytes that are well formed is refused exactly when .., in both readings of document 01's "well formed" (docs/DECISIONS.md, R2)
+pub record RefusedExactly : Type 0 where
+  -- the form is that of header, blocks and lengths alone: when some walk reaches a bad place or a 51 that would end another task
+  pub byForm : (image : List ℕ) (n : ℕ) (b : List ℕ) → WellFormed image n b → (load image n b .verdict .number ≡ 0 → ⊥) ↔ (SomeBad image ⊎ SomeForeign image)
+  -- the 7 of such a 51 counts as form too: when some walk reaches a bad place
+  pub byPlace : (image : List ℕ) (n : ℕ) (b : List ℕ) → WellFormed image n b → NoForeign (headerOf image .header) (blocksOf image)
+      → (load image n b .verdict .number ≡ 0 → ⊥) ↔ SomeBad image
 
 -- ---- the whole
 

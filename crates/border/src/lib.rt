@@ -1,11 +1,12 @@
 // What C is handed (include/bias.h): the two structs of results, and document 01's numbers and places in them. Parts that an answer does not name are 0.
 use machine::Answer;
+use machine::Cause;
 use machine::Motion;
 use state::Axis;
 use walk::Verdict;
 use writer::Written;
 ghost use mathlib.Core.Path.{_≡_};
-ghost use Rattle.machine.specs.Numbers.{answerNumber, answerPlace, answerTask, answerDepth, motionNumber, stopAxis, motionAxis, motionMode};
+ghost use Rattle.machine.specs.Numbers.{causeNumber, answerNumber, answerPlace, answerTask, answerDepth, motionNumber, stopAxis, motionAxis, motionMode};
 ghost use Rattle.border.specs.Border.{numbered, verdictFor, writtenFor, noStateAnswer, answerFor};
 
 // 16: the lent buffer is no state.
@@ -117,7 +118,17 @@ fn number_of(a: Answer) -> u32
         Answer::Inputs(_) => 15,
         Answer::NotRunning => 18,
         Answer::Differs(_) => 17,
-        Answer::Halted(number, _) => number,
+        Answer::Halted(cause, _) => cause_number(cause),
+    }
+}
+
+// Document 01's number of a halt.
+fn cause_number(cause: Cause) -> u32
+    ensures { λ r. ⌜ r ≡ causeNumber cause ⌝ }
+{
+    match cause {
+        Cause::ZeroDivisor => 19,
+        Cause::BadContent => 20,
     }
 }
 

@@ -7,7 +7,7 @@ use Rattle.rows.specs.Rows.{hex}
 use Rattle.point.specs.Fault.{point}
 use Rattle.state.specs.State.{cells, runs}
 use Rattle.machine.specs.Given.{Inputs}
-use Rattle.machine.specs.Effect.{zeroDivisor}
+use Rattle.machine.specs.declared.Cause.the-variants.{ZeroDivisor}
 use Rattle.machine.specs.declared.Answer.{Answer}
 use Rattle.machine.specs.declared.Answer.the-variants.{Done, NoTask, NotRunning, Halted}
 use Rattle.cases.specs.Images.{block, plain, toward, image}
@@ -45,7 +45,7 @@ steps = map stepOf order
 -- what is answered: mathematics halts by 19, its next step is refused by 18, that of task 3 by 15
 abbrev pub answers : List Answer
 answers =
-    Done ∷ Done ∷ Done ∷ Done ∷ Done ∷ Done ∷ Done ∷ Done ∷ Halted zeroDivisor (point 2 12 0) ∷ Done ∷ Done ∷ Done ∷ Done ∷ NotRunning ∷ NoTask 3 ∷ Done ∷ Done ∷ Done ∷ []
+    Done ∷ Done ∷ Done ∷ Done ∷ Done ∷ Done ∷ Done ∷ Done ∷ Halted ZeroDivisor (point 2 12 0) ∷ Done ∷ Done ∷ Done ∷ Done ∷ NotRunning ∷ NoTask 3 ∷ Done ∷ Done ∷ Done ∷ []
 
 -- what is left of a task
 pub record Place : Type 0 where

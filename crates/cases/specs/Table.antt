@@ -77,7 +77,7 @@ again model word Return = Return
 again model word (Start u a) = Start u a
 again model word Restart = Restart
 again model word End = End
-again model word (Halt n) = Halt n
+again model word (Halt q) = Halt q
 
 unfoldable pub waitOf : ℕ → ℕ → ℕ → Outcome
 waitOf model word zero = waitsOn model word 0 0

@@ -1,5 +1,6 @@
 // Commands of control (50 to 55, 57 to 5A, 90): one function for each, and the one that finds it. They change nothing but tasks.
 use drive::Drive;
+use machine::Cause;
 use machine::Effect;
 use machine::Moment;
 use machine::Outcome;
@@ -117,7 +118,7 @@ fn wait_by_variable(m: Moment, c: Command, v: Values) -> Effect
     if (m.time != 0) | is_time(content) {
         return effect::flows(v, waits(m, time_of(m.drive, natural(content))));
     }
-    effect::halts(effect::OUT_OF_RANGE, v)
+    effect::halts(Cause::BadContent, v)
 }
 
 // A wait: a time is pending from the first step on, and each later step counts a turn.

@@ -1,4 +1,5 @@
 // Effects in their forms, and what several commands read alike.
+use machine::Cause;
 use machine::Effect;
 use machine::Motion;
 use machine::Outcome;
@@ -8,11 +9,6 @@ ghost use mathlib.Core.Path.{_≡_};
 ghost use Rattle.machine.specs.Given.{level};
 ghost use Rattle.machine.specs.declared.Outcome.the-variants.{GoOn};
 ghost use Rattle.machine.specs.Effect.{effect, assigns, sets, flows, jumpIf, halts, flag, output, variable, compares};
-
-// The refusals that halt a task: a zero divisor, a content out of range.
-pub const ZERO_DIVISOR: u32 = 19;
-
-pub const OUT_OF_RANGE: u32 = 20;
 
 // The values change, and the task goes on.
 pub fn sets(values: Values) -> Effect
@@ -44,10 +40,10 @@ pub fn jump_if(condition: bool, block: u16, values: Values) -> Effect
 }
 
 // A halt changes nothing.
-pub fn halts(number: u32, values: Values) -> Effect
-    ensures { λ r. ⌜ r ≡ halts number values ⌝ }
+pub fn halts(cause: Cause, values: Values) -> Effect
+    ensures { λ r. ⌜ r ≡ halts cause values ⌝ }
 {
-    flows(values, Outcome::Halt(number))
+    flows(values, Outcome::Halt(cause))
 }
 
 // A variable's content.

@@ -76,7 +76,7 @@ fn answer_to(outcome: Outcome, p: Point) -> Answer
         Outcome::Start(u, a) => Answer::Done,
         Outcome::Restart => Answer::Done,
         Outcome::End => Answer::Done,
-        Outcome::Halt(n) => Answer::Halted(n, p),
+        Outcome::Halt(cause) => Answer::Halted(cause, p),
     }
 }
 

@@ -288,7 +288,7 @@ module _ (image : List ℕ) (bytes : Bytes image) (s : State) (g : Good s) (x : 
   turned (Start u a) m w = starts u a m (ℕ-discrete u t)
   turned Restart m w = here (restarted k) (restart-good h k known) refl
   turned End m w = here (stopped ended k) (stop-good h k known ended (omega arith)) refl
-  turned (Halt n) m w = here (stopped halted k) (stop-good h k known halted (omega arith)) refl
+  turned (Halt q) m w = here (stopped halted k) (stop-good h k known halted (omega arith)) refl
 
   keeps-values : (v : Values) → GoodValues v → GoodValues (keeps t (x .start) v)
   keeps-values v d = go (eqb t bias)

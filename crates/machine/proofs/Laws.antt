@@ -26,10 +26,12 @@ use Rattle.state.specs.Good.{GoodWait, GoodAxis, GoodValues, InRange}
 use Rattle.state.specs.declared.Axis.{Axis}
 use Rattle.state.specs.declared.Values.{Values}
 use Rattle.machine.specs.Given.{Given}
-use Rattle.machine.specs.Effect.{effect, sets, flows, jumpIf, halts, assigns, zeroDivisor, outOfRange, isSet, within, natural, variable, started, moves, waits, waitsVariable, parameter, divides, timeOf}
+use Rattle.machine.specs.Effect.{effect, sets, flows, jumpIf, halts, assigns, isSet, within, natural, variable, started, moves, waits, waitsVariable, parameter, divides, timeOf}
 use Rattle.machine.specs.Engine.{isWait}
 use Rattle.machine.specs.Each.{Reason}
 use Rattle.machine.specs.Ways.{May}
+use Rattle.machine.specs.declared.Cause.{Cause}
+use Rattle.machine.specs.declared.Cause.the-variants.{ZeroDivisor, BadContent}
 use Rattle.machine.specs.declared.Effect.{Effect}
 use Rattle.machine.specs.declared.Motion.{Motion}
 use Rattle.machine.specs.declared.Motion.the-variants.{None}
@@ -44,7 +46,7 @@ use Rattle.machine.proofs.Setters.{variable-good, axis-good, mark-good,
 abbrev pub timeless : ℕ → Outcome → Bool
 timeless code (Stay time turns) = not (isSet time) || isWait code
 timeless code GoOn = true
-timeless code (Halt n) = true
+timeless code (Halt q) = true
 timeless code (Jump a) = true
 timeless code (Call a) = true
 timeless code Return = true
@@ -56,7 +58,7 @@ timeless code End = true
 abbrev pub Staying : ℕ → Outcome → Type 0
 Staying model (Stay time turns) = GoodWait model time turns
 Staying model GoOn = Unit {0}
-Staying model (Halt n) = Unit {0}
+Staying model (Halt q) = Unit {0}
 Staying model (Jump a) = Unit {0}
 Staying model (Call a) = Unit {0}
 Staying model Return = Unit {0}
@@ -66,7 +68,7 @@ Staying model End = Unit {0}
 
 -- a command that halts has a reason
 abbrev pub Halting : Command → Values → ℕ → Outcome → Type 0
-Halting c v time (Halt n) = Reason c v time n
+Halting c v time (Halt q) = Reason c v time q
 Halting c v time GoOn = Unit {0}
 Halting c v time (Stay t k) = Unit {0}
 Halting c v time (Jump a) = Unit {0}
@@ -78,7 +80,7 @@ Halting c v time End = Unit {0}
 
 -- a halt, which changes no values and asks for no motion
 abbrev pub isHalt : Outcome → Bool
-isHalt (Halt n) = true
+isHalt (Halt q) = true
 isHalt GoOn = false
 isHalt (Stay t k) = false
 isHalt (Jump a) = false
@@ -115,7 +117,7 @@ pub record Law (k : ℕ) (c : Command) (g : Given) (v : Values) (e : Effect) : T
 -- neither a stay nor a halt
 abbrev simple : Outcome → Bool
 simple (Stay time turns) = false
-simple (Halt n) = false
+simple (Halt q) = false
 simple GoOn = true
 simple (Jump a) = true
 simple (Call a) = true
@@ -135,7 +137,7 @@ module _ (k : ℕ) (c : Command) (g : Given) (v : Values) where
 
   pub simply : (o : Outcome) → simple o ≡ true → In o → Lawful k c g v o
   simply (Stay time turns) s m = clash (sym s)
-  simply (Halt n) s m = clash (sym s)
+  simply (Halt q) s m = clash (sym s)
   simply GoOn s m = record { flow = m; calm = refl; wait = λ _ _ _. tt; halt = λ _ _. tt }
   simply (Jump a) s m = record { flow = m; calm = refl; wait = λ _ _ _. tt; halt = λ _ _. tt }
   simply (Call a) s m = record { flow = m; calm = refl; wait = λ _ _ _. tt; halt = λ _ _. tt }
@@ -156,8 +158,8 @@ module _ (k : ℕ) (c : Command) (g : Given) (v : Values) where
     halt = λ _ _. tt;
   }
 
-  halts-by : (n : ℕ) → In (Halt n) → ((count : ℕ) → Ranged count c → Reason c v (g .time) n) → Lawful k c g v (Halt n)
-  halts-by n m r = record { flow = m; calm = refl; wait = λ _ _ _. tt; halt = r }
+  halts-by : (q : Cause) → In (Halt q) → ((count : ℕ) → Ranged count c → Reason c v (g .time) q) → Lawful k c g v (Halt q)
+  halts-by q m r = record { flow = m; calm = refl; wait = λ _ _ _. tt; halt = r }
 
   pub either : (t : Bool) (a b : Outcome) → (t ≡ true → Lawful k c g v a) → (t ≡ false → Lawful k c g v b) → Lawful k c g v (cond t a b)
   either true a b p q = p refl
@@ -173,8 +175,8 @@ module _ (k : ℕ) (c : Command) (g : Given) (v : Values) where
   pub flows-law : (o : Outcome) → Lawful k c g v o → Law k c g v (flows v o)
   flows-law o l = record { outcome = l; values = λ _ _ h. h; still = λ _. (refl, refl) }
 
-  halts-law : (n : ℕ) → In (Halt n) → ((count : ℕ) → Ranged count c → Reason c v (g .time) n) → Law k c g v (halts n v)
-  halts-law n m r = flows-law (Halt n) (halts-by n m r)
+  halts-law : (q : Cause) → In (Halt q) → ((count : ℕ) → Ranged count c → Reason c v (g .time) q) → Law k c g v (halts q v)
+  halts-law q m r = flows-law (Halt q) (halts-by q m r)
 
   -- the values change, and the task goes on
   pub effect-law : (w : Values) (m : Motion) → In GoOn → ((count : ℕ) → Fit count c → GoodValues v → GoodValues w) → Law k c g v (effect w m GoOn)
@@ -209,38 +211,38 @@ module _ (k : ℕ) (c : Command) (g : Given) (v : Values) where
       (λ e. stays-for (g .time) (g .turns + 1) w (again (g .time) (g .turns + 1))
       (λ count f h. goes-on (g .model) (g .time) (g .turns) h (eqb-false (g .time) 0 z) e)))
 
-  pub parameter-law : (most : ℕ) (put : ℕ → Axis → Axis) → In GoOn → In (Halt outOfRange)
+  pub parameter-law : (most : ℕ) (put : ℕ → Axis → Axis) → In GoOn → In (Halt BadContent)
       → ((a : Axis) → GoodAxis a → (n : ℕ) → InRange most n → GoodAxis (put n a))
-      → (within 1 most (variable v (c .x)) ≡ false → Reason c v (g .time) outOfRange)
+      → (within 1 most (variable v (c .x)) ≡ false → Reason c v (g .time) BadContent)
       → Law k c g v (parameter most put g c v)
   parameter-law most put further stops keep reason =
       let z = variable v (c .x) in
       let w = withAxis (put (natural z) (v .axis)) v in
-      either-effect (within 1 most z) (sets w) (halts outOfRange v)
+      either-effect (within 1 most z) (sets w) (halts BadContent v)
       (λ e. sets-law w further (λ _ _ d. axis-good v d (put (natural z) (v .axis)) (keep (v .axis) (d .axis) (natural z) (natural-in most z e))))
-      (λ e. halts-law outOfRange stops (λ _ _. reason e))
+      (λ e. halts-law BadContent stops (λ _ _. reason e))
 
   -- a quotient fits, and there is none by zero alone
-  pub divides-law : (a b : ℤ) → In GoOn → In (Halt zeroDivisor) → (b ≡ pos 0 → (count : ℕ) → Ranged count c → Reason c v (g .time) zeroDivisor)
+  pub divides-law : (a b : ℤ) → In GoOn → In (Halt ZeroDivisor) → (b ≡ pos 0 → (count : ℕ) → Ranged count c → Reason c v (g .time) ZeroDivisor)
       → Law k c g v (divides c (quotient a b) v)
   unfolding divides quotient
   divides-law a b further stops reason = go (eqZ b (pos 0)) refl
     where
       go : (t : Bool) → eqZ b (pos 0) ≡ t → Law k c g v (divides c (cond t ByZero (Value (wrap w32 (quotZ a b)))) v)
-      go true e = halts-law zeroDivisor stops (reason (is-zero b e))
+      go true e = halts-law ZeroDivisor stops (reason (is-zero b e))
       go false e = assigns-law (wrap w32 (quotZ a b)) further (λ _ _ _. wrap-fits w32 (quotZ a b))
 
-  pub waits-variable-law : isWait k ≡ true → In GoOn → ((t n : ℕ) → In (Stay t n)) → In (Halt outOfRange)
-      → (g .time ≡ 0 → within 0 mostTime (variable v (c .x)) ≡ false → Reason c v (g .time) outOfRange)
+  pub waits-variable-law : isWait k ≡ true → In GoOn → ((t n : ℕ) → In (Stay t n)) → In (Halt BadContent)
+      → (g .time ≡ 0 → within 0 mostTime (variable v (c .x)) ≡ false → Reason c v (g .time) BadContent)
       → (g .time ≡ 0 → within 0 mostTime (variable v (c .x)) ≡ true → timeOf (g .model) (natural (variable v (c .x))) ≤ longest)
       → Law k c g v (waitsVariable g c v)
   waits-variable-law w further again stops reason short =
       let z = variable v (c .x) in
       let time = timeOf (g .model) (natural z) in
-      either-effect (isSet (g .time) || within 0 mostTime z) (flows v (waits time g)) (halts outOfRange v)
+      either-effect (isSet (g .time) || within 0 mostTime z) (flows v (waits time g)) (halts BadContent v)
       (λ e. flows-law (waits time g) (waits-lawful time w further again (λ i count f. short (eqb-true (g .time) 0 i) (read i e))))
       (λ e. let n = neither (isSet (g .time)) (within 0 mostTime z) e in
-      halts-law outOfRange stops (λ _ _. reason (eqb-true (g .time) 0 (not-false _ (n .0))) (n .1)))
+      halts-law BadContent stops (λ _ _. reason (eqb-true (g .time) 0 (not-false _ (n .0))) (n .1)))
     where
       read : eqb (g .time) 0 ≡ true → (isSet (g .time) || within 0 mostTime (variable v (c .x))) ≡ true → within 0 mostTime (variable v (c .x)) ≡ true
       read i e = rw i at e

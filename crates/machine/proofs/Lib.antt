@@ -5,6 +5,7 @@ pub mod Waits
 pub mod Slope
 pub mod Laws
 pub mod RowLaw
+pub mod Halts
 pub mod Fits
 pub mod Accepted
 pub mod Outcomes
@@ -16,6 +17,7 @@ pub mod StepCase
 pub mod StepAgrees
 pub mod Codes
 pub mod StepParts
+pub mod Apart
 pub mod Keeps
 pub mod Runs
 pub mod Room

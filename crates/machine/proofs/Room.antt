@@ -53,7 +53,7 @@ module _ (image : List ℕ) (h : Header) (t : ℕ) (k : Task) (pass : fits image
   room l (Start u a) m = tt
   room l Restart m = tt
   room l End m = tt
-  room l (Halt n) m = tt
+  room l (Halt q) m = tt
 
   pub deep : k .depth ≤ mostDepth → (g : Given) (v : Values) → Deep (k .depth) (effectOf g c v .outcome)
   unfolding flowOf

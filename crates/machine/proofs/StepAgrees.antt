@@ -34,7 +34,7 @@ answers-same Return t k p e f = refl
 answers-same (Start u a) t k p e f = refl
 answers-same Restart t k p e f = refl
 answers-same End t k p e f = refl
-answers-same (Halt n) t k p e f = rw (e, f)
+answers-same (Halt q) t k p e f = rw (e, f)
 
 module _ (image : List ℕ) where
   pub record SameStep (o : Out) (d : Did) : Type 0 where

@@ -169,7 +169,7 @@ module _ (image : List ℕ) where
     not-lost (Start u a) f = refl
     not-lost Restart f = refl
     not-lost End f = refl
-    not-lost (Halt n) f = refl
+    not-lost (Halt q) f = refl
 
     -- the reference machine sees the same wait and values
     effect-same : effectOf

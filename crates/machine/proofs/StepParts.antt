@@ -30,6 +30,7 @@ use Rattle.machine.specs.declared.Out.{Out}
 use Rattle.machine.specs.Reference.{Thread, Machine, Did, idle, goes, back, anew, follows, does, turn}
 use Rattle.machine.specs.Each.{Calls, withCalls, withoutLatest, callsAfter, executed, commandOf, Behind, Stopped, Step}
 use Rattle.machine.specs.Ways.{May}
+use Rattle.machine.specs.declared.Cause.{Cause}
 use Rattle.machine.specs.declared.Outcome.{Outcome}
 use Rattle.machine.specs.declared.Outcome.the-variants.{GoOn, Stay, Jump, Call, Return, Start, Restart, End, Halt}
 use Rattle.machine.proofs.Laws.{Halting, Ranged}
@@ -124,11 +125,11 @@ other-task first t k (Start w a) l u n = go (ℕ-discrete u w)
     go (no d) = inl (getD-set-other (set l t (goTo (k .block + 1) k)) w u _ noTask d ∙ getD-set-other l t u _ noTask n)
 other-task first t k Restart l u n = inl (getD-set-other l t u _ noTask n)
 other-task first t k End l u n = inl (getD-set-other l t u _ noTask n)
-other-task first t k (Halt m) l u n = inl (getD-set-other l t u _ noTask n)
+other-task first t k (Halt q) l u n = inl (getD-set-other l t u _ noTask n)
 
 -- the step's own task runs on, ends or halts
 own-task : (first t : ℕ) (k : Task) (o : Outcome) (l : List Task) → t < length l → k .status ≡ runs → (getD (tasksAfter first t k o l) t noTask .status ≡ runs → ⊥)
-    → (o ≡ End) ⊎ ((n : ℕ) × (o ≡ Halt n))
+    → (o ≡ End) ⊎ ((q : Cause) × (o ≡ Halt q))
 own-task first t k GoOn l i r s = absurd (s (rw (getD-set-same l t (goTo (k .block + 1) k) noTask i) refl))
 own-task first t k (Stay time turns) l i r s = absurd (s (rw (getD-set-same l t (stayWith time turns k) noTask i) refl))
 own-task first t k (Jump a) l i r s = absurd (s (rw (getD-set-same l t (goTo a k) noTask i) refl))
@@ -139,7 +140,7 @@ own-task first t k (Start w a) l i r s =
     (rw (getD-set-same l t (goTo (k .block + 1) k) noTask i) refl)))
 own-task first t k Restart l i r s = absurd (s (rw (getD-set-same l t (restarted k) noTask i) refl))
 own-task first t k End l i r s = inl refl
-own-task first t k (Halt n) l i r s = inr (n, refl)
+own-task first t k (Halt q) l i r s = inr (q, refl)
 
 -- ---- the step
 
@@ -246,7 +247,7 @@ module _ (image : List ℕ) (ok : Accepted image) (s : State) (m : Machine) (g :
     unfolding performed
     header-is = ap (λ (q : Out). q .state .header) (r .engine)
 
-    stopped-by : (o ≡ End) ⊎ ((j : ℕ) × (o ≡ Halt j)) → Stopped image s x
+    stopped-by : (o ≡ End) ⊎ ((j : Cause) × (o ≡ Halt j)) → Stopped image s x
     stopped-by (inl e) =
         let q = end-code c flows t (r .passes .own) (subst (May (flowOf c)) e in-flow) in
         Stopped.byItself (q .0) (q .1) (answer-is ∙ rw e refl) (stays-put (stopped ended k) (rw e refl))

@@ -148,5 +148,5 @@ module _ (image : List ℕ) where
         put-here (restarted k) (thread (p .start) (p .start) 0 0 []) (restart-sound h bs t k (b .sound t l) r) (restart-same k p (b .same t l) r) started
     turned End m w =
         put-here (stopped ended k) (off p) (stop-sound h bs t k (b .sound t l) r ended (λ e. omega arith)) (stop-same k p (b .same t l) r ended (λ e. omega arith)) started
-    turned (Halt n) m w =
+    turned (Halt q) m w =
         put-here (stopped halted k) (off p) (stop-sound h bs t k (b .sound t l) r halted (λ e. omega arith)) (stop-same k p (b .same t l) r halted (λ e. omega arith)) started

@@ -40,7 +40,7 @@ isOn Return = false
 isOn (Start u a) = false
 isOn Restart = false
 isOn End = false
-isOn (Halt n) = false
+isOn (Halt q) = false
 
 pub passes-exactly : (time : ℕ) (g : Given) → (g .time ≡ 0 → ⊥)
     → (waits time g ≡ GoOn) ↔ (1000 * g .time ≤ (g .turns + 1) * cycleOf (g .model))

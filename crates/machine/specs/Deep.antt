@@ -13,4 +13,4 @@ Deep depth (Jump a) = Unit {0}
 Deep depth (Start u a) = Unit {0}
 Deep depth Restart = Unit {0}
 Deep depth End = Unit {0}
-Deep depth (Halt n) = Unit {0}
+Deep depth (Halt q) = Unit {0}

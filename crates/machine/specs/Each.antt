@@ -19,8 +19,10 @@ use Rattle.state.specs.declared.Values.{Values}
 use Rattle.state.specs.declared.State.{State}
 use Rattle.machine.specs.Given.{Inputs}
 use Rattle.state.specs.Wait.{mostTime}
-use Rattle.machine.specs.Effect.{variable, within, zeroDivisor, outOfRange}
+use Rattle.machine.specs.Effect.{variable, within}
 use Rattle.machine.specs.Engine.{step, pointOf, noted, stopped}
+use Rattle.machine.specs.declared.Cause.{Cause}
+use Rattle.machine.specs.declared.Cause.the-variants.{ZeroDivisor, BadContent}
 use Rattle.machine.specs.declared.Motion.the-variants.{None}
 use Rattle.machine.specs.declared.Answer.{Answer}
 use Rattle.machine.specs.declared.Answer.the-variants.{Done, NoTask, Inputs as BadInputs, NotRunning, Differs, Halted}
@@ -36,7 +38,7 @@ executed (NoTask t) = false
 executed (BadInputs n) = false
 executed NotRunning = false
 executed (Differs p) = false
-executed (Halted n p) = false
+executed (Halted q p) = false
 
 -- ---- part 4: returns
 
@@ -78,18 +80,18 @@ pub data Behind : List ℕ → ℕ → Type 0 where
 
 -- 19 or 20, of a command c that task t executes: 8D, and the divisor variable holds 0; 31 to 33, and the variable is out of the parameter's
 -- range; 5A at its first step (no wait is pending), and the variable is out of the range of times
-pub data Reason (c : Command) (v : Values) (time : ℕ) : ℕ → Type 0 where
-  divisor : c .code ≡ hex 8 13 → variable v (c .z) ≡ pos 0 → Reason c v time zeroDivisor
-  speed : c .code ≡ hex 3 1 → within 1 mostSpeed (variable v (c .x)) ≡ false → Reason c v time outOfRange
-  acceleration : c .code ≡ hex 3 2 → within 1 mostRamp (variable v (c .x)) ≡ false → Reason c v time outOfRange
-  deceleration : c .code ≡ hex 3 3 → within 1 mostRamp (variable v (c .x)) ≡ false → Reason c v time outOfRange
-  waiting : c .code ≡ hex 5 10 → time ≡ 0 → within 0 mostTime (variable v (c .x)) ≡ false → Reason c v time outOfRange
+pub data Reason (c : Command) (v : Values) (time : ℕ) : Cause → Type 0 where
+  divisor : c .code ≡ hex 8 13 → variable v (c .z) ≡ pos 0 → Reason c v time ZeroDivisor
+  speed : c .code ≡ hex 3 1 → within 1 mostSpeed (variable v (c .x)) ≡ false → Reason c v time BadContent
+  acceleration : c .code ≡ hex 3 2 → within 1 mostRamp (variable v (c .x)) ≡ false → Reason c v time BadContent
+  deceleration : c .code ≡ hex 3 3 → within 1 mostRamp (variable v (c .x)) ≡ false → Reason c v time BadContent
+  waiting : c .code ≡ hex 5 10 → time ≡ 0 → within 0 mostTime (variable v (c .x)) ≡ false → Reason c v time BadContent
 
 -- the step's task stopped: it halted by 19 or 20 at its point, keeping block, start and call stack, with no value changed but that BIAS's start level
 -- is noted, and no motion asked for; or it ended by a 51 of its own mode, keeping the same
 pub data Stopped (image : List ℕ) (s : State) (x : Inputs) : Type 0 where
-  byRefusal : (n : ℕ) → Reason (commandOf image s x) (s .values) (taskAt s (x .task) .time) n
-      → step image s x .answer ≡ Halted n (pointOf (x .task) (taskAt s (x .task))) → step image s x .state .values ≡ noted (x .task) (x .start) (s .values)
+  byRefusal : (q : Cause) → Reason (commandOf image s x) (s .values) (taskAt s (x .task) .time) q
+      → step image s x .answer ≡ Halted q (pointOf (x .task) (taskAt s (x .task))) → step image s x .state .values ≡ noted (x .task) (x .start) (s .values)
       → taskAt (step image s x .state) (x .task) ≡ stopped halted (taskAt s (x .task)) → step image s x .motion ≡ None → Stopped image s x
   byItself : commandOf image s x .code ≡ hex 5 1 → commandOf image s x .x ≡ x .task + 1 → step image s x .answer ≡ Done
       → taskAt (step image s x .state) (x .task) ≡ stopped ended (taskAt s (x .task)) → Stopped image s x

@@ -26,16 +26,11 @@ use Rattle.state.specs.declared.Values.{Values}
 use Rattle.machine.specs.Given.{Given, inputAt}
 use Rattle.machine.specs.declared.Motion.{Motion}
 use Rattle.machine.specs.declared.Motion.the-variants.{None, MoveTo, MoveBy, Forward, Backward, Stop}
+use Rattle.machine.specs.declared.Cause.{Cause}
+use Rattle.machine.specs.declared.Cause.the-variants.{ZeroDivisor, BadContent}
 use Rattle.machine.specs.declared.Outcome.{Outcome}
 use Rattle.machine.specs.declared.Outcome.the-variants.{GoOn, Stay, Jump, Call, Return, Start, Restart, End, Halt}
 use Rattle.machine.specs.declared.Effect.{Effect}
-
--- the refusals that halt a task
-abbrev pub zeroDivisor : ℕ
-zeroDivisor = 19
-
-abbrev pub outOfRange : ℕ
-outOfRange = 20
 
 -- ---- forms of effects
 
@@ -55,8 +50,8 @@ abbrev pub jumpIf : Bool → ℕ → Values → Effect
 jumpIf t a v = flows v (cond t (Jump a) GoOn)
 
 -- a halt changes nothing
-abbrev pub halts : ℕ → Values → Effect
-halts n v = flows v (Halt n)
+abbrev pub halts : Cause → Values → Effect
+halts q v = flows v (Halt q)
 
 -- what a command does
 abbrev pub Deed : Type 0
@@ -111,7 +106,7 @@ waits time g =
 -- a parameter from a variable: 20 unless it is in range
 abbrev pub parameter : ℕ → (ℕ → Axis → Axis) → Deed
 parameter most put g c v =
-    cond (within 1 most (variable v (c .x))) (sets (withAxis (put (natural (variable v (c .x))) (v .axis)) v)) (halts outOfRange v)
+    cond (within 1 most (variable v (c .x))) (sets (withAxis (put (natural (variable v (c .x))) (v .axis)) v)) (halts BadContent v)
 
 -- a variable is set
 abbrev pub assigns : Command → ℤ → Values → Effect
@@ -120,7 +115,7 @@ assigns c z v = sets (withVariable (c .x) z v)
 -- a quotient; a zero divisor is 19
 unfoldable pub divides : Command → Quotient → Values → Effect
 divides c (Value z) v = assigns c z v
-divides c ByZero v = halts zeroDivisor v
+divides c ByZero v = halts ZeroDivisor v
 
 -- n flags from flag k on as a number, the first one lowest
 unfoldable pub flagNumber : List ℕ → ℕ → ℕ → ℕ
@@ -135,7 +130,7 @@ timeOf model n = cond (ltb model type637Plus) (n - n % 2) n
 abbrev pub waitsVariable : Deed
 waitsVariable g c v =
     cond (isSet (g .time) || within 0 mostTime (variable v (c .x)))
-    (flows v (waits (timeOf (g .model) (natural (variable v (c .x)))) g)) (halts outOfRange v)
+    (flows v (waits (timeOf (g .model) (natural (variable v (c .x)))) g)) (halts BadContent v)
 
 -- ---- the rows
 

@@ -68,7 +68,7 @@ tasksAfter first t k Return l = set l t (returnFrom k)
 tasksAfter first t k (Start u a) l = set (set l t (goTo (k .block + 1) k)) u (startAnew first u a)
 tasksAfter first t k Restart l = set l t (restarted k)
 tasksAfter first t k End l = set l t (stopped ended k)
-tasksAfter first t k (Halt n) l = set l t (stopped halted k)
+tasksAfter first t k (Halt q) l = set l t (stopped halted k)
 
 -- ---- a step
 
@@ -90,7 +90,7 @@ answerTo Return p = Done
 answerTo (Start u a) p = Done
 answerTo Restart p = Done
 answerTo End p = Done
-answerTo (Halt n) p = Halted n p
+answerTo (Halt q) p = Halted q p
 
 -- a BIAS step notes the start input's level
 abbrev pub noted : ℕ → ℕ → Values → Values

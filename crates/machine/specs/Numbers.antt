@@ -3,10 +3,17 @@
 use Prim.Native.Nat.{ℕ}
 use lib.IntN.{pos}
 use Rattle.state.specs.declared.Axis.{Axis}
+use Rattle.machine.specs.declared.Cause.{Cause}
+use Rattle.machine.specs.declared.Cause.the-variants.{ZeroDivisor, BadContent}
 use Rattle.machine.specs.declared.Motion.{Motion}
 use Rattle.machine.specs.declared.Motion.the-variants.{None, MoveTo, MoveBy, Forward, Backward, Stop}
 use Rattle.machine.specs.declared.Answer.{Answer}
 use Rattle.machine.specs.declared.Answer.the-variants.{Done, NoTask, Inputs as BadInputs, NotRunning, Differs, Halted}
+
+-- the refusals that halt a task
+abbrev pub causeNumber : Cause → ℕ
+causeNumber ZeroDivisor = 19
+causeNumber BadContent = 20
 
 abbrev pub answerNumber : Answer → ℕ
 answerNumber Done = 0
@@ -14,7 +21,7 @@ answerNumber (NoTask t) = 15
 answerNumber (BadInputs n) = 15
 answerNumber NotRunning = 18
 answerNumber (Differs p) = 17
-answerNumber (Halted n p) = n
+answerNumber (Halted q p) = causeNumber q
 
 -- of 15 the task number or the inputs' length; of 17, 19 and 20 the block before the step
 abbrev pub answerPlace : Answer → ℕ
@@ -23,7 +30,7 @@ answerPlace (NoTask t) = t
 answerPlace (BadInputs n) = n
 answerPlace NotRunning = 0
 answerPlace (Differs p) = p .block
-answerPlace (Halted n p) = p .block
+answerPlace (Halted q p) = p .block
 
 abbrev pub answerTask : Answer → ℕ
 answerTask Done = 0
@@ -31,7 +38,7 @@ answerTask (NoTask t) = 0
 answerTask (BadInputs n) = 0
 answerTask NotRunning = 0
 answerTask (Differs p) = p .task
-answerTask (Halted n p) = p .task
+answerTask (Halted q p) = p .task
 
 abbrev pub answerDepth : Answer → ℕ
 answerDepth Done = 0
@@ -39,7 +46,7 @@ answerDepth (NoTask t) = 0
 answerDepth (BadInputs n) = 0
 answerDepth NotRunning = 0
 answerDepth (Differs p) = p .depth
-answerDepth (Halted n p) = p .depth
+answerDepth (Halted q p) = p .depth
 
 -- ---- requests
 

@@ -86,7 +86,7 @@ follows t k Return l = put t (back k (k .returns)) l
 follows t k (Start u a) l = put u (anew u a l) (put t (goes (k .block + 1) k) l)
 follows t k Restart l = put t (thread (k .start) (k .start) 0 0 []) l
 follows t k End l = put t (off k) l
-follows t k (Halt n) l = put t (off k) l
+follows t k (Halt q) l = put t (off k) l
 
 -- ---- a step
 
@@ -107,7 +107,7 @@ replies Return t k = Done
 replies (Start u a) t k = Done
 replies Restart t k = Done
 replies End t k = Done
-replies (Halt n) t k = Halted n (record { task = t; block = k .block; depth = length (k .returns) })
+replies (Halt q) t k = Halted q (record { task = t; block = k .block; depth = length (k .returns) })
 
 -- BIAS's steps note the start input's level
 abbrev pub keeps : ℕ → ℕ → Values → Values
@@ -138,7 +138,7 @@ lost (Call a) l = false
 lost (Start u a) l = false
 lost Restart l = false
 lost End l = false
-lost (Halt n) l = false
+lost (Halt q) l = false
 
 -- a return with nothing to return to stands still
 unfoldable pub tries : Machine → Inputs → Thread → Effect → Did

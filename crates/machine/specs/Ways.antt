@@ -3,17 +3,18 @@
 use Prim.Native.Nat.{ℕ}
 use Rattle.flow.specs.declared.Flow.{Flow}
 use Rattle.flow.specs.declared.Flow.the-variants as flow
+use Rattle.machine.specs.declared.Cause.{Cause}
 use Rattle.machine.specs.declared.Outcome.{Outcome}
 use Rattle.machine.specs.declared.Outcome.the-variants.{GoOn, Stay, Jump, Call, Return, Start, Restart, End, Halt}
 
 pub data May : Flow → Outcome → Type 0 where
   -- on, or a halt
   on : May flow.Next GoOn
-  halt : {n : ℕ} → May flow.Next (Halt n)
+  halt : {q : Cause} → May flow.Next (Halt q)
   -- the same, or staying
   over : May flow.Wait GoOn
   stay : {time turns : ℕ} → May flow.Wait (Stay time turns)
-  refuse : {n : ℕ} → May flow.Wait (Halt n)
+  refuse : {q : Cause} → May flow.Wait (Halt q)
   -- to the named block
   jump : {a : ℕ} → May (flow.Jump a) (Jump a)
   -- there, or on

@@ -16,6 +16,14 @@ pub enum Motion {
     Stop(u8, u16),
 }
 
+// Why a command halts its task.
+pub enum Cause {
+    // 19: the divisor is zero
+    ZeroDivisor,
+    // 20: the variable's content is outside the manual's range
+    BadContent,
+}
+
 // How the task that executes a command goes on.
 pub enum Outcome {
     // with the next block
@@ -35,7 +43,7 @@ pub enum Outcome {
     // not: it has ended itself
     End,
     // not: 19 or 20 halts it
-    Halt(u32),
+    Halt(Cause),
 }
 
 // What a command does: to the values, to the axis by a request, and to its task.
@@ -57,7 +65,7 @@ pub enum Answer {
     // 17 at this point
     Differs(Point),
     // 19 or 20 at this point
-    Halted(u32, Point),
+    Halted(Cause, Point),
 }
 
 // What a command may read besides the values and the input levels: the drive, the start input and "position reached" as levels (0 or 1), and its

@@ -121,6 +121,6 @@ pub fn after(first: u16, t: u8, k: Task, outcome: Outcome, tasks: [Task; 3]) -> 
         }
         Outcome::Restart => put(tasks, t, restarted(k)),
         Outcome::End => put(tasks, t, stopped(state::ENDED, k)),
-        Outcome::Halt(n) => put(tasks, t, stopped(state::HALTED, k)),
+        Outcome::Halt(cause) => put(tasks, t, stopped(state::HALTED, k)),
     }
 }

@@ -1,5 +1,6 @@
 // Commands of variables (80 to 86, 88 to 8D): one function for each, and the one that finds it. Sources are read before the target is written.
 use arith::Quotient;
+use machine::Cause;
 use machine::Effect;
 use machine::Moment;
 use machine::Outcome;
@@ -85,7 +86,7 @@ fn divide(c: Command, q: Quotient, v: Values) -> Effect
 {
     match q {
         Quotient::Value(z) => effect::assigns(c, z, v),
-        Quotient::ByZero => effect::halts(effect::ZERO_DIVISOR, v),
+        Quotient::ByZero => effect::halts(Cause::ZeroDivisor, v),
     }
 }
 

@@ -7,7 +7,8 @@ use Rattle.arith.proofs.Range.{got}
 use Rattle.command.specs.Judged.{mostRamp}
 use Rattle.state.specs.State.{withAxis, withAcceleration}
 use Rattle.state.specs.declared.Axis.{Axis}
-use Rattle.machine.specs.Effect.{sets, halts, variable, within, natural, outOfRange}
+use Rattle.machine.specs.Effect.{sets, halts, variable, within, natural}
+use Rattle.machine.specs.declared.Cause.the-variants.{BadContent}
 use Rattle.axis.proofs.load_acceleration.Statement.{statement}
 use Rattle.axis.proofs.load_acceleration.Tie as tie
 
@@ -30,12 +31,12 @@ load-acceleration-spec =
     ∙ ap (λ (k : Axis). withAxis k (a .v))
     (c .before .before .with-acceleration .ensures
     ∙ ap (λ (n : ℕ). withAcceleration n (a .v .axis)) (c .before .before .before .natural .ensures ∙ ap natural (got w32 (x .ok) (x .ensures)))))
-    ∙ ap (λ (t : Bool). cond t (sets (withAxis (withAcceleration (natural (variable (a .v) (a .c .x))) (a .v .axis)) (a .v))) (halts outOfRange (a .v)))
+    ∙ ap (λ (t : Bool). cond t (sets (withAxis (withAcceleration (natural (variable (a .v) (a .c .x))) (a .v .axis)) (a .v))) (halts BadContent (a .v)))
     (sym (c .before .before .before .before .before .if1 .taken) ∙ c .before .before .before .before .before .before .within .ensures ∙ ap (within 1 mostRamp) (got w32 (x .ok) (x .ensures))))
     (λ c κs. tt)
     (λ c.
     let a = c .before .before .before .before .args in
     let x = c .before .before .before .variable in
     c .halts .ensures
-    ∙ ap (λ (t : Bool). cond t (sets (withAxis (withAcceleration (natural (variable (a .v) (a .c .x))) (a .v .axis)) (a .v))) (halts outOfRange (a .v)))
+    ∙ ap (λ (t : Bool). cond t (sets (withAxis (withAcceleration (natural (variable (a .v) (a .c .x))) (a .v .axis)) (a .v))) (halts BadContent (a .v)))
     (sym (c .before .if1 .left) ∙ c .before .before .within .ensures ∙ ap (within 1 mostRamp) (got w32 (x .ok) (x .ensures)))))

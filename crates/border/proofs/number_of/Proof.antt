@@ -1,6 +1,6 @@
 -- `border::number_of` meets its contract, arm by arm. Assumes nothing.
 use borrow.Author.Needs.{needs}
-use mathlib.Core.Path.{sym, ap}
+use mathlib.Core.Path.{sym, ap, _∙_}
 use Rattle.machine.specs.Numbers.{answerNumber}
 use Rattle.border.proofs.number_of.Statement.{statement}
 use Rattle.border.proofs.number_of.Tie as tie
@@ -23,6 +23,9 @@ enum-told-5 c = search needs
 enum-known-a : tie.Need-enum-known-a
 enum-known-a c = search needs
 
+cause-number-requires : tie.Need-cause-number-requires
+cause-number-requires c κs = tt
+
 returns : tie.Need-returns
 returns c = sym (ap answerNumber (c .enum-told .given .1))
 
@@ -39,7 +42,7 @@ returns-5 : tie.Need-returns-5
 returns-5 c = sym (ap answerNumber (c .enum-told5 .given .1))
 
 returns-6 : tie.Need-returns-6
-returns-6 c = sym (ap answerNumber (c .before .a .given .1))
+returns-6 c = c .cause-number .ensures ∙ sym (ap answerNumber (c .before .before .a .given .1))
 
 pub number-of-spec : {M : Type 1} → statement M
 number-of-spec =
@@ -51,6 +54,7 @@ number-of-spec =
     enum-told-4
     enum-told-5
     enum-known-a
+    cause-number-requires
     returns
     returns-2
     returns-3

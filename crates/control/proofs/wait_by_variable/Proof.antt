@@ -7,7 +7,8 @@ use mir.Syntax.{w32}
 use Rattle.arith.proofs.Range.{got}
 use Rattle.state.specs.Wait.{mostTime}
 use Rattle.machine.specs.Given.{givenAt}
-use Rattle.machine.specs.Effect.{flows, halts, variable, within, natural, isSet, waits, timeOf, outOfRange}
+use Rattle.machine.specs.Effect.{flows, halts, variable, within, natural, isSet, waits, timeOf}
+use Rattle.machine.specs.declared.Cause.the-variants.{BadContent}
 use Rattle.control.proofs.wait_by_variable.Statement.{statement}
 use Rattle.control.proofs.wait_by_variable.Tie as tie
 
@@ -30,7 +31,7 @@ wait-by-variable-spec =
     ∙ ap (flows (a .v))
     (c .before .waits .ensures
     ∙ ap (λ (n : ℕ). waits n g) (c .before .before .time-of .ensures ∙ ap (timeOf (a .m .drive .model)) (c .before .before .before .natural .ensures ∙ ap natural e)))
-    ∙ ap (λ (t : Bool). cond t (flows (a .v) (waits (timeOf (a .m .drive .model) (natural (variable (a .v) (a .c .x)))) g)) (halts outOfRange (a .v)))
+    ∙ ap (λ (t : Bool). cond t (flows (a .v) (waits (timeOf (a .m .drive .model) (natural (variable (a .v) (a .c .x)))) g)) (halts BadContent (a .v)))
     (sym (c .before .before .before .before .if1 .taken) ∙ ap (λ (t : Bool). isSet (a .m .time) || t) (c .before .before .before .before .before .is-time .ensures ∙ ap (within 0 mostTime) e)))
     (λ c κs. tt)
     (λ c.
@@ -39,5 +40,5 @@ wait-by-variable-spec =
     let x = c .before .before .before .before .variable in
     let e = got w32 (x .ok) (x .ensures) in
     c .halts .ensures
-    ∙ ap (λ (t : Bool). cond t (flows (a .v) (waits (timeOf (a .m .drive .model) (natural (variable (a .v) (a .c .x)))) g)) (halts outOfRange (a .v)))
+    ∙ ap (λ (t : Bool). cond t (flows (a .v) (waits (timeOf (a .m .drive .model) (natural (variable (a .v) (a .c .x)))) g)) (halts BadContent (a .v)))
     (sym (c .before .if1 .left) ∙ ap (λ (t : Bool). isSet (a .m .time) || t) (c .before .before .is-time .ensures ∙ ap (within 0 mostTime) e))))

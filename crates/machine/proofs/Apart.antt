@@ -1,0 +1,117 @@
+-- What the statements of specs/Each.antt, Alike.antt and Run.antt give when they are taken apart: one way more, or one thing less, in any of them is
+-- noticed here. Assumes nothing.
+use Prim.Native.Nat.{ℕ, _+_, _<_}
+use mathlib.Core.Path.{_≡_, refl, sym, ap, _∙_}
+use mathlib.Core.Bool.{Bool, true, false, _&&_}
+use mathlib.Core.Logic.{_⊎_, inl, inr, ⊎-elim}
+use mathlib.Core.List.{List, [], _∷_, map}
+use native.Mathlib.Omega.{arith}
+use lib.Dec.{eqb}
+use lib.ListN.{length, getD}
+use borrow.Author.Tests.{eqb-true, eq-eqb}
+use Rattle.image.specs.Scan.{headerOf, blocksOf}
+use Rattle.number.proofs.Choice.{clash}
+use Rattle.rows.specs.Rows.{hex}
+use Rattle.fault.specs.Fault.{faultNumber}
+use Rattle.fault.specs.declared.Fault.{Fault}
+use Rattle.flow.specs.Flow.{taskCount}
+use Rattle.walk.specs.Walk.{starts}
+use Rattle.state.specs.State.{runs, taskAt}
+use Rattle.state.specs.declared.Task.{Task}
+use Rattle.state.specs.declared.Values.{Values}
+use Rattle.state.specs.declared.State.{State}
+use Rattle.machine.specs.Given.{Inputs}
+use Rattle.machine.specs.Engine.{step, pointOf, blockFits}
+use Rattle.machine.specs.Reference.{Thread, Machine, Did, thread, idle}
+use Rattle.machine.specs.Alike.{returnsOf, SameTask, SameValues, Alike}
+use Rattle.machine.specs.Run.{SameHanded, Permitted}
+use Rattle.machine.specs.Each.{Calls, callsAfter, commandOf, executed, Behind, Reason, Stopped, Step, EveryStep}
+use Rattle.machine.specs.declared.Cause.{Cause}
+use Rattle.machine.specs.declared.Motion.{Motion}
+use Rattle.machine.specs.declared.Answer.{Answer}
+use Rattle.machine.specs.declared.Answer.the-variants.{Done, Halted}
+use Rattle.machine.specs.declared.Out.{Out}
+
+-- ---- part 1
+
+pub answers-are : {os : List Out} {ds : List Did} → SameHanded os ds → map (λ (o : Out). o .answer) os ≡ map (λ (d : Did). d .answer) ds
+answers-are SameHanded.none = refl
+answers-are (SameHanded.more a m h) = λ ι. a ι ∷ answers-are h ι
+
+pub motions-are : {os : List Out} {ds : List Did} → SameHanded os ds → map (λ (o : Out). o .motion) os ≡ map (λ (d : Did). d .motion) ds
+motions-are SameHanded.none = refl
+motions-are (SameHanded.more a m h) = λ ι. m ι ∷ motions-are h ι
+
+-- ---- part 2: alike is equal, as far as document 01 compares
+
+pub values-are : (v w : Values) → SameValues v w → v ≡ w
+values-are v w e = λ ι. record {
+  variables = e .variables ι;
+  flags = e .flags ι;
+  outputs = e .outputs ι;
+  axis = record { position = e .position ι; speed = e .speed ι; acceleration = e .acceleration ι; deceleration = e .deceleration ι };
+  mark = e .mark ι;
+  notes = record { level = e .level ι };
+}
+
+-- a running task, as the reference machine would have it
+abbrev pub threadFor : Task → Thread
+threadFor k = thread (k .block) (k .start) (k .time) (k .turns) (returnsOf (k .stack) (k .depth))
+
+pub thread-is : (k : Task) (p : Thread) → SameTask k p → k .status ≡ runs → p ≡ threadFor k
+thread-is k p e r = λ ι. record {
+  runs = (sym (e .running) ∙ eq-eqb (k .status) runs r) ι;
+  block = sym (e .block r) ι;
+  start = sym (e .start r) ι;
+  time = sym (e .time r) ι;
+  turns = sym (e .turns r) ι;
+  returns = sym (e .returns r) ι;
+}
+
+pub both-run : (k : Task) (p : Thread) → SameTask k p → p .runs ≡ true → k .status ≡ runs
+both-run k p e r = eqb-true (k .status) runs (e .running ∙ r)
+
+pub alike-is : (s : State) (m : Machine) → Alike s m
+    → (s .values ≡ m .values) × ((t : ℕ) → t < taskCount → taskAt s t .status ≡ runs → getD (m .threads) t idle ≡ threadFor (taskAt s t))
+alike-is s m e = (values-are (s .values) (m .values) (e .values), λ t l r. thread-is (taskAt s t) (getD (m .threads) t idle) (e .tasks t l) r)
+
+-- ---- part 3: what is permitted passes the engine's own tests of a block
+
+pub permitted-fits : (image : List ℕ) (t : ℕ) (k : Task) → Permitted image t k → blockFits (headerOf image .header) (blocksOf image) t k ≡ true
+permitted-fits image t k p =
+    let e = ap (λ (f : Fault). eqb (faultNumber f) 0) (p .fine) in
+    λ ι. eqb (p .sound ι) 0 && e ι
+
+-- ---- parts 4 to 6
+
+pub behind-is : (b c : ℕ) (bs : List ℕ) → Behind (b ∷ bs) c → c ≡ b + 1
+behind-is b _ bs Behind.latest = refl
+
+-- there is a latest call
+pub behind-some : {l : List ℕ} {c : ℕ} → Behind l c → l ≡ [] → ⊥
+behind-some Behind.latest e = let n = ap length e in omega arith
+
+-- why a task stopped, and what was answered
+pub how : {image : List ℕ} {s : State} {x : Inputs} → Stopped image s x
+    → ((q : Cause) × (Reason (commandOf image s x) (s .values) (taskAt s (x .task) .time) q × (step image s x .answer ≡ Halted q (pointOf (x .task) (taskAt s (x .task))))))
+    ⊎ ((commandOf image s x .code ≡ hex 5 1) × ((commandOf image s x .x ≡ x .task + 1) × (step image s x .answer ≡ Done)))
+how (Stopped.byRefusal q r a v k m) = inl (q, (r, a))
+how (Stopped.byItself c m a k) = inr (c, (m, a))
+
+module _ {image : List ℕ} {calls : Calls} {s : State} {x : Inputs} (e : Step image calls s x) where
+  -- a 53 comes to the block behind the call that is the latest
+  pub returns-to : (b : ℕ) (bs : List ℕ) → calls (x .task) ≡ b ∷ bs → executed (step image s x .answer) ≡ true → commandOf image s x .code ≡ hex 5 3
+      → taskAt (step image s x .state) (x .task) .block ≡ b + 1
+  returns-to b bs q a c = behind-is b _ bs (rw q at (e .returns a c))
+
+  -- a task that 54, 57 or 90 does not name stays as it is
+  pub stays-put : (t : ℕ) → t < taskCount → (t ≡ x .task → ⊥) → starts (commandOf image s x .code) t ≡ false → taskAt (step image s x .state) t ≡ taskAt s t
+  stays-put t l n f = ⊎-elim (λ q. q) (λ q. clash (sym (q .1) ∙ f)) (e .others t l n)
+
+  -- and runs on
+  pub runs-on : (t : ℕ) → t < taskCount → (t ≡ x .task → ⊥) → taskAt s t .status ≡ runs → (taskAt (step image s x .state) t .status ≡ runs → ⊥) → ⊥
+  runs-on t l n r d = n (e .stops t l r d .0)
+
+pub first-step : {image : List ℕ} {calls : Calls} {s : State} {x : Inputs} {xs : List Inputs} → EveryStep image calls s (x ∷ xs)
+    → Step image calls s x × EveryStep image (callsAfter image s x calls) (step image s x .state) xs
+first-step (EveryStep.more p q) = (p, q)

@@ -1,0 +1,31 @@
+-- A command halts its task exactly for its reason: a reason computes its row to a halt, and by the law of every row each halt has a reason.
+-- Assumes nothing.
+use Prim.Native.Nat.{ℕ}
+use mathlib.Core.Path.{_≡_, subst}
+use mathlib.Core.Logic.{_↔_}
+use Rattle.rows.specs.Rows.{rowOf}
+use Rattle.arith.specs.Ops.{quotient}
+use Rattle.operands.specs.declared.Command.{Command}
+use Rattle.state.specs.declared.Values.{Values}
+use Rattle.machine.specs.Given.{Given}
+use Rattle.machine.specs.Effect.{divides, deedIn, effectOf}
+use Rattle.machine.specs.Each.{Reason}
+use Rattle.machine.specs.declared.Cause.{Cause}
+use Rattle.machine.specs.declared.Outcome.the-variants.{Halt}
+use Rattle.machine.proofs.Laws.{Halting, Ranged}
+use Rattle.machine.proofs.RowLaw.{every-law}
+
+module _ (g : Given) (c : Command) (v : Values) where
+  pub halts-for : {q : Cause} → Reason c v (g .time) q → effectOf g c v .outcome ≡ Halt q
+  unfolding effectOf deedIn divides quotient
+  halts-for (Reason.divisor e z) = rw (e, z)
+  halts-for (Reason.speed e r) = rw (e, r)
+  halts-for (Reason.acceleration e r) = rw (e, r)
+  halts-for (Reason.deceleration e r) = rw (e, r)
+  halts-for (Reason.waiting e t r) = rw (e, t, r)
+
+  -- of a command that is carried, with operands in range
+  pub halts-exactly : (rowOf (c .code) .layout ≡ 0 → ⊥) → (count : ℕ) → Ranged count c → (q : Cause)
+      → (effectOf g c v .outcome ≡ Halt q) ↔ Reason c v (g .time) q
+  halts-exactly carried count ranged q =
+      (λ e. subst (Halting c v (g .time)) e (every-law g c v carried .outcome .halt count ranged), λ r. halts-for r)
