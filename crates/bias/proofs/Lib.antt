@@ -1,6 +1,1 @@
 pub mod Ways
-pub mod Every
-pub mod Loads
-pub mod Runs
-pub mod Demand
-pub mod Apart

@@ -1,5 +1,2 @@
 pub mod Load
 pub mod Step
-pub mod Every
-pub mod Run
-pub mod Theorem

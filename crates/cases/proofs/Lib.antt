@@ -1,2 +1,3 @@
 pub mod Right
+pub mod Named
 pub mod Example

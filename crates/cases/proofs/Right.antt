@@ -26,15 +26,15 @@ use Rattle.walk.specs.Verdict as verdict
 use Rattle.state.specs.State as state
 use Rattle.machine.specs.Effect as effect
 use Rattle.machine.specs.Engine as engine
-use Rattle.machine.specs.Run.{outs}
+use Rattle.machine.specs.Run.{outs, stateAfter}
 use Rattle.walk.proofs.Fast.{closureFast, walksFast, blocksFast, readFast, verdictFast, fast-is}
-use Rattle.cases.specs.Table.{Question, Answer, answerOf, waitOf, ask, Row, table}
+use Rattle.cases.specs.Table.{Question, Answer, answerOf, standings, ask, Row, table}
 
 -- the answer by the fast twin
 abbrev quick : Question → Answer
 quick (Question.verdict bytes) = answerOf (verdictFast bytes marksLength)
 quick (Question.number bytes) = ask (Question.number bytes)
-quick (Question.waited model time turns) = ask (Question.waited model time turns)
+quick (Question.passes bytes k) = ask (Question.passes bytes k)
 quick (Question.divided a b) = ask (Question.divided a b)
 quick (Question.dividedBy a b) = ask (Question.dividedBy a b)
 quick (Question.requested bytes starts) = ask (Question.requested bytes starts)
@@ -42,7 +42,7 @@ quick (Question.requested bytes starts) = ask (Question.requested bytes starts)
 quick-is : (q : Question) → quick q ≡ ask q
 quick-is (Question.verdict bytes) = ap answerOf (fast-is bytes marksLength)
 quick-is (Question.number bytes) = refl
-quick-is (Question.waited model time turns) = refl
+quick-is (Question.passes bytes k) = refl
 quick-is (Question.divided a b) = refl
 quick-is (Question.dividedBy a b) = refl
 quick-is (Question.requested bytes starts) = refl
@@ -76,7 +76,7 @@ unfolding table
     state.freshValues state.fresh
     effect.divides effect.deedIn effect.effectOf
     engine.performed engine.fits engine.taskStep engine.step
-    outs waitOf
+    outs stateAfter standings
 computed = refl
 
 -- a row of a list whose answers are right

@@ -25,6 +25,10 @@ bytesOf (b ∷ bs) = b ++ bytesOf bs
 abbrev pub header : List ℕ → List ℕ
 header rest = hex 0 1 ∷ hex 0 2 ∷ hex 0 0 ∷ hex 0 0 ∷ rest
 
+-- the same for a type of drive, program start 0
+abbrev pub imageOf : ℕ → List (List ℕ) → List ℕ
+imageOf model blocks = hex 0 1 ∷ model ∷ hex 0 0 ∷ hex 0 0 ∷ 0 ∷ length blocks ∷ bytesOf blocks
+
 -- an image that begins at a block
 abbrev pub imageAt : ℕ → List (List ℕ) → List ℕ
 imageAt start blocks = header (start ∷ length blocks ∷ bytesOf blocks)

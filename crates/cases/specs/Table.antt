@@ -1,6 +1,6 @@
 -- Document 01's cases as one table of questions and answers ("Examples and faults to shut out"). The questions are put to the definitions that
 -- stand in the contracts. Assumes nothing.
-use Prim.Native.Nat.{ℕ, zero, suc, _+_}
+use Prim.Native.Nat.{ℕ}
 use mathlib.Core.List.{List, [], _∷_, map}
 use lib.ListN.{replicate}
 use lib.IntN.{ℤ, pos, negsuc}
@@ -8,22 +8,46 @@ use Rattle.rows.specs.Rows.{hex}
 use Rattle.number.specs.Number.{numberAt}
 use Rattle.number.specs.declared.Number.{Number}
 use Rattle.number.specs.declared.Number.the-variants.{Value, EndsEarly, NotShortest}
+use Rattle.outcome.specs.Outcome.{numberOf}
+use Rattle.outcome.specs.declared.Outcome.the-variants as outcome
 use Rattle.operands.specs.Operands.{command}
 use Rattle.operands.specs.declared.Command.{Command}
 use Rattle.walk.specs.Index.{marksLength}
 use Rattle.walk.specs.Verdict.{verdictOf, verdictNumber, verdictPlace, verdictTask, verdictDepth}
 use Rattle.walk.specs.declared.Verdict.{Verdict}
-use Rattle.state.specs.State.{cells, startAxis, freshValues, withVariable}
+use Rattle.flow.specs.Flow.{bias}
+use Rattle.state.specs.State.{cells, startAxis, freshValues, withVariable, taskAt}
+use Rattle.state.specs.declared.Task.{Task}
+use Rattle.state.specs.declared.State.{State}
 use Rattle.machine.specs.Given.{Given, Inputs}
 use Rattle.machine.specs.Effect.{effectOf, variable}
+use Rattle.machine.specs.Engine.{step}
 use Rattle.machine.specs.declared.Out.{Out}
-use Rattle.machine.specs.Run.{outs}
+use Rattle.machine.specs.Run.{outs, stateAfter}
 use Rattle.machine.specs.Theorem.{loaded}
 use Rattle.machine.specs.declared.Motion.{Motion}
 use Rattle.machine.specs.declared.Motion.the-variants.{None, MoveTo}
-use Rattle.machine.specs.declared.Outcome.{Outcome}
-use Rattle.machine.specs.declared.Outcome.the-variants.{GoOn, Stay, Jump, Call, Return, Start, Restart, End, Halt}
-use Rattle.cases.specs.Images.{block, plain, toward, header, image, imageAt, blockA, chain}
+use Rattle.cases.specs.Images.{block, plain, toward, header, image, imageOf, imageAt, blockA, chain}
+
+-- ---- names
+
+-- document 01's letter of a row, or what the row is about where it has none
+pub data Name : Type 0 where
+  A : Name
+  B : Name
+  C : Name
+  D : Name
+  E : Name
+  F : Name
+  G : Name
+  H : Name
+  I : Name
+  J : Name
+  K : Name
+  L : Name
+  chainOf : ℕ → Name
+  heldStart : Name
+  startMark : Name
 
 -- ---- questions and answers
 
@@ -32,20 +56,30 @@ pub data Question : Type 0 where
   verdict : List ℕ → Question
   -- the number at place 0 of these bytes
   number : List ℕ → Question
-  -- 59 with an operand, on a type of drive, at its turn k; turn 0 is the step that first meets it
-  waited : ℕ → ℕ → ℕ → Question
+  -- where BIAS stands before and after its step k of an image, the first being step 0
+  passes : List ℕ → ℕ → Question
   -- what 85 makes of a variable and an operand, and 8D of two variables
   divided : ℤ → ℤ → Question
   dividedBy : ℤ → ℤ → Question
   -- the motion requests of BIAS steps of an image, with these levels of the start input
   requested : List ℕ → List ℕ → Question
 
+-- a block, and T and k of the wait that is pending there (0 and 0: none)
+pub record Stand : Type 0 where
+  pub block : ℕ
+  pub time : ℕ
+  pub turns : ℕ
+
+abbrev pub stand : ℕ → ℕ → ℕ → Stand
+stand block time turns = record { block = block; time = time; turns = turns }
+
 pub data Answer : Type 0 where
   -- document 01's number, then byte or block, task and depth; all 0 for an image that is accepted
   refusal : ℕ → ℕ → ℕ → ℕ → Answer
   value : ℕ → Answer
-  noNumber : Answer
-  outcome : Outcome → Answer
+  -- document 01's number
+  noNumber : ℕ → Answer
+  standing : Stand → Stand → Answer
   whole : ℤ → Answer
   motions : List Motion → Answer
 
@@ -57,38 +91,26 @@ answerOf v = refusal (verdictNumber v) (verdictPlace v) (verdictTask v) (verdict
 
 abbrev pub valueOf : Number → Answer
 valueOf (Value v next) = value v
-valueOf EndsEarly = noNumber
-valueOf NotShortest = noNumber
+valueOf EndsEarly = noNumber (numberOf (outcome.EndsEarly 0))
+valueOf NotShortest = noNumber (numberOf (outcome.NotShortest 0))
 
--- what a command of BIAS is given where all inputs are low, with a wait pending
-abbrev pub lowAt : ℕ → ℕ → ℕ → Given
-lowAt model time turns = record { model = model; levels = []; start = 0; reached = 0; time = time; turns = turns }
-
-abbrev pub waitsOn : ℕ → ℕ → ℕ → ℕ → Outcome
-waitsOn model word time turns = effectOf (lowAt model time turns) (command (hex 5 9) 0 0 0 word (pos 0)) freshValues .outcome
-
--- once more, where it stayed
-abbrev pub again : ℕ → ℕ → Outcome → Outcome
-again model word (Stay time turns) = waitsOn model word time turns
-again model word GoOn = GoOn
-again model word (Jump a) = Jump a
-again model word (Call a) = Call a
-again model word Return = Return
-again model word (Start u a) = Start u a
-again model word Restart = Restart
-again model word End = End
-again model word (Halt q) = Halt q
-
-unfoldable pub waitOf : ℕ → ℕ → ℕ → Outcome
-waitOf model word zero = waitsOn model word 0 0
-waitOf model word (suc k) = again model word (waitOf model word k)
+-- what a command of BIAS is given where all inputs are low and no wait is pending
+abbrev pub low : Given
+low = record { model = 2; levels = []; start = 0; reached = 0; time = 0; turns = 0 }
 
 -- variable 0 after a command, where variables 1 and 2 hold these
 abbrev pub resultOf : Command → ℤ → ℤ → ℤ
-resultOf c a b = variable (effectOf (lowAt 2 0 0) c (withVariable 1 a (withVariable 2 b freshValues)) .values) 0
+resultOf c a b = variable (effectOf low c (withVariable 1 a (withVariable 2 b freshValues)) .values) 0
 
 abbrev pub biasStep : ℕ → Inputs
 biasStep start = record { task = 0; levels = replicate cells 0; start = start; reached = 0 }
+
+abbrev pub standAt : Task → Stand
+standAt k = stand (k .block) (k .time) (k .turns)
+
+-- before and after one more step
+unfoldable pub standings : List ℕ → State → Answer
+standings bytes s = standing (standAt (taskAt s bias)) (standAt (taskAt (step bytes s (biasStep 0) .state) bias))
 
 abbrev pub motionsOf : List Out → List Motion
 motionsOf = map (λ (o : Out). o .motion)
@@ -96,7 +118,7 @@ motionsOf = map (λ (o : Out). o .motion)
 abbrev pub ask : Question → Answer
 ask (verdict bytes) = answerOf (verdictOf bytes marksLength)
 ask (number bytes) = valueOf (numberAt bytes 0)
-ask (waited model word turn) = outcome (waitOf model word turn)
+ask (passes bytes k) = standings bytes (stateAfter bytes (loaded bytes) (replicate k (biasStep 0)))
 ask (divided a b) = whole (resultOf (command (hex 8 5) 0 1 0 0 b) a b)
 ask (dividedBy a b) = whole (resultOf (command (hex 8 13) 0 1 2 0 (pos 0)) a b)
 ask (requested bytes starts) = motions (motionsOf (outs bytes (loaded bytes) (map biasStep starts)))
@@ -104,11 +126,12 @@ ask (requested bytes starts) = motions (motionsOf (outs bytes (loaded bytes) (ma
 -- ---- the table
 
 pub record Row : Type 0 where
+  pub name : Name
   pub question : Question
   pub answer : Answer
 
-abbrev pub row : Question → Answer → Row
-row q a = record { question = q; answer = a }
+abbrev pub row : Name → Question → Answer → Row
+row n q a = record { name = n; question = q; answer = a }
 
 -- a move to the stored position, for ever; and one with the start mark set before it
 abbrev pub mover : List ℕ
@@ -117,49 +140,52 @@ mover = image (plain (hex 0 0) ∷ blockA ∷ [])
 abbrev pub marked : List ℕ
 marked = image (plain (hex 0 14) ∷ plain (hex 0 0) ∷ toward (hex 5 5) 1 ∷ [])
 
+-- a wait of 1000 ms, then a jump back to it, on a type of drive
+abbrev pub waiter : ℕ → List ℕ
+waiter model = imageOf model (block (hex 5 9) (hex 15 4) 1 0 ∷ blockA ∷ [])
+
 unfoldable pub table : List Row
 table =
     -- A: 55 and seven 00: accepted
-    row (verdict (image (blockA ∷ []))) accepted ∷
+    row A (verdict (image (blockA ∷ []))) accepted ∷
     -- B: 50 and seven 00: 12 at block 0
-    row (verdict (image (plain (hex 5 0) ∷ []))) (refusal 12 0 0 0) ∷
+    row B (verdict (image (plain (hex 5 0) ∷ []))) (refusal 12 0 0 0) ∷
     -- C: A with start 1: 3 at byte 4
-    row (verdict (imageAt 1 (blockA ∷ []))) (refusal 3 4 0 0) ∷
+    row C (verdict (imageAt 1 (blockA ∷ []))) (refusal 3 4 0 0) ∷
     -- D: 52, 53, operands 00: 10 at block 0, depth 8
-    row (verdict (image (plain (hex 5 2) ∷ plain (hex 5 3) ∷ []))) (refusal 10 0 0 8) ∷
+    row D (verdict (image (plain (hex 5 2) ∷ plain (hex 5 3) ∷ []))) (refusal 10 0 0 8) ∷
     -- E: 50, 53, 52, 55, operands 00, start 2: 11 at block 1, depth 0
-    row (verdict (imageAt 2 (plain (hex 5 0) ∷ plain (hex 5 3) ∷ plain (hex 5 2) ∷ plain (hex 5 5) ∷ []))) (refusal 11 1 0 0) ∷
+    row E (verdict (imageAt 2 (plain (hex 5 0) ∷ plain (hex 5 3) ∷ plain (hex 5 2) ∷ plain (hex 5 5) ∷ []))) (refusal 11 1 0 0) ∷
     -- F: 20 10 27 00 00 00 00 00, then 54, 55 with operands 00: 9 at task 1, block 0
-    row (verdict (image (block (hex 2 0) (hex 1 0) (hex 2 7) 0 ∷ plain (hex 5 4) ∷ plain (hex 5 5) ∷ []))) (refusal 9 0 1 0) ∷
+    row F (verdict (image (block (hex 2 0) (hex 1 0) (hex 2 7) 0 ∷ plain (hex 5 4) ∷ plain (hex 5 5) ∷ []))) (refusal 9 0 1 0) ∷
     -- G: 1F 01 00 FA 00 00 00 00, then A's block: accepted
-    row (verdict (image (block (hex 1 15) 1 0 (hex 15 10) ∷ blockA ∷ []))) accepted ∷
+    row G (verdict (image (block (hex 1 15) 1 0 (hex 15 10) ∷ blockA ∷ []))) accepted ∷
     -- H: 1F 01 01 FA instead: 7 at block 0
-    row (verdict (image (block (hex 1 15) 1 1 (hex 15 10) ∷ blockA ∷ []))) (refusal 7 0 0 0) ∷
+    row H (verdict (image (block (hex 1 15) 1 1 (hex 15 10) ∷ blockA ∷ []))) (refusal 7 0 0 0) ∷
     -- I: 72 08 01 then 00s: 6
-    row (verdict (image (block (hex 7 2) (hex 0 8) 1 0 ∷ []))) (refusal 6 0 0 0) ∷
+    row I (verdict (image (block (hex 7 2) (hex 0 8) 1 0 ∷ []))) (refusal 6 0 0 0) ∷
     -- I: 72 0C 01 and A's block: accepted
-    row (verdict (image (block (hex 7 2) (hex 0 12) 1 0 ∷ blockA ∷ []))) accepted ∷
-    -- J: a wait of 1000 ms (59 F4 01) passes at k = 527 on type 2, and not before
-    row (waited 2 (hex 15 4 + 256) 527) (outcome GoOn) ∷
-    row (waited 2 (hex 15 4 + 256) 526) (outcome (Stay 1000 526)) ∷
-    -- J: at 1185 on type 4, and not before
-    row (waited 4 (hex 15 4 + 256) 1185) (outcome GoOn) ∷
-    row (waited 4 (hex 15 4 + 256) 1184) (outcome (Stay 1000 1184)) ∷
+    row I (verdict (image (block (hex 7 2) (hex 0 12) 1 0 ∷ blockA ∷ []))) accepted ∷
+    -- J: a wait of 1000 ms (59 F4 01) passes at k = 527 on type 2, where it was pending with k = 526
+    row J (passes (waiter 2) 527) (standing (stand 0 1000 526) (stand 1 0 0)) ∷
+    -- J: at 1185 on type 4
+    row J (passes (waiter 4) 1185) (standing (stand 0 1000 1184) (stand 1 0 0)) ∷
     -- K: DC 0B is 1500
-    row (number (hex 13 12 ∷ hex 0 11 ∷ [])) (value 1500) ∷
-    -- K: 80 00 is no number
-    row (number (hex 8 0 ∷ hex 0 0 ∷ [])) noNumber ∷
-    -- K: 80 00 gives 2: as the start of A, at byte 4
-    row (verdict (header (hex 8 0 ∷ hex 0 0 ∷ 1 ∷ blockA))) (refusal 2 4 0 0) ∷
+    row K (number (hex 13 12 ∷ hex 0 11 ∷ [])) (value 1500) ∷
+    -- K: 80 00 gives 2, and 80 alone ends early, 1
+    row K (number (hex 8 0 ∷ hex 0 0 ∷ [])) (noNumber 2) ∷
+    row K (number (hex 8 0 ∷ [])) (noNumber 1) ∷
+    -- K: as the start of A, at byte 4
+    row K (verdict (header (hex 8 0 ∷ hex 0 0 ∷ 1 ∷ blockA))) (refusal 2 4 0 0) ∷
     -- L: -7 by 2 is -3
-    row (divided (negsuc 6) (pos 2)) (whole (negsuc 2)) ∷
-    row (dividedBy (negsuc 6) (pos 2)) (whole (negsuc 2)) ∷
+    row L (divided (negsuc 6) (pos 2)) (whole (negsuc 2)) ∷
+    row L (dividedBy (negsuc 6) (pos 2)) (whole (negsuc 2)) ∷
     -- a chain of 8 nested calls: accepted
-    row (verdict (chain 8)) accepted ∷
+    row (chainOf 8) (verdict (chain 8)) accepted ∷
     -- of 9: 10, at the ninth call: block 16, depth 8
-    row (verdict (chain 9)) (refusal 10 16 0 8) ∷
+    row (chainOf 9) (verdict (chain 9)) (refusal 10 16 0 8) ∷
     -- faults: a start input that is high at load is no slope; one that is low and then high is
-    row (requested mover (1 ∷ 1 ∷ 0 ∷ 1 ∷ [])) (motions (None ∷ None ∷ None ∷ MoveTo startAxis ∷ [])) ∷
+    row heldStart (requested mover (1 ∷ 1 ∷ 0 ∷ 1 ∷ [])) (motions (None ∷ None ∷ None ∷ MoveTo startAxis ∷ [])) ∷
     -- the start mark of 0E starts a move without a slope, which clears it
-    row (requested marked (1 ∷ 1 ∷ 1 ∷ 1 ∷ [])) (motions (None ∷ MoveTo startAxis ∷ None ∷ None ∷ [])) ∷
+    row startMark (requested marked (1 ∷ 1 ∷ 1 ∷ 1 ∷ [])) (motions (None ∷ MoveTo startAxis ∷ None ∷ None ∷ [])) ∷
     []

@@ -7,6 +7,7 @@ use machine::Moment;
 use machine::Motion;
 use machine::Out;
 use machine::Outcome;
+use operands::Command;
 use point::Point;
 use state::Notes;
 use state::State;
@@ -17,6 +18,7 @@ ghost use mathlib.Core.List.{[]};
 ghost use mathlib.Core.Bool.{true};
 ghost use Prim.Native.Nat.{_<_, _≤_};
 ghost use Rattle.point.specs.Fault.{mostDepth};
+ghost use Rattle.walk.specs.Program.{commandAt};
 ghost use Rattle.state.specs.State.{taskAt};
 ghost use Rattle.state.specs.Good.{Good};
 ghost use Rattle.machine.specs.Given.{inputsOf};
@@ -119,11 +121,18 @@ fn block_fits(header: Header, blocks: &[u8], t: u8, k: Task) -> bool
     (fetch::block_number(header, blocks, k.block) == 0) & (fault.number() == 0)
 }
 
+// The command at a task's block.
+fn command_here(blocks: &[u8], k: Task) -> Command
+    ensures { λ r. ⌜ r ≡ commandAt (now (blocks .entry)) (k .block) ⌝ }
+{
+    fetch::command_at(blocks, k.block)
+}
+
 // Whether a pending wait stands at a wait.
 fn wait_fits(blocks: &[u8], k: Task) -> bool
     ensures { λ r. ⌜ r ≡ waitFits (now (blocks .entry)) k ⌝ }
 {
-    let c = fetch::command_at(blocks, k.block);
+    let c = command_here(blocks, k);
     (k.time == 0) | is_wait(c.code)
 }
 
@@ -156,7 +165,7 @@ fn carry_out(image: &[u8], s: State, t: u8, inputs: &[u8], start: u8, reached: u
     requires { ⌜ fits (now image) (s .header) t k ≡ true ⌝ }
     ensures { λ r. ⌜ r ≡ carriedOut (now (image .entry)) s (inputsOf t (now (inputs .entry)) start reached) k ⌝ }
 {
-    let c = fetch::command_at(reader::block_part(image), k.block);
+    let c = command_here(reader::block_part(image), k);
     let header = s.header;
     let drive = header.drive;
     let values = s.values;

@@ -74,25 +74,29 @@ callsAfter image s x calls =
 
 -- a block is the one behind the latest call
 pub data Behind : List ℕ → ℕ → Type 0 where
+  -- the latest stands first
   latest : {b : ℕ} {bs : List ℕ} → Behind (b ∷ bs) (b + 1)
 
 -- ---- part 5: why a task stops
 
--- 19 or 20, of a command c that task t executes: 8D, and the divisor variable holds 0; 31 to 33, and the variable is out of the parameter's
--- range; 5A at its first step (no wait is pending), and the variable is out of the range of times
+-- 19 or 20, of a command c that a task executes with a wait of `time` pending (0: none)
 pub data Reason (c : Command) (v : Values) (time : ℕ) : Cause → Type 0 where
+  -- 8D, and the divisor variable holds 0
   divisor : c .code ≡ hex 8 13 → variable v (c .z) ≡ pos 0 → Reason c v time ZeroDivisor
+  -- 31 to 33, and the variable is out of the parameter's range
   speed : c .code ≡ hex 3 1 → within 1 mostSpeed (variable v (c .x)) ≡ false → Reason c v time BadContent
   acceleration : c .code ≡ hex 3 2 → within 1 mostRamp (variable v (c .x)) ≡ false → Reason c v time BadContent
   deceleration : c .code ≡ hex 3 3 → within 1 mostRamp (variable v (c .x)) ≡ false → Reason c v time BadContent
+  -- 5A at its first step, and the variable is out of the range of times
   waiting : c .code ≡ hex 5 10 → time ≡ 0 → within 0 mostTime (variable v (c .x)) ≡ false → Reason c v time BadContent
 
--- the step's task stopped: it halted by 19 or 20 at its point, keeping block, start and call stack, with no value changed but that BIAS's start level
--- is noted, and no motion asked for; or it ended by a 51 of its own mode, keeping the same
+-- the step's task stopped, and why
 pub data Stopped (image : List ℕ) (s : State) (x : Inputs) : Type 0 where
+  -- it halted by 19 or 20 at its point, keeping block, start and call stack; no value changed but BIAS's noted start level, and no motion is asked for
   byRefusal : (q : Cause) → Reason (commandOf image s x) (s .values) (taskAt s (x .task) .time) q
       → step image s x .answer ≡ Halted q (pointOf (x .task) (taskAt s (x .task))) → step image s x .state .values ≡ noted (x .task) (x .start) (s .values)
       → taskAt (step image s x .state) (x .task) ≡ stopped halted (taskAt s (x .task)) → step image s x .motion ≡ None → Stopped image s x
+  -- it ended by a 51 of its own mode, keeping the same
   byItself : commandOf image s x .code ≡ hex 5 1 → commandOf image s x .x ≡ x .task + 1 → step image s x .answer ≡ Done
       → taskAt (step image s x .state) (x .task) ≡ stopped ended (taskAt s (x .task)) → Stopped image s x
 

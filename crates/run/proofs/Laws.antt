@@ -14,9 +14,9 @@ use Rattle.machine.specs.Given.{inputsOf}
 use Rattle.border.specs.declared.BiasVerdict.{BiasVerdict}
 use Rattle.bias.specs.Load.{load}
 use Rattle.bias.specs.Step.{stepped}
-use Rattle.bias.specs.Run.{bufferAfter}
-use Rattle.bias.specs.Theorem.{Run}
-use Rattle.bias.proofs.Runs.{every-run}
+use Rattle.demand.specs.Run.{bufferAfter}
+use Rattle.demand.specs.Theorem.{Run}
+use Rattle.demand.proofs.Runs.{every-run}
 use Rattle.run.specs.Steps.{headLength, nextAt, stepAt, stepsFrom, stepsOf, ran}
 
 -- the levels fit into what is left behind the head, or the step behind them begins no later than the end

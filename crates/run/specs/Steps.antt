@@ -7,7 +7,7 @@ use lib.ListN.{length, getD, take, drop}
 use Rattle.places.specs.Places.{numberAt}
 use Rattle.machine.specs.Given.{Inputs, inputsOf}
 use Rattle.bias.specs.Load.{load}
-use Rattle.bias.specs.Run.{bufferAfter}
+use Rattle.demand.specs.Run.{bufferAfter}
 
 -- a step: the task number in four bytes, the start input, position reached, the length of the input levels in two bytes, and the input levels
 abbrev pub headLength : ℕ

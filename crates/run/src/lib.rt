@@ -10,8 +10,8 @@ ghost use Rattle.walk.specs.Index.{marksLength};
 ghost use Rattle.loader.specs.After.{After};
 ghost use Rattle.bias.specs.Load.{load};
 ghost use Rattle.bias.specs.Step.{stepped};
-ghost use Rattle.bias.specs.Run.{bufferAfter};
-ghost use Rattle.bias.specs.Theorem.{Run};
+ghost use Rattle.demand.specs.Run.{bufferAfter};
+ghost use Rattle.demand.specs.Theorem.{Run};
 ghost use Rattle.run.specs.Steps.{headLength, lengthAt, nextAt, stepAt, stepsOf, ran};
 
 // What stands before the input levels of a step: the task number (4 bytes), the start input, position reached, the length of the input levels (2 bytes).

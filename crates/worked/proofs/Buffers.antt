@@ -15,9 +15,9 @@ use Rattle.walk.specs.Verdict.{verdictOf, verdictNumber}
 use Rattle.layout.specs.Layout.{bufferLength}
 use Rattle.border.specs.Border.{numbered}
 use Rattle.bias.specs.Load.{Load, load}
-use Rattle.bias.specs.Theorem.{Run}
+use Rattle.demand.specs.Theorem.{Run}
 use Rattle.bias.proofs.Ways.{marks-short, no-buffer, of-image, verdict-is}
-use Rattle.bias.proofs.Runs.{every-run}
+use Rattle.demand.proofs.Runs.{every-run}
 use Rattle.cases.specs.Example.{program, steps}
 use Rattle.cases.proofs.Example.{accepted}
 

@@ -27,11 +27,11 @@ carry-out-spec =
     let st = c .before .before .before .before .before .before .before .before .before .before in
     let a = st .args in
     let f = same-effect (a .s) (inputsOf (a .t) (now (a .inputs)) (a .start) (a .reached)) (a .k) _ _ _ _ (c .before .before .level .ensures) (c .before .level2 .ensures)
-    (c .before .before .before .before .before .before .command-at .ensures ∙ ap (λ (bs : List ℕ). commandAt bs (a .k .block)) (c .before .before .before .before .before .before .before .block-part .ensures)) in
+    (c .before .before .before .before .before .before .command-here .ensures ∙ ap (λ (bs : List ℕ). commandAt bs (a .k .block)) (c .before .before .before .before .before .before .before .block-part .ensures)) in
     (st .pre .0, subst (λ (e : Effect). Deep (a .k .depth) (e .outcome)) (sym (c .perform .ensures ∙ f)) (deep (now (a .image)) (a .s .header) (a .t) (a .k) (st .pre .1 .1 .1) (st .pre .1 .0) _ _)))
     (λ c.
     let a = c .before .before .before .before .before .before .before .before .before .before .before .args in
     let x = inputsOf (a .t) (now (a .inputs)) (a .start) (a .reached) in
     let f = same-effect (a .s) (inputsOf (a .t) (now (a .inputs)) (a .start) (a .reached)) (a .k) _ _ _ _ (c .before .before .before .level .ensures) (c .before .before .level2 .ensures)
-    (c .before .before .before .before .before .before .before .command-at .ensures ∙ ap (λ (bs : List ℕ). commandAt bs (a .k .block)) (c .before .before .before .before .before .before .before .before .block-part .ensures)) in
+    (c .before .before .before .before .before .before .before .command-here .ensures ∙ ap (λ (bs : List ℕ). commandAt bs (a .k .block)) (c .before .before .before .before .before .before .before .before .block-part .ensures)) in
     c .performed .ensures ∙ ap (performed (a .s) x (a .k)) (c .before .perform .ensures ∙ f)))

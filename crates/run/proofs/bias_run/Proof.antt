@@ -5,7 +5,7 @@ use lib.ListN.{length}
 use mathlib.Core.List.{List}
 use mathlib.Core.Path.{ap, _∙_}
 use Prim.Native.Nat.{ℕ}
-use Rattle.bias.specs.Run.{bufferAfter}
+use Rattle.demand.specs.Run.{bufferAfter}
 use Rattle.run.specs.Steps.{stepsOf}
 use Rattle.run.proofs.Laws.{refused, accepted, theorem}
 use Rattle.run.proofs.bias_run.Statement.{statement}

@@ -7,7 +7,7 @@ use lib.ListN.{length}
 use mathlib.Core.Path.{_≡_, refl, sym, ap, _∙_}
 use native.Mathlib.Omega.{arith}
 use Prim.Native.Nat.{ℕ, _+_, _-_, _≤_}
-use Rattle.bias.specs.Run.{bufferAfter}
+use Rattle.demand.specs.Run.{bufferAfter}
 use Rattle.run.specs.Steps.{headLength, stepsFrom, stepsOf}
 use Rattle.run.proofs.Laws.{stands, one-more, none-whole, none-left}
 use Rattle.run.proofs.run_steps.Statement.{statement}

@@ -29,9 +29,9 @@ use Rattle.layout.specs.Encoded.{encoded}
 use Rattle.machine.specs.Theorem.{loaded}
 use Rattle.border.specs.Border.{verdictFor}
 use Rattle.border.specs.declared.BiasVerdict.{BiasVerdict}
 use Rattle.bias.specs.Load.{Load, load}
-use Rattle.bias.specs.Theorem.{Loads, LoadOf, WellFormed, SomeBad, SomeForeign, RefusedExactly}
+use Rattle.demand.specs.Theorem.{Loads, LoadOf, WellFormed, SomeBad, SomeForeign, RefusedExactly}
 use Rattle.bias.proofs.Ways.{marks-short, no-buffer, of-image, verdict-is, stays, begins}
 
 module _ (image : List ℕ) (n : ℕ) (b : List ℕ) where
   -- by cases: 13, 16, or the image

@@ -43,9 +43,9 @@ use Rattle.machine.proofs.Halts.{halts-for}
 use Rattle.machine.proofs.Keeps.{keeps-good, law, fit-here}
 use Rattle.border.specs.Border.{answerFor}
 use Rattle.border.specs.declared.BiasAnswer.{BiasAnswer}
 use Rattle.bias.specs.Step.{Stepped, refuse, handed, stepped}
-use Rattle.bias.specs.Every.{withStatus, haltedState, Asked, Held, Running, Ready, ReasonHere, Way, EveryStep}
+use Rattle.demand.specs.Every.{withStatus, haltedState, Asked, Held, Running, Ready, ReasonHere, Way, EveryStep}
 use Rattle.bias.proofs.Ways.{no-task, bad-inputs, of-buffer, no-state, of-state, asked}
 
 -- ---- where a command halts, no wait is pending
 

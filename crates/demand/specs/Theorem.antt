@@ -31,9 +31,9 @@ use Rattle.machine.specs.declared.Answer.{Answer}
 use Rattle.machine.specs.declared.Answer.the-variants.{Done, NoTask, Inputs as BadInputs, NotRunning, Differs, Halted}
 use Rattle.border.specs.Border.{noState, numbered, verdictFor, answerFor}
 use Rattle.border.specs.declared.BiasVerdict.{BiasVerdict}
 use Rattle.bias.specs.Load.{load}
 use Rattle.bias.specs.Step.{stepped}
-use Rattle.bias.specs.Run.{answers, bufferAfter, referenceAnswers}
+use Rattle.demand.specs.Run.{answers, bufferAfter, referenceAnswers}
 
 -- ---- a step of a buffer, and every step of a list
 
@@ -69,6 +69,7 @@ pub record StepOn (image : List ℕ) (calls : Calls) (b : List ℕ) (x : Inputs)
   pub stays : refused (step image (decoded b) x .answer) ≡ true → stepped image b x .buffer ≡ b
 
 pub data EveryStepOn (image : List ℕ) : Calls → List ℕ → List Inputs → Type 0 where
+  -- the list has come to its end
   none : {calls : Calls} {b : List ℕ} → EveryStepOn image calls b []
   more : {calls : Calls} {b : List ℕ} {x : Inputs} {xs : List Inputs} → StepOn image calls b x
       → EveryStepOn image (callsAfter image (decoded b) x calls) (stepped image b x .buffer) xs → EveryStepOn image calls b (x ∷ xs)
@@ -110,8 +111,9 @@ pub record LoadOf (image : List ℕ) (n : ℕ) (b : List ℕ) : Type 0 where
 abbrev pub EveryLoad : Type 0
 EveryLoad = (image : List ℕ) (n : ℕ) (b : List ℕ) → LoadOf image n b
 
--- header, blocks and lent lengths are well formed: 13, 16, 1 to 4 and, of each block by itself, 5 to 8 let them pass
+-- header, blocks and lent lengths are well formed
 pub record WellFormed (image : List ℕ) (n : ℕ) (b : List ℕ) : Type 0 where
+  -- 13, 16, 1 to 4 and, of each block by itself, 5 to 8 let them pass
   pub marks : marksLength ≤ n
   pub buffer : length b ≡ bufferLength
   pub header : done (headerOf image .outcome) ≡ true

@@ -39,11 +39,11 @@ use Rattle.machine.specs.Theorem as values
 use Rattle.machine.proofs.Runs as machine
 use Rattle.engine.proofs.Laws as engine
 use Rattle.border.specs.Border.{answerFor}
 use Rattle.bias.specs.Step.{Stepped, handed, stepped}
-use Rattle.bias.specs.Run.{answers, bufferAfter, referenceAnswers}
-use Rattle.bias.specs.Theorem.{refused, differs, StepOn, EveryStepOn, Run, EveryRun}
-use Rattle.bias.proofs.Loads.{accepted-load, fresh-load}
+use Rattle.demand.specs.Run.{answers, bufferAfter, referenceAnswers}
+use Rattle.demand.specs.Theorem.{refused, differs, StepOn, EveryStepOn, Run, EveryRun}
+use Rattle.demand.proofs.Loads.{accepted-load, fresh-load}
 use Rattle.bias.proofs.Ways.{no-task, bad-inputs, of-buffer, of-state, asked}
 
 -- ---- one step of the bytes of a good state
 

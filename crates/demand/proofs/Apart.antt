@@ -31,10 +31,10 @@ use Rattle.machine.specs.declared.Answer.the-variants.{Done, NoTask, Inputs as 
 use Rattle.machine.proofs.Apart.{threadFor, alike-is, permitted-fits}
 use Rattle.border.specs.Border.{answerFor}
 use Rattle.border.specs.declared.BiasAnswer.{BiasAnswer}
 use Rattle.bias.specs.Load.{load}
 use Rattle.bias.specs.Step.{stepped}
-use Rattle.bias.specs.Run.{answers, bufferAfter, referenceAnswers}
-use Rattle.bias.specs.Theorem.{refused, differs, StepOn, EveryStepOn, Run, WellFormed, SomeBad, SomeForeign, Demand}
+use Rattle.demand.specs.Run.{answers, bufferAfter, referenceAnswers}
+use Rattle.demand.specs.Theorem.{refused, differs, StepOn, EveryStepOn, Run, WellFormed, SomeBad, SomeForeign, Demand}
 
 -- ---- a step of a run, by the numbers that C sees
 

@@ -1,0 +1,5 @@
+pub mod Every
+pub mod Loads
+pub mod Runs
+pub mod Demand
+pub mod Apart
