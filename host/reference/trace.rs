@@ -108,6 +108,9 @@ fn changes(old: &State, new: &State) -> String {
     note("deceleration", old.deceleration() as i64, new.deceleration() as i64);
     note("mark", old.start_mark() as i64, new.start_mark() as i64);
     note("level", old.start_level() as i64, new.start_level() as i64);
+    for task in 1..TASKS {
+        note(&format!("start of task {task}"), old.start(task) as i64, new.start(task) as i64);
+    }
     all.extend((0..TASKS).filter_map(|task| task_change(old, new, task)));
     if all.is_empty() { "nothing".to_string() } else { all.join(", ") }
 }
@@ -115,7 +118,7 @@ fn changes(old: &State, new: &State) -> String {
 fn task_change(old: &State, new: &State, task: usize) -> Option<String> {
     let record = |state: &State| {
         let path: Vec<u16> = (0..MOST_DEPTH).map(|entry| state.entry(task, entry)).collect();
-        (state.status(task), state.block(task), state.start(task), state.depth(task), path, state.wait(task))
+        (state.status(task), state.block(task), state.depth(task), path, state.wait(task))
     };
     if record(old) == record(new) {
         return None;
@@ -139,7 +142,7 @@ fn request(answer: &Answer) -> String {
 
 fn place(answer: &Answer) -> String {
     match answer.number {
-        SUCCESS | NOT_RUNNING => answer.number.to_string(),
+        SUCCESS | NO_STATE | NOT_RUNNING => answer.number.to_string(),
         BAD_INPUTS => format!("15 place {}", answer.place),
         number => format!("{number} block {} task {} depth {}", answer.place, answer.task, answer.depth),
     }

@@ -7,7 +7,7 @@ use lib.ListN.{getD}
 use Rattle.flow.specs.Flow.{bias, plc, mathematics}
 use Rattle.places.specs.Places.{numberAt}
 use Rattle.state.specs.State.{cells}
-use Rattle.layout.specs.Layout.{variablesAt, flagsAt, outputsAt, axisAt, taskLength, taskPlace}
+use Rattle.layout.specs.Layout.{variablesAt, flagsAt, outputsAt, axisAt, startsAt, taskLength, taskPlace}
 
 -- the n bytes from a place on are the same
 unfoldable pub same : List ℕ → List ℕ → ℕ → ℕ → Bool
@@ -24,10 +24,15 @@ unfoldable pub sameAxis : List ℕ → List ℕ → Bool
 sameAxis a b =
     same a b axisAt 4 && (same a b (axisAt + 4) 2 && (same a b (axisAt + 6) 2 && (same a b (axisAt + 8) 2 && (same a b (axisAt + 10) 1 && same a b (axisAt + 11) 1))))
 
+-- the start blocks of the PLC and of mathematics
+unfoldable pub sameStarts : List ℕ → List ℕ → Bool
+sameStarts a b = same a b startsAt 2 && same a b (startsAt + 2) 2
+
+-- all but the header and the unused bytes, which no step writes
 unfoldable pub unchanged : List ℕ → List ℕ → Bool
 unchanged a b =
-    sameCells a b variablesAt 4 cells && (sameCells a b flagsAt 1 cells && (sameCells a b outputsAt 1 cells && (sameAxis a b
-    && (same a b (taskPlace bias) taskLength && (same a b (taskPlace plc) taskLength && same a b (taskPlace mathematics) taskLength)))))
+    sameCells a b variablesAt 4 cells && (sameCells a b flagsAt 1 cells && (sameCells a b outputsAt 1 cells && (sameAxis a b && (sameStarts a b
+    && (same a b (taskPlace bias) taskLength && (same a b (taskPlace plc) taskLength && same a b (taskPlace mathematics) taskLength))))))
 
 -- a number of one, two or four bytes
 unfoldable pub valueAt : List ℕ → ℕ → ℕ → ℕ

@@ -16,7 +16,7 @@ ghost use Rattle.flow.specs.Flow.{taskCount};
 ghost use Rattle.walk.specs.Program.{blockAt};
 ghost use Rattle.state.specs.State.{cells, runs};
 ghost use Rattle.layout.specs.Layout.{bufferLength, taskLength, taskPlace};
-ghost use Rattle.trace.specs.Changes.{same, sameCells, sameAxis, unchanged, valueAt};
+ghost use Rattle.trace.specs.Changes.{same, sameCells, sameAxis, sameStarts, unchanged, valueAt};
 
 const TASK_COUNT: u32 = flow::TASK_COUNT as u32;
 
@@ -103,7 +103,8 @@ fn show_changes(a: &[u8; LENGTH], b: &[u8; LENGTH]) -> bool
     let flags = show_cells(a, b, layout::FLAGS_AT, 1, b"flag ", variables);
     let outputs = show_cells(a, b, layout::OUTPUTS_AT, 1, b"output ", flags);
     let axis = show_axis(a, b, outputs);
-    let bias = show_task(a, b, flow::BIAS, axis);
+    let starts = show_starts(a, b, axis);
+    let bias = show_task(a, b, flow::BIAS, starts);
     let plc = show_task(a, b, flow::PLC, bias);
     let nothing = show_task(a, b, flow::MATHEMATICS, plc);
     show_nothing(nothing)
@@ -171,6 +172,30 @@ fn show_axis(a: &[u8; LENGTH], b: &[u8; LENGTH], nothing: bool) -> bool
     let deceleration = show_part(a, b, layout::AXIS_AT + 8, 2, b"deceleration", acceleration);
     let mark = show_part(a, b, layout::AXIS_AT + 10, 1, b"mark", deceleration);
     show_part(a, b, layout::AXIS_AT + 11, 1, b"level", mark)
+}
+
+// The start blocks of the PLC and of mathematics, as far as they changed.
+fn show_starts(a: &[u8; LENGTH], b: &[u8; LENGTH], nothing: bool) -> bool
+    ensures { λ s. ⌜ s ≡ nothing && sameStarts (now (a .entry)) (now (b .entry)) ⌝ }
+{
+    let plc = show_cell(
+        a,
+        b,
+        layout::STARTS_AT,
+        2,
+        b"start of task ",
+        flow::PLC as u16,
+        nothing,
+    );
+    show_cell(
+        a,
+        b,
+        layout::STARTS_AT + 2,
+        2,
+        b"start of task ",
+        flow::MATHEMATICS as u16,
+        plc,
+    )
 }
 
 // A number with a name of its own, if it changed.
@@ -304,6 +329,7 @@ fn show_answer(r: BiasAnswer) -> u32
     match number {
         0 => number,
         15 => show_given(r),
+        16 => number,
         18 => number,
         _ => show_point(r),
     }

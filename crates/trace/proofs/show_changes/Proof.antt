@@ -1,7 +1,7 @@
--- `show_changes` meets its contract: seven groups, one behind the other. Assumes nothing.
+-- `show_changes` meets its contract: eight groups, one behind the other. Assumes nothing.
 use borrow.Author.Needs.{needs}
 use Rattle.trace.proofs.Shown.{then}
-use Rattle.trace.specs.Changes.{same, sameCells, sameAxis, unchanged}
+use Rattle.trace.specs.Changes.{same, sameCells, sameAxis, sameStarts, unchanged}
 use Rattle.layout.specs.Layout.{variablesAt, flagsAt, outputsAt, taskLength, taskPlace}
 use Rattle.state.specs.State.{cells}
 use Rattle.flow.specs.Flow.{bias, plc, mathematics}
@@ -32,6 +32,9 @@ show-cells-requires-3 c κs = search needs
 show-axis-requires : tie.Need-show-axis-requires
 show-axis-requires c κs = search needs
 
+show-starts-requires : tie.Need-show-starts-requires
+show-starts-requires c κs = search needs
+
 show-task-requires : tie.Need-show-task-requires
 show-task-requires c κs = search needs
 
@@ -47,15 +50,16 @@ show-nothing-requires c κs = search needs
 returns : tie.Need-returns
 unfolding unchanged
 returns c =
-    let a = now (c .before .before .before .before .before .before .before .before .before .before .before .args .a) in
-    let b = now (c .before .before .before .before .before .before .before .before .before .before .before .args .b) in
+    let a = now (c .before .before .before .before .before .before .before .before .before .before .before .before .args .a) in
+    let b = now (c .before .before .before .before .before .before .before .before .before .before .before .before .args .b) in
     c .show-nothing .ensures
-    ∙ then true (sameCells a b variablesAt 4 cells) _ (c .before .before .before .before .before .before .before .before .before .show-cells .result) (c .before .before .before .before .before .before .before .before .before .show-cells .ensures)
-    (then (c .before .before .before .before .before .before .before .before .before .show-cells .result) (sameCells a b flagsAt 1 cells) _ (c .before .before .before .before .before .before .before .show-cells2 .result) (c .before .before .before .before .before .before .before .show-cells2 .ensures)
-    (then (c .before .before .before .before .before .before .before .show-cells2 .result) (sameCells a b outputsAt 1 cells) _ (c .before .before .before .before .before .show-cells3 .result) (c .before .before .before .before .before .show-cells3 .ensures)
-    (then (c .before .before .before .before .before .show-cells3 .result) (sameAxis a b) _ (c .before .before .before .before .show-axis .result) (c .before .before .before .before .show-axis .ensures)
-    (then (c .before .before .before .before .show-axis .result) (same a b (taskPlace bias) taskLength) _ (c .before .before .before .show-task .result) (c .before .before .before .show-task .ensures)
-    (then (c .before .before .before .show-task .result) (same a b (taskPlace plc) taskLength) (same a b (taskPlace mathematics) taskLength) (c .before .before .show-task2 .result) (c .before .before .show-task2 .ensures) (c .before .show-task3 .ensures))))))
+    ∙ then true (sameCells a b variablesAt 4 cells) _ (c .before .before .before .before .before .before .before .before .before .before .show-cells .result) (c .before .before .before .before .before .before .before .before .before .before .show-cells .ensures)
+    (then (c .before .before .before .before .before .before .before .before .before .before .show-cells .result) (sameCells a b flagsAt 1 cells) _ (c .before .before .before .before .before .before .before .before .show-cells2 .result) (c .before .before .before .before .before .before .before .before .show-cells2 .ensures)
+    (then (c .before .before .before .before .before .before .before .before .show-cells2 .result) (sameCells a b outputsAt 1 cells) _ (c .before .before .before .before .before .before .show-cells3 .result) (c .before .before .before .before .before .before .show-cells3 .ensures)
+    (then (c .before .before .before .before .before .before .show-cells3 .result) (sameAxis a b) _ (c .before .before .before .before .before .show-axis .result) (c .before .before .before .before .before .show-axis .ensures)
+    (then (c .before .before .before .before .before .show-axis .result) (sameStarts a b) _ (c .before .before .before .before .show-starts .result) (c .before .before .before .before .show-starts .ensures)
+    (then (c .before .before .before .before .show-starts .result) (same a b (taskPlace bias) taskLength) _ (c .before .before .before .show-task .result) (c .before .before .before .show-task .ensures)
+    (then (c .before .before .before .show-task .result) (same a b (taskPlace plc) taskLength) (same a b (taskPlace mathematics) taskLength) (c .before .before .show-task2 .result) (c .before .before .show-task2 .ensures) (c .before .show-task3 .ensures)))))))
 
 pub show-changes-spec : {M : Type 1} → statement M
 show-changes-spec =
@@ -68,6 +72,7 @@ show-changes-spec =
     slice-aggregate-show-cells-3
     show-cells-requires-3
     show-axis-requires
+    show-starts-requires
     show-task-requires
     show-task-requires-2
     show-task-requires-3
