@@ -1,5 +1,5 @@
-//! The manual's examples run on the reference: reads lines of an image and steps, prints a trace.
-//! A line is the image and records of steps, both in hexadecimal digits, with a space between them.
+//! The manual's examples run on the reference: reads lines of an image and records, prints a trace (docs/EXAMPLES.md).
+//! A line is the image and records of eight bytes, both in hexadecimal digits, with a space between them.
 
 use reference::answer::{Answer, STOP};
 use reference::engine::Given;
@@ -9,8 +9,13 @@ use reference::state::{State, RUNNING, STATE_LENGTH};
 use std::fmt::Write as _;
 use std::io::{self, BufRead, Write as _};
 
-/// Bytes of a record of steps.
+/// Bytes of a record.
 const RECORD_LENGTH: usize = 8;
+
+/// Where a task's status and block stand (docs/STATE.md), for a buffer that is no state too.
+const TASK_RECORDS: usize = 1560;
+const TASK_RECORD_LENGTH: usize = 28;
+const BLOCK: usize = 2;
 
 /// One step of an example, to be done `times` times.
 struct Step {
@@ -35,7 +40,7 @@ fn bytes_of(text: &str) -> Vec<u8> {
     digits.map(|pair| u8::from_str_radix(std::str::from_utf8(pair).unwrap_or(""), 16).expect("hexadecimal")).collect()
 }
 
-/// A record of eight bytes: how often, the task, the start input, position reached, and four inputs that are high (0: none).
+/// A record of steps: how often, the task, the start input, position reached, and four inputs that are high (0: none).
 fn step_of(record: &[u8]) -> Step {
     let mut inputs = [0; INPUTS_LENGTH];
     for &pin in &record[4..] {
@@ -54,10 +59,21 @@ fn example(line: &str, out: &mut String) {
         return;
     }
     let _ = writeln!(out, "load 0");
-    for step in bytes_of(steps).chunks_exact(RECORD_LENGTH).map(step_of) {
+    for record in bytes_of(steps).chunks_exact(RECORD_LENGTH) {
+        if record[0] == 0 {
+            put(&mut state, record);
+        }
+        let step = step_of(record);
         for _ in 0..step.times {
             traced(&image, &mut state, &step, out);
         }
+    }
+}
+
+/// A record of no steps puts a byte into the state buffer: its place, low byte first, and the byte; none past the end.
+fn put(state: &mut [u8], record: &[u8]) {
+    if let Some(byte) = state.get_mut(u16::from_le_bytes([record[1], record[2]]) as usize) {
+        *byte = record[3];
     }
 }
 
@@ -66,24 +82,32 @@ fn traced(image: &[u8], state: &mut [u8], step: &Step, out: &mut String) {
     let mut before = state.to_vec();
     let given = Given { inputs: &step.inputs, start: step.start, reached: step.reached };
     let answer = reference::step(image, state, step.task, given);
-    let old = State::of(&mut before).expect("a state");
-    let new = State::of(state).expect("a state");
-    let head = fetched(image, &old, step.task);
-    let changes = changes(&old, &new);
+    let head = fetched(image, &before, step.task);
+    let unchanged = before == state;
+    let changes = match (State::of(&mut before), State::of(state)) {
+        (Some(old), Some(new)) => changes(&old, &new),
+        _ => {
+            assert!(unchanged, "a buffer that is no state was written");
+            "nothing".to_string()
+        }
+    };
     let _ = writeln!(out, "task {}{head} : {changes} : {} : {}", step.task, request(&answer), place(&answer));
 }
 
-fn fetched(image: &[u8], old: &State, task: u32) -> String {
+/// The block that the task's record names if its status says that it runs; bytes past the image's blocks are shown as 0.
+fn fetched(image: &[u8], state: &[u8], task: u32) -> String {
     let task = task as usize;
-    if task >= TASKS || old.status(task) != RUNNING {
+    let record = TASK_RECORDS + TASK_RECORD_LENGTH * task;
+    if task >= TASKS || state[record] != RUNNING {
         return String::new();
     }
     let Ok((_, blocks)) = image::read(image) else {
         return String::new();
     };
-    let at = old.block(task);
-    let bytes: Vec<String> = image::block(blocks, at as usize).iter().map(|byte| format!("{byte:02X}")).collect();
-    format!(" block {at} code {}", bytes.join(" "))
+    let at = u16::from_le_bytes([state[record + BLOCK], state[record + BLOCK + 1]]) as usize;
+    let bytes = blocks.iter().skip(BLOCK_LENGTH * at).chain(&[0; BLOCK_LENGTH]).take(BLOCK_LENGTH);
+    let digits: Vec<String> = bytes.map(|byte| format!("{byte:02X}")).collect();
+    format!(" block {at} code {}", digits.join(" "))
 }
 
 fn changes(old: &State, new: &State) -> String {

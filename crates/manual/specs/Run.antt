@@ -1,12 +1,13 @@
--- What the program does with a line: an image, a space, and records of steps. Assumes nothing.
+-- What the program does with a line: an image, a space, and records, each of steps or of a byte to put. Assumes nothing.
 use Prim.Native.Nat.{ℕ, zero, suc, _+_, _*_, _/_, min}
 use mathlib.Core.Bool.{cond}
-use mathlib.Core.List.{List}
+use mathlib.Core.List.{List, [], _∷_}
 use lib.Dec.{eqb}
 use lib.ListN.{length, getD, set, replicate, take, drop}
 use Rattle.bytes.specs.Bytes.{indexOf}
 use Rattle.walk.specs.Index.{marksLength}
 use Rattle.state.specs.State.{cells}
+use Rattle.places.specs.Places.{numberAt, puts}
 use Rattle.layout.specs.Layout.{bufferLength}
 use Rattle.machine.specs.Given.{Inputs, inputsOf}
 use Rattle.report.specs.Input.{inputLength}
@@ -32,9 +33,13 @@ unfoldable pub repeated : List ℕ → Inputs → ℕ → List ℕ → List ℕ
 repeated image x zero b = b
 repeated image x (suc n) b = stepped image (repeated image x n b) x .buffer
 
--- after the steps of the record at a place
+-- the buffer with a byte put into it, as no firmware may do: the record has the place, low byte first, and the byte
+unfoldable pub withByte : List ℕ → ℕ → List ℕ → List ℕ
+withByte steps at b = puts b (numberAt 2 steps (at + 1)) (getD steps (at + 3) 0 ∷ [])
+
+-- after the record at a place: steps, or for none of them a byte put
 unfoldable pub recorded : List ℕ → List ℕ → ℕ → List ℕ → List ℕ
-recorded image steps at b = repeated image (inputsAt steps at) (getD steps at 0) b
+recorded image steps at b = cond (eqb (getD steps at 0) 0) (withByte steps at b) (repeated image (inputsAt steps at) (getD steps at 0) b)
 
 -- after k records
 unfoldable pub after : List ℕ → List ℕ → ℕ → List ℕ → List ℕ

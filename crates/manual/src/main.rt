@@ -1,5 +1,5 @@
 // Runs the manual's examples: a line of standard input is a program image and a list of steps, and its trace goes to standard output. What is printed is
-// held to the file stdout, which comes from a second reading of the papers and not from this code; docs/EXAMPLES.md names the examples.
+// held to the file stdout, which comes from a second reading of the papers (host/reference) and not from this code; docs/EXAMPLES.md names the examples.
 use libc::STDIN_FILENO;
 use libc::STDOUT_FILENO;
 use places::LENGTH;
@@ -11,13 +11,14 @@ ghost use Rattle.hex.specs.Lines.{linesOf};
 ghost use Rattle.layout.specs.Layout.{bufferLength};
 ghost use Rattle.machine.specs.Given.{inputsOf};
 ghost use Rattle.bias.specs.Step.{stepped};
-ghost use Rattle.manual.specs.Run.{recordLength, levelsAt, repeated, recorded, after, ran, spaceOf, behind, example};
+ghost use Rattle.manual.specs.Run.{recordLength, levelsAt, repeated, withByte, recorded, after, ran, spaceOf, behind, example};
 
 const LINE_END: u8 = b'\n';
 
 const SPACE: u8 = b' ';
 
-// A record of steps: how often, the task, the start input, position reached, and four inputs that are high (0: none).
+// A record of steps: how often, the task, the start input, position reached, and four inputs that are high (0: none). One of no steps puts a byte into the
+// state buffer instead: its place, low byte first, and the byte. So examples can show 16 and 17, which no run from a load meets.
 const RECORD_LENGTH: usize = 8;
 
 fn main() {
@@ -104,12 +105,16 @@ fn run_records(image: &[u8], steps: &[u8], state: &mut [u8])
     }
 }
 
-// The steps of the record at a place.
+// The record at a place: its steps, or the byte that it puts.
 fn run_record(image: &[u8], steps: &[u8], at: usize, state: &mut [u8])
     requires { ⌜ length (now state) ≡ bufferLength ⌝ }
     requires { ⌜ at + recordLength ≤ length (now steps) ⌝ }
     ensures { λ _. ⌜ now (state .exit) ≡ recorded (now (image .entry)) (now (steps .entry)) at (now (state .entry)) ⌝ }
 {
+    if steps[at] == 0 {
+        put_byte(steps, at, state);
+        return;
+    }
     let inputs = levels(steps, at);
     repeat(
         image,
@@ -120,6 +125,20 @@ fn run_record(image: &[u8], steps: &[u8], at: usize, state: &mut [u8])
         steps[at + 3],
         state,
     );
+}
+
+// The byte of the record at a place, put into the state buffer; none is put past its end.
+fn put_byte(steps: &[u8], at: usize, state: &mut [u8])
+    requires { ⌜ length (now state) ≡ bufferLength ⌝ }
+    requires { ⌜ at + recordLength ≤ length (now steps) ⌝ }
+    ensures { λ _. ⌜ now (state .exit) ≡ withByte (now (steps .entry)) at (now (state .entry)) ⌝ }
+{
+    let low = steps[at + 1];
+    let high = steps[at + 2];
+    let value = steps[at + 3];
+    let mut bytes = lend::copy_in(state);
+    places::put_byte(&mut bytes, le::read_u16([low, high]), value);
+    lend::copy_out(state, &bytes);
 }
 
 // The input levels of the record at a place.

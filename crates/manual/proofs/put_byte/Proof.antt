@@ -1,0 +1,75 @@
+-- `put_byte` meets its contract: the place from its two bytes, then the byte there. Assumes nothing.
+use borrow.Author.Needs.{needs}
+use Rattle.manual.specs.Run.{withByte}
+use Rattle.places.specs.Places.{numberAt, puts}
+use denote.Ref.{now}
+use lib.ListN.{getD}
+use mathlib.Core.List.{List, [], _∷_}
+use mathlib.Core.Path.{_≡_, ap, _∙_}
+use native.Mathlib.Omega.{arith}
+use Prim.Native.Nat.{ℕ, _+_, _*_}
+use Rattle.manual.proofs.put_byte.Statement.{statement}
+use Rattle.manual.proofs.put_byte.Tie as tie
+
+add-low : tie.Need-add-low
+add-low c = search needs
+
+shared-slice-read-low : tie.Need-shared-slice-read-low
+shared-slice-read-low c = search needs
+
+add-high : tie.Need-add-high
+add-high c = search needs
+
+shared-slice-read-high : tie.Need-shared-slice-read-high
+shared-slice-read-high c = search needs
+
+add-value : tie.Need-add-value
+add-value c = search needs
+
+shared-slice-read-value : tie.Need-shared-slice-read-value
+shared-slice-read-value c = search needs
+
+copy-in-requires : tie.Need-copy-in-requires
+copy-in-requires c κs = search needs
+
+read-u16-requires : tie.Need-read-u16-requires
+read-u16-requires c κs = search needs
+
+put-byte-requires : tie.Need-put-byte-requires
+put-byte-requires c κs = search needs
+
+copy-out-requires : tie.Need-copy-out-requires
+copy-out-requires c κs = search needs
+
+same-length : tie.Need-same-length
+same-length c = search needs
+
+returns : tie.Need-returns
+unfolding withByte
+returns c =
+    let a = c .before .before .before .before .before .before .before .before .before .before .before .before .before .before .before .args in
+    let s = now (a .steps) in
+    let v = getD s (a .at + 3) 0 ∷ [] in
+    let next : a .at + 2 ≡ a .at + 1 + 1 = omega arith in
+    let place = c .before .before .before .before .before .before .read-u16 .ensures ∙ ap (λ (i : ℕ). getD s (a .at + 1) 0 + 256 * (getD s i 0 + 256 * 0)) next in
+    c .before .before .copy-out .ensures
+    ∙ c .before .before .before .before .before .put-byte .ensures
+    ∙ ap (λ (b : List ℕ). puts b (c .before .before .before .before .before .before .read-u16 .result) v) (c .before .before .before .before .before .before .before .before .copy-in .ensures .0)
+    ∙ ap (λ (p : ℕ). puts (now (a .state)) p v) place
+
+pub put-byte-spec : {M : Type 1} → statement M
+put-byte-spec =
+    tie.close
+    (tie.spec
+    add-low
+    shared-slice-read-low
+    add-high
+    shared-slice-read-high
+    add-value
+    shared-slice-read-value
+    copy-in-requires
+    read-u16-requires
+    put-byte-requires
+    copy-out-requires
+    same-length
+    returns)
