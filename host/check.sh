@@ -2,6 +2,7 @@
 # Builds the host programs (host/build.sh) and runs every test on them; the last line is 'N passed, M failed'.
 # Usage: host/check.sh [LIBRARY | --stand-in], as for host/build.sh
 # MANUAL names the folder with the manual's examples (stdin) and their trace (stdout); crates/manual unless set.
+# The proved program target/bin/verdict is tested as it stands there: `rt check verdict` builds it, and in the gate `rt ci` has.
 set -eu
 "$(dirname "$0")/build.sh" "$@"
 cd "$(dirname "$0")/.."
@@ -35,11 +36,79 @@ refused() {
 }
 traced() { "$out/trace" < "$manual/stdin" > "$out/trace.out" && cmp "$out/trace.out" "$manual/stdout"; }
 
+# What a verdict program prints and how it ends: says STATUS LINE COMMAND..; an empty LINE is for nothing. Messages go to $out/err.
+says() {
+    status=$1
+    line=$2
+    shift 2
+    got=0
+    "$@" > "$out/said" 2> "$out/err" || got=$?
+    if [ -n "$line" ]; then echo "$line"; fi > "$out/expected"
+    echo "status $got, expected $status"
+    cat "$out/err"
+    cmp "$out/said" "$out/expected" && [ "$got" -eq "$status" ]
+}
+accepted="refusal 0 place 0 task 0 depth 0"
+past_end="refusal 12 place 0 task 0 depth 0"
+no_image="refusal 1 place 0 task 0 depth 0"
+left_over="refusal 4 place 14 task 0 depth 0"
+judge=$out/bias-verdict
+proved=target/bin/verdict
+printf '\001\002\000\000\000\001\125\000\000\000\000\000\000\000' > "$out/a.img"
+printf '\001\002\000\000\000\001\120\000\000\000\000\000\000\000' > "$out/b.img"
+{ cat "$out/a.img" && head -c 1000000 /dev/zero; } > "$out/long.img"
+
+named_file() {
+    says 0 "$accepted" "$judge" "$out/a.img" && says 1 "$past_end" "$judge" "$out/b.img" \
+        && says 1 "$no_image" "$judge" /dev/null && says 1 "$left_over" "$judge" "$out/long.img"
+}
+standard_input() {
+    says 0 "$accepted" "$judge" < "$out/a.img" && says 1 "$past_end" "$judge" < "$out/b.img" \
+        && says 1 "$no_image" "$judge" < /dev/null && says 1 "$left_over" "$judge" < "$out/long.img"
+}
+explained() {
+    says 1 "$past_end" "$judge" --explain "$out/b.img" && grep 'past its last block' "$out/err" \
+        && says 0 "$accepted" "$judge" --explain < "$out/a.img" && grep 'accepted' "$out/err"
+}
+help() { "$judge" --help > "$out/said" 2> "$out/err" && grep '^usage: bias-verdict' "$out/said" && [ ! -s "$out/err" ]; }
+wrong_usage() {
+    says 2 "" "$judge" --wrong "$out/a.img" && grep '^usage: bias-verdict' "$out/err" \
+        && says 2 "" "$judge" "$out/a.img" "$out/b.img" && grep '^usage: bias-verdict' "$out/err"
+}
+unread() {
+    says 2 "" "$judge" "$out/there/is/no.img" && [ -s "$out/err" ] && says 2 "" "$judge" "$out" && [ -s "$out/err" ] \
+        && says 2 "" "$judge" < "$out" && [ -s "$out/err" ]
+}
+# To a device that is full: status 2 and a message.
+full() {
+    got=0
+    "$@" > /dev/full 2> "$out/err" || got=$?
+    [ "$got" -eq 2 ] && [ -s "$out/err" ]
+}
+unwritten() { full "$judge" "$out/a.img" && full "$judge" "$out/b.img" && full "$judge" --help; }
+images() { "$out/verdicts" "$1" "$2" crates/images/stdin crates/images/stdout; }
+proved_alone() {
+    says 0 "$no_image" "$proved" < /dev/null && says 0 "$accepted" "$proved" < "$out/a.img" \
+        && says 0 "$left_over" "$proved" < "$out/long.img"
+}
+proved_usage() { says 0 "" "$proved" "$out/a.img" < "$out/a.img" && grep '^usage: ' "$out/err"; }
+
 try "bias.h in C++" header_in_cpp
 try "the feed image, written by the library" feed
 try "the example's trace of the feed program" example
 try "the example refuses a bad image" refused
 try "the manual's examples on the reference" traced
+try "bias-verdict on a named file" named_file
+try "bias-verdict on standard input" standard_input
+try "bias-verdict --explain" explained
+try "bias-verdict --help" help
+try "bias-verdict, wrong usage" wrong_usage
+try "bias-verdict, what cannot be read" unread
+try "bias-verdict, a full device" unwritten
+try "bias-verdict on the test images" images "$judge" 1
+try "the proved verdict program" proved_alone
+try "the proved verdict program, with an argument" proved_usage
+try "the proved verdict program on the test images" images "$proved" 0
 try "differential tests" "$out/diff"
 try "fuzzing at the border" "$out/fuzz"
 echo "$passed passed, $failed failed"
