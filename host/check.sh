@@ -91,7 +91,7 @@ proved_alone() {
     says 0 "$no_image" "$proved" < /dev/null && says 0 "$accepted" "$proved" < "$out/a.img" \
         && says 0 "$left_over" "$proved" < "$out/long.img"
 }
-proved_usage() { says 0 "" "$proved" "$out/a.img" < "$out/a.img" && grep '^usage: ' "$out/err"; }
+proved_usage() { says 0 "" "$proved" "$out/a.img" < "$out/a.img" && grep -i 'usage' "$out/err"; }
 
 try "bias.h in C++" header_in_cpp
 try "the feed image, written by the library" feed
