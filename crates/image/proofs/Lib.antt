@@ -2,3 +2,4 @@ pub mod Scanning
 pub mod Accepted
 pub mod Read
 pub mod HeaderLaws
+pub mod Longest

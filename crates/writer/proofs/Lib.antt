@@ -2,3 +2,4 @@ pub mod Stores
 pub mod HeaderBytes
 pub mod Judged
 pub mod RoundTrip
+pub mod Longest
