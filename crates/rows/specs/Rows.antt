@@ -283,7 +283,7 @@ rows =
     row (hex 8 3) pairValue noDevice any BPM next ∷  -- 83, p. 171: variable x = variable y - value
     row (hex 8 4) pairValue noDevice any BPM next ∷  -- 84, p. 172: variable x = variable y * value
     row (hex 8 5) pairValue noDevice divisor BPM next ∷  -- 85, p. 173: variable x = variable y / value
-    row (hex 8 6) triple noDevice flagRun BP next ∷  -- 86, p. 174: variable x = z flags from flag y on (DECISIONS R13)
+    row (hex 8 6) triple noDevice flagRun BP next ∷  -- 86, p. 174: variable x = z flags from flag y on (DECISIONS R13b)
     row (hex 8 8) pair noDevice any BPM next ∷  -- 88, p. 176: variable x = variable y
     row (hex 8 9) tripleWord noDevice conditionJump BPM branch ∷  -- 89, p. 177: jump to word if variable x compares by y with variable z
     row (hex 8 10) triple noDevice any BPM next ∷  -- 8A, p. 179: variable x = variable y + variable z

@@ -1,5 +1,5 @@
 // An image loaded and a lent list of steps carried out, by the functions that C calls. What `bias_run` promises of them is the theorem over every list of
-// steps (bias/specs/Theorem.antt). It has no precondition: every byte of the steps is answered, and a step that does not stand whole ends them.
+// steps (demand/specs/Theorem.antt). It has no precondition: every byte of the steps is answered, and a step that does not stand whole ends them.
 use border::BiasVerdict;
 ghost use mathlib.Core.Path.{_≡_};
 ghost use Prim.Native.Nat.{_+_, _≤_};
