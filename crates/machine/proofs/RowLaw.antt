@@ -8,14 +8,13 @@ use lib.ListN.{getD}
 use lib.IntN.{ℤ, pos, negsuc, _+ℤ_, _-ℤ_, _*ℤ_}
 use borrow.Author.Tests.{leb-true}
 use mir.Syntax.{w32}
-use mir.Val.{toZ}
 use Rattle.arith.specs.Wrap.{wrap}
 use Rattle.arith.specs.Ops.{holds, bitAt, eqZ}
 use Rattle.arith.proofs.Cut.{wrap-fits}
 use Rattle.number.proofs.Choice.{clash, both}
 use Rattle.rows.specs.Rows.{hex, rows, rowIn, rowOf}
 use Rattle.operands.specs.declared.Command.{Command}
-use Rattle.command.specs.Judged.{mostSpeed, mostRamp, mostRun, mostLevel, inRange}
+use Rattle.command.specs.Judged.{mostSpeed, mostRamp, mostLevel, inRange}
 use Rattle.flow.specs.Flow.{bias, plc, mathematics, flowBy}
 use Rattle.state.specs.State.{withFlag, withOutput, withAxis, withMark, withPosition, withSpeed, withAcceleration, withDeceleration}
 use Rattle.state.specs.Wait.{longest, mostTime}
@@ -29,7 +28,7 @@ use Rattle.machine.specs.declared.Motion.the-variants.{MoveTo, MoveBy, F
 use Rattle.machine.specs.declared.Outcome.the-variants.{Jump, Call, Return, Start, Restart, End}
 use Rattle.machine.proofs.Every.{All, end, _&_}
 use Rattle.machine.proofs.Rows.{Of, effect-of}
-use Rattle.machine.proofs.Setters.{bit-level, level-level, up-to, small-fits, flags-fit, flag-good, output-good, axis-good, mark-good, position-good, speed-good, acceleration-good, deceleration-good}
+use Rattle.machine.proofs.Setters.{bit-level, level-level, up-to, small-fits, flag-good, output-good, axis-good, mark-good, position-good, speed-good, acceleration-good, deceleration-good}
 use Rattle.machine.proofs.Waits.{rounded}
 use Rattle.machine.proofs.Laws.{Ranged, Lawful, Law, simply, either, flows-law, effect-law, sets-law, assigns-law, jump-law, moves-law, stays-law, waits-lawful, parameter-law, divides-law, waits-variable-law}
 
@@ -119,7 +118,7 @@ rows-keep =
     at (hex 8 3) _ (λ c e g v. assigns-law (hex 8 3) c g v (wrap w32 (variable v (c .y) -ℤ c .value)) May.on (λ _ _ _. wrap-fits w32 (variable v (c .y) -ℤ c .value))) &  -- 83
     at (hex 8 4) _ (λ c e g v. assigns-law (hex 8 4) c g v (wrap w32 (variable v (c .y) *ℤ c .value)) May.on (λ _ _ _. wrap-fits w32 (variable v (c .y) *ℤ c .value))) &  -- 84
     at (hex 8 5) _ (λ c e g v. divides-law (hex 8 5) c g v (variable v (c .y)) (c .value) May.on May.halt (λ z n f. absurd (not-zero (c .value) (ranges-at (hex 8 5) n c e f) z))) &  -- 85
-    at (hex 8 6) _ (λ c e g v. assigns-law (hex 8 6) c g v (toZ w32 (flagNumber (v .flags) (c .y) (c .z))) May.on (λ n f d. flags-fit (v .flags) (d .flag) (c .y) (c .z) (up-to mostRun (c .z) (both _ _ (ranges-at (hex 8 6) n c e (f .ranges)) .0) .bounded))) &  -- 86
+    at (hex 8 6) _ (λ c e g v. assigns-law (hex 8 6) c g v (wrap w32 (pos (flagNumber (v .flags) (c .y) (c .z)))) May.on (λ _ _ _. wrap-fits w32 (pos (flagNumber (v .flags) (c .y) (c .z))))) &  -- 86
     at (hex 8 8) _ (λ c e g v. assigns-law (hex 8 8) c g v (variable v (c .y)) May.on (λ _ _ d. d .signed (c .y))) &  -- 88
     at (hex 8 9) _ (λ c e g v. jump-law (hex 8 9) c g v (holds (c .y) (variable v (c .x)) (variable v (c .z))) (c .word) May.branch May.pass) &  -- 89
     at (hex 8 10) _ (λ c e g v. assigns-law (hex 8 10) c g v (wrap w32 (variable v (c .y) +ℤ variable v (c .z))) May.on (λ _ _ _. wrap-fits w32 (variable v (c .y) +ℤ variable v (c .z)))) &  -- 8A

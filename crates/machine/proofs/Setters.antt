@@ -1,19 +1,15 @@
 -- Good values stay good when a number in range is put into them. Assumes nothing.
-use Prim.Native.Nat.{ℕ, zero, suc, _+_, _^_, _<_, _≤_}
+use Prim.Native.Nat.{ℕ, zero, suc, _≤_}
 use mathlib.Core.Path.{_≡_, sym, _∙_}
 use mathlib.Core.Bool.{Bool, true, false, cond}
 use mathlib.Core.List.{List, [], _∷_}
 use native.Mathlib.Omega.{arith}
-use native.Mathlib.Nat.{pow-suc}
 use lib.Dec.{eqb}
 use lib.ListN.{getD, set, length-set}
 use lib.IntN.{ℤ, pos, negsuc}
 use borrow.Author.Tests.{leb-true, ltb-true}
 use mir.Syntax.{w32}
-use mir.Val.{SFits, toZ}
-use mir.ValLaws.{toZ-fits}
-use lib.Pow.{pow-mono}
-use native.Mathlib.Nat.{lt-of-lt-of-le}
+use mir.Val.{SFits}
 use Rattle.number.proofs.Choice.{clash, both}
 use Rattle.command.specs.Judged.{mostLevel, mostSpeed, mostRamp, upTo}
 use Rattle.state.specs.State.{withVariable, withFlag, withOutput, withAxis, withMark, withNotes, withPosition, withSpeed, withAcceleration, withDeceleration}
@@ -21,7 +17,7 @@ use Rattle.state.specs.Good.{InRange, GoodAxis, GoodValues}
 use Rattle.state.specs.declared.Axis.{Axis}
 use Rattle.state.specs.declared.Values.{Values}
 use Rattle.machine.specs.Given.{level}
-use Rattle.machine.specs.Effect.{bit, natural, within, flagNumber}
+use Rattle.machine.specs.Effect.{bit, natural, within}
 
 -- what holds of a place and of what is stored, somewhere, holds of the place afterwards
 pub kept-set : {A : Type 0} (P : A → Type 0) (l : List A) (i : ℕ) (x d : A) → P x → (j : ℕ) → P (getD l j d) → P (getD (set l i x) j d)
@@ -55,19 +51,6 @@ natural-in most (negsuc n) e = clash (sym e)
 -- parameters are 32-bit numbers
 pub small-fits : (most n : ℕ) → most ≤ mostRamp → InRange most n → SFits w32 (pos n)
 small-fits most n l r = let b = r .bounded in record { sfits = omega arith }
-
--- n levels as bits make a number of n bits
-flags-below : (flags : List ℕ) → ((j : ℕ) → getD flags j 0 ≤ mostLevel) → (k n : ℕ) → flagNumber flags k n < 2 ^ n
-unfolding flagNumber
-flags-below flags h k zero = omega arith
-flags-below flags h k (suc n) =
-    let p = pow-suc 2 n in
-    let a = h k in
-    let b = flags-below flags h (k + 1) n in
-    omega arith
-
-pub flags-fit : (flags : List ℕ) → ((j : ℕ) → getD flags j 0 ≤ mostLevel) → (k n : ℕ) → n ≤ 32 → SFits w32 (toZ w32 (flagNumber flags k n))
-flags-fit flags h k n l = toZ-fits w32 (flagNumber flags k n) (record { fits = lt-of-lt-of-le (flags-below flags h k n) (pow-mono l) })
 
 -- ---- setters
 

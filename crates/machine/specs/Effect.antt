@@ -9,7 +9,6 @@ use lib.ListN.{getD}
 use lib.IntN.{ℤ, pos, negsuc, _+ℤ_, _-ℤ_, _*ℤ_}
 use lib.Signed.{leZ}
 use mir.Syntax.{w32}
-use mir.Val.{toZ}
 use Rattle.arith.specs.Wrap.{wrap}
 use Rattle.arith.specs.Ops.{quotient, holds, bitAt}
 use Rattle.arith.specs.declared.Quotient.{Quotient}
@@ -209,7 +208,7 @@ variableRows =
     row (hex 8 3) (λ g c v. assigns c (wrap w32 (variable v (c .y) -ℤ c .value)) v) ∷  -- 83, p. 171
     row (hex 8 4) (λ g c v. assigns c (wrap w32 (variable v (c .y) *ℤ c .value)) v) ∷  -- 84, p. 172
     row (hex 8 5) (λ g c v. divides c (quotient (variable v (c .y)) (c .value)) v) ∷  -- 85, p. 173
-    row (hex 8 6) (λ g c v. assigns c (toZ w32 (flagNumber (v .flags) (c .y) (c .z))) v) ∷  -- 86, p. 174
+    row (hex 8 6) (λ g c v. assigns c (wrap w32 (pos (flagNumber (v .flags) (c .y) (c .z)))) v) ∷  -- 86, p. 174
     row (hex 8 8) (λ g c v. assigns c (variable v (c .y)) v) ∷  -- 88, p. 176
     row (hex 8 9) (λ g c v. jumpIf (holds (c .y) (variable v (c .x)) (variable v (c .z))) (c .word) v) ∷  -- 89, p. 177
     row (hex 8 10) (λ g c v. assigns c (wrap w32 (variable v (c .y) +ℤ variable v (c .z))) v) ∷  -- 8A, p. 179

@@ -1,1 +1,1 @@
-pub mod Capping
+pub mod Flags

@@ -9,13 +9,11 @@ use state::Values;
 ghost use mathlib.Core.Path.{_≡_};
 ghost use Prim.Native.Nat.{_+_, _*_};
 ghost use lib.ListN.{getD};
-ghost use lib.IntN.{_+ℤ_, _-ℤ_, _*ℤ_};
+ghost use lib.IntN.{pos, _+ℤ_, _-ℤ_, _*ℤ_};
 ghost use mir.Syntax.{w32};
-ghost use mir.Val.{toZ};
-ghost use Rattle.arith.specs.Wrap.{wrap};
+ghost use Rattle.arith.specs.Wrap.{word, wrap};
 ghost use Rattle.arith.specs.Ops.{quotient, holds};
 ghost use Rattle.machine.specs.Given.{givenAt};
-ghost use Rattle.variables.specs.Capped.{capped};
 ghost use Rattle.machine.specs.Effect.{assigns, divides, jumpIf, variable, flagNumber, variableRows, deedIn};
 
 // What a command of this group does; any other leaves its task where it is.
@@ -159,16 +157,16 @@ fn div_variable(c: Command, v: Values) -> Effect
     )
 }
 
-// 86: variable x = z flags from flag y on, the first one lowest.
+// 86: variable x = z flags from flag y on as a number, the first one lowest.
 fn flags_as_number(c: Command, v: Values) -> Effect
-    ensures { λ r. ⌜ r ≡ assigns c (toZ w32 (flagNumber (v .flags) (c .y) (c .z))) v ⌝ }
+    ensures { λ r. ⌜ r ≡ assigns c (wrap w32 (pos (flagNumber (v .flags) (c .y) (c .z)))) v ⌝ }
 {
     effect::assigns(c, arith::value(flag_number(v, c.y, c.z)), v)
 }
 
-// Flags as a number, the first one lowest. More than 32 of them, which 7 refuses, may come to more than the greatest pattern, and are cut to it.
+// The low 32 bits of flags as a number, the first one lowest. 7 refuses more than 32 flags before.
 fn flag_number(v: Values, first: u8, count: u8) -> u32
-    ensures { λ r. ⌜ r ≡ capped (flagNumber (v .flags) first count) ⌝ }
+    ensures { λ r. ⌜ r ≡ word w32 (pos (flagNumber (v .flags) first count)) ⌝ }
 {
     let flags = v.flags;
     let mut number: u32 = 0;
@@ -180,15 +178,12 @@ fn flag_number(v: Values, first: u8, count: u8) -> u32
     number
 }
 
-// The greatest pattern of 32 bits.
-const MOST: u64 = 0xFFFF_FFFF;
-
 // A number with one more flag below it.
 fn with_flag(number: u32, level: u8) -> u32
-    ensures { λ r. ⌜ r ≡ capped (level + 2 * number) ⌝ }
+    ensures { λ r. ⌜ r ≡ word w32 (pos (level + 2 * number)) ⌝ }
 {
-    let sum = level as u64 + 2 * (number as u64);
-    if sum < MOST { sum as u32 } else { MOST as u32 }
+    let twice = std::num::wrapping_add_u32(number, number);
+    std::num::wrapping_add_u32(twice, level as u32)
 }
 
 // A flag by its number; past the last one there is 0.

@@ -4,12 +4,13 @@ use lib.IntN.{ℤ}
 use mir.Val.{toZ}
 use mir.Syntax.{w32}
 use Rattle.arith.proofs.Range.{got}
-use Rattle.machine.specs.Effect.{assigns, flagNumber}
-use Rattle.variables.proofs.Capping.{capped-toZ}
+use Rattle.arith.specs.Wrap.{wrap}
+use Rattle.machine.specs.Effect.{assigns}
 use Rattle.variables.proofs.flags_as_number.Statement.{statement}
 use Rattle.variables.proofs.flags_as_number.Tie as tie
 
 pub flags-as-number-spec : {M : Type 1} → statement M
+unfolding wrap
 flags-as-number-spec =
     tie.close
     (tie.spec
@@ -21,4 +22,4 @@ flags-as-number-spec =
     let o = c .before .value in
     c .assigns .ensures
     ∙ ap (λ (z : ℤ). assigns (a .c) z (a .v))
-    (got w32 (o .ok) (o .ensures ∙ ap (toZ w32) (c .before .before .flag-number .ensures) ∙ capped-toZ (flagNumber (a .v .flags) (a .c .y) (a .c .z))))))
+    (got w32 (o .ok) (o .ensures ∙ ap (toZ w32) (c .before .before .flag-number .ensures)))))
