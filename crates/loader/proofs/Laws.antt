@@ -2,7 +2,7 @@
 -- Assumes nothing.
 use Prim.Native.Nat.{ℕ, zero, suc, _+_, _*_, _/_, _<_, _≤_}
 use mathlib.Core.Path.{_≡_, refl, sym, ap, _∙_}
-use mathlib.Core.Bool.{cond}
+use mathlib.Core.Bool.{Bool, true, false, cond}
 use mathlib.Core.Logic.{inl, inr, ⊎-elim}
 use mathlib.Core.List.{List, [], _∷_}
 use native.Mathlib.Nat.{not-suc-le-zero, le-of-suc-le-suc}
@@ -12,14 +12,20 @@ use lib.ListN.{length, getD, set, length-set, List·getD-eq-default, replicate, 
 use lib.Seq.{getD-set-same, getD-set-other}
 use lib.Dec.{eqb}
 use borrow.Author.Count.{below-more}
+use borrow.Author.Tests.{eqb-true, eqb-false}
+use Rattle.number.proofs.Choice.{clash}
 use Rattle.image.specs.declared.Header.{Header}
 use Rattle.point.specs.declared.Point.{Point}
 use Rattle.program.specs.Numbers.{numbers}
 use Rattle.program.specs.declared.Following.{Following}
 use Rattle.walk.specs.Index.{marksLength, pointAt}
 use Rattle.walk.specs.Successors.{successors, indices, nextOf}
-use Rattle.walk.specs.Graph.{In, Reach}
-use Rattle.loader.specs.Search.{pageLength, pageCount, Paged, Touched, Touches, Going, Visited, Fresh, undone}
+use Rattle.walk.specs.Graph.{In, Reach, has, lesser}
+use Rattle.walk.specs.Verdict.{rootOf, reached}
+use Rattle.walk.proofs.Choice.{has-in, in-has}
+use Rattle.walk.proofs.Least.{lesser-first, lesser-second}
+use Rattle.walk.proofs.Exactly.{exact}
+use Rattle.loader.specs.Search.{pageLength, pageCount, Paged, Board, board, touched, touchedAll, doneAt, visited, Going, Searched, Fresh, Ready}
 
 -- what holds at every place of a list after a store
 at-set : (P : ℕ → ℕ → Type 0) (l : List ℕ) (q v : ℕ) → q < length l → P q v → ((p : ℕ) → (p ≡ q → ⊥) → P p (getD l p 0)) → (p : ℕ) → P p (getD (set l q v) p 0)
@@ -28,6 +34,11 @@ at-set P l q v h same other p = go (ℕ-discrete p q)
     go : Dec (p ≡ q) → P p (getD (set l q v) p 0)
     go (yes e) = rw (e, getD-set-same l q v 0 h) same
     go (no n) = rw (getD-set-other l q p v 0 n) (other p n)
+
+-- how many are not done
+unfoldable pub undone : List ℕ → ℕ
+undone [] = 0
+undone (x ∷ marks) = cond (eqb x 2) 0 1 + undone marks
 
 -- what a mark counts
 weight : ℕ → ℕ
@@ -48,16 +59,16 @@ unfolding weight
 undone-done l p h e = let k = rw e at (undone-set l p 2 h) in omega (arith, k)
 
 -- what a touch of a reached point gives
-pub record Grown (next : ℕ → List ℕ) (root : ℕ) (l l′ d′ : List ℕ) (q cur r : ℕ) : Type 0 where
-  pub going : Going next root l′ r
-  pub marked : getD l′ q 0 ≡ 0 → ⊥
-  pub kept : (p : ℕ) → (getD l p 0 ≡ 0 → ⊥) → getD l′ p 0 ≡ getD l p 0
-  pub same : undone l′ ≡ undone l
-  pub low : r ≤ cur
-  pub paged : Paged l′ d′
+pub record Grown (next : ℕ → List ℕ) (root q : ℕ) (b b′ : Board) : Type 0 where
+  pub going : Going next root (b′ .marks) (b′ .cursor)
+  pub marked : getD (b′ .marks) q 0 ≡ 0 → ⊥
+  pub kept : (p : ℕ) → (getD (b .marks) p 0 ≡ 0 → ⊥) → getD (b′ .marks) p 0 ≡ getD (b .marks) p 0
+  pub same : undone (b′ .marks) ≡ undone (b .marks)
+  pub low : b′ .cursor ≤ b .cursor
+  pub paged : Paged (b′ .marks) (b′ .dirty)
 
 module _ (next : ℕ → List ℕ) (root : ℕ) (l : List ℕ) (cur : ℕ) (g : Going next root l cur) where
-  module _ (q r : ℕ) (h : q < length l) (w : Reach next root q) (d : List ℕ) (k : Paged l d) where
+  module _ (q : ℕ) (h : q < length l) (w : Reach next root q) (d : List ℕ) (k : Paged l d) where
     paged-touch : Paged (set l q 1) (set d (q / pageLength) 1)
     paged-touch =
         let g : q / pageLength < length d = omega (arith, k .pages, g .long) in
@@ -68,10 +79,11 @@ module _ (next : ℕ → List ℕ) (root : ℕ) (l : List ℕ) (cur : ℕ) (g : 
           pages = length-set d (q / pageLength) 1 ∙ k .pages;
         }
 
-    fresh-grown : getD l q 0 ≡ 0 → r ≤ cur → r ≤ q → Grown next root l (set l q 1) (set d (q / pageLength) 1) q cur r
-    fresh-grown e a b = record {
+    fresh-grown : (r : ℕ) → getD l q 0 ≡ 0 → r ≤ cur → r ≤ q → Grown next root q (board l d cur) (board (set l q 1) (set d (q / pageLength) 1) r)
+    fresh-grown r e a b = record {
       going = record {
         long = length-set l q 1 ∙ g .long;
+        kind = at-set (λ p v. v ≤ 2) l q 1 h (omega arith) (λ p n. g .kind p);
         first = at-set (λ p v. p ≡ root → v ≡ 0 → ⊥) l q 1 h (λ i z. omega arith) (λ p n i z. g .first (rw i at z)) (root) refl;
         sound = at-set (λ p v. (v ≡ 0 → ⊥) → Reach next root p) l q 1 h (λ m. w) (λ p n m. g .sound p m);
         closed = λ p s. at-set (λ p v. (v ≡ 0 → ⊥) → (v ≡ 1 → ⊥) → In s (next p) → getD (set l q 1) s 0 ≡ 0 → ⊥) l q 1 h
@@ -87,15 +99,20 @@ module _ (next : ℕ → List ℕ) (root : ℕ) (l : List ℕ) (cur : ℕ) (g : 
       paged = paged-touch;
     }
 
-    pub grown : (l′ d′ : List ℕ) → Touched l l′ d d′ q cur r → Grown next root l l′ d′ q cur r
-    grown l′ d′ (Touched.fresh e s t a b) = rw (s, t) (fresh-grown e a b)
-    grown l′ d′ (Touched.seen m s t e) =
-        rw (s, t, e) (record { going = g; marked = m; kept = λ p n. refl; same = refl; low = omega arith; paged = k })
+    pub grown : Grown next root q (board l d cur) (touched q (board l d cur))
+    unfolding touched
+    grown = go (eqb (getD l q 0) 0) refl
+      where
+        go : (t : Bool) → eqb (getD l q 0) 0 ≡ t
+            → Grown next root q (board l d cur) (cond t (board (set l q 1) (set d (q / pageLength) 1) (lesser q cur)) (board l d cur))
+        go true e = fresh-grown (lesser q cur) (eqb-true (getD l q 0) 0 e) (lesser-second q cur) (lesser-first q cur)
+        go false e = record { going = g; marked = eqb-false (getD l q 0) 0 e; kept = λ p n. refl; same = refl; low = omega arith; paged = k }
 
   -- a point whose followers are all marked is done
   pub done : (p : ℕ) → p < length l → (getD l p 0 ≡ 0 → ⊥) → ((q : ℕ) → In q (next p) → getD l q 0 ≡ 0 → ⊥) → Going next root (set l p 2) cur
   done o h m all = record {
     long = length-set l o 2 ∙ g .long;
+    kind = at-set (λ p v. v ≤ 2) l o 2 h (omega arith) (λ p n. g .kind p);
     first = at-set (λ p v. p ≡ root → v ≡ 0 → ⊥) l o 2 h (λ i z. omega arith) (λ p n i z. g .first (rw i at z)) (root) refl;
     sound = at-set (λ p v. (v ≡ 0 → ⊥) → Reach next root p) l o 2 h (λ k. g .sound o m) (λ p n k. g .sound p k);
     closed = λ p s k j to. at-set (λ s v. (getD l s 0 ≡ 0 → ⊥) → v ≡ 0 → ⊥) l o 2 h (λ t z. omega arith) (λ s n t z. t z) s
@@ -104,7 +121,7 @@ module _ (next : ℕ → List ℕ) (root : ℕ) (l : List ℕ) (cur : ℕ) (g : 
   }
 
   pub onward : (getD l cur 0 ≡ 1 → ⊥) → Going next root l (cur + 1)
-  onward n = record { long = g .long; first = g .first; sound = g .sound; closed = g .closed; past = below-more _ _ (g .past) n }
+  onward n = record { long = g .long; kind = g .kind; first = g .first; sound = g .sound; closed = g .closed; past = below-more _ _ (g .past) n }
 
 -- at the end of the search all that is reached is marked
 module _ (next : ℕ → List ℕ) (root : ℕ) (l : List ℕ) (g : Going next root l marksLength) where
@@ -118,9 +135,26 @@ module _ (next : ℕ → List ℕ) (root : ℕ) (l : List ℕ) (g : Going next r
           out : ¬ (p < marksLength) → length l ≤ p
           out k = omega (arith, g .long)
 
-  pub all-marked : (p : ℕ) → Reach next root p → getD l p 0 ≡ 0 → ⊥
+  all-marked : (p : ℕ) → Reach next root p → getD l p 0 ≡ 0 → ⊥
   all-marked p Reach.begin = g .first
   all-marked p (Reach.step o q w to) = g .closed o p (all-marked o w) (beyond o) to
+
+-- so its marks are those of what walks reach, and of no other
+pub searched : (h : Header) (bs : List ℕ) → Ready h → (l : List ℕ) → Going (nextOf h bs) (rootOf h) l marksLength → Searched h bs l
+searched h bs r l g = record { long = g .long; mark = λ p. go p (has (reached h bs) p) refl }
+  where
+    go : (p : ℕ) (t : Bool) → has (reached h bs) p ≡ t → getD l p 0 ≡ cond t 2 0
+    go p true e =
+        let w = exact h bs (r .most) (r .begins) .sound p (has-in (reached h bs) p e) in
+        let a = all-marked (nextOf h bs) (rootOf h) l g p w in
+        let b = beyond (nextOf h bs) (rootOf h) l g p in
+        let k = g .kind p in
+        omega arith
+    go p false e = none (ℕ-discrete (getD l p 0) 0)
+      where
+        none : Dec (getD l p 0 ≡ 0) → getD l p 0 ≡ 0
+        none (yes z) = z
+        none (no m) = clash (sym (in-has (reached h bs) p (exact h bs (r .most) (r .begins) .whole p (g .sound p m))) ∙ e)
 
 -- a point that is done is not pending
 paged-done : (l d : List ℕ) (o : ℕ) → o < length l → Paged l d → Paged (set l o 2) d
@@ -130,21 +164,22 @@ paged-done l d o h k = record {
 }
 
 -- what the touches of reached points give
-pub record Grew (next : ℕ → List ℕ) (root : ℕ) (l l′ d′ qs : List ℕ) (cur r : ℕ) : Type 0 where
-  pub going : Going next root l′ r
-  pub marked : (q : ℕ) → In q qs → getD l′ q 0 ≡ 0 → ⊥
-  pub kept : (p : ℕ) → (getD l p 0 ≡ 0 → ⊥) → getD l′ p 0 ≡ getD l p 0
-  pub same : undone l′ ≡ undone l
-  pub low : r ≤ cur
-  pub paged : Paged l′ d′
+record Grew (next : ℕ → List ℕ) (root : ℕ) (qs : List ℕ) (b b′ : Board) : Type 0 where
+  going : Going next root (b′ .marks) (b′ .cursor)
+  marked : (q : ℕ) → In q qs → getD (b′ .marks) q 0 ≡ 0 → ⊥
+  kept : (p : ℕ) → (getD (b .marks) p 0 ≡ 0 → ⊥) → getD (b′ .marks) p 0 ≡ getD (b .marks) p 0
+  same : undone (b′ .marks) ≡ undone (b .marks)
+  low : b′ .cursor ≤ b .cursor
+  paged : Paged (b′ .marks) (b′ .dirty)
 
-grew : (next : ℕ → List ℕ) (root : ℕ) {l d l′ d′ qs : List ℕ} {cur r : ℕ} → Touches l d cur qs l′ d′ r → Going next root l cur → Paged l d
-    → ((q : ℕ) → In q qs → Reach next root q × (q < marksLength)) → Grew next root l l′ d′ qs cur r
-grew next root Touches.none g k to = record { going = g; marked = λ q m. absurd m; kept = λ p n. refl; same = refl; low = omega arith; paged = k }
-grew next root (Touches.more {l = l} {d = d} {l₁ = l₁} {d₁ = d₁} {q = q} {cur = cur} {r = r} t ts) g k to =
+grew : (next : ℕ → List ℕ) (root : ℕ) (qs : List ℕ) (b : Board) → Going next root (b .marks) (b .cursor) → Paged (b .marks) (b .dirty)
+    → ((q : ℕ) → In q qs → Reach next root q × (q < marksLength)) → Grew next root qs b (touchedAll qs b)
+unfolding touchedAll
+grew next root [] b g k to = record { going = g; marked = λ q m. absurd m; kept = λ p n. refl; same = refl; low = omega arith; paged = k }
+grew next root (q ∷ qs) b g k to =
     let w = to q (inl refl) in
-    let u = grown next root l cur g q r (omega (arith, g .long, w .1)) (w .0) d k l₁ d₁ t in
-    let v = grew next root ts (u .going) (u .paged) (λ o m. to o (inr m)) in
+    let u = grown next root (b .marks) (b .cursor) g q (omega (arith, g .long, w .1)) (w .0) (b .dirty) k in
+    let v = grew next root qs (touched q b) (u .going) (u .paged) (λ o m. to o (inr m)) in
     record {
       going = v .going;
       marked = λ o m z. ⊎-elim (λ i. u .marked (sym (v .kept q (u .marked)) ∙ (rw i at z))) (λ n. v .marked o n z) m;
@@ -154,24 +189,39 @@ grew next root (Touches.more {l = l} {d = d} {l₁ = l₁} {d₁ = d₁} {q = q}
       paged = v .paged;
     }
 
+-- after a visit of p: one more is done, and the cursor is not past p
+pub record Visited (next : ℕ → List ℕ) (root : ℕ) (l : List ℕ) (p : ℕ) (b : Board) : Type 0 where
+  pub going : Going next root (b .marks) (b .cursor)
+  pub less : undone (b .marks) < undone l
+  pub low : b .cursor ≤ p
+  pub paged : Paged (b .marks) (b .dirty)
+
 -- a visit: the points that follow are touched, and the point is done
-pub visited : (next : ℕ → List ℕ) (root : ℕ) → ((q : ℕ) → Reach next root q → q < marksLength) → (l : List ℕ) (p : ℕ) → Going next root l p → getD l p 0 ≡ 1
-    → (d : List ℕ) → Paged l d → (qs : List ℕ) → qs ≡ next p → {l₁ d₁ : List ℕ} {r : ℕ} → Touches l d p qs l₁ d₁ r → Visited next root l (set l₁ p 2) d₁ p r
-visited next root inside l p g e d k qs s {l₁} {d₁} {r} ts =
+pub visit-keeps : (next : ℕ → List ℕ) (root : ℕ) → ((q : ℕ) → Reach next root q → q < marksLength) → (l d : List ℕ) (p : ℕ) → Going next root l p → getD l p 0 ≡ 1
+    → Paged l d → (b : Board) → b ≡ visited next p (board l d p) → Visited next root l p b
+unfolding visited
+visit-keeps next root inside l d p g e k b s =
     let m : getD l p 0 ≡ 0 → ⊥ = λ z. omega arith in
-    let u = grew next root ts g k (λ q t. let w = Reach.step p q (g .sound p m) (rw s at t) in (w, inside q w)) in
-    let e₁ : getD l₁ p 0 ≡ 1 = u .kept p m ∙ e in
-    let long : p < length l₁ = omega (arith, u .going .long, inside p (g .sound p m)) in
-    record {
-      going = done next root l₁ r (u .going) p long (λ z. omega arith) (λ q t z. u .marked q (rw (← s) at t) z);
-      less = omega (arith, undone-done l₁ p long e₁, u .same);
+    let b₁ = touchedAll (next p) (board l d p) in
+    let u = grew next root (next p) (board l d p) g k (λ q t. let w = Reach.step p q (g .sound p m) t in (w, inside q w)) in
+    let e₁ : getD (b₁ .marks) p 0 ≡ 1 = u .kept p m ∙ e in
+    let long : p < length (b₁ .marks) = omega (arith, u .going .long, inside p (g .sound p m)) in
+    rw s
+    (record {
+      going = done next root (b₁ .marks) (b₁ .cursor) (u .going) p long (λ z. omega arith) (λ q t z. u .marked q t z);
+      less = omega (arith, undone-done (b₁ .marks) p long e₁, u .same);
       low = u .low;
-      paged = paged-done l₁ d₁ p long (u .paged);
-    }
+      paged = paged-done (b₁ .marks) (b₁ .dirty) p long (u .paged);
+    })
+
+-- a board after the touches of the points that were found to follow p, and with p done
+pub visit-is : (next : ℕ → List ℕ) (p : ℕ) (qs : List ℕ) (b b₁ : Board) → qs ≡ next p → b₁ ≡ touchedAll qs b → doneAt p b₁ ≡ visited next p b
+unfolding visited
+visit-is next p qs b b₁ s e = ap (doneAt p) (e ∙ ap (λ (is : List ℕ). touchedAll is b) s)
 
 -- the cursor skips a clean page
 pub skipped : (next : ℕ → List ℕ) (root : ℕ) (l d : List ℕ) (cur r : ℕ) → Going next root l cur → Paged l d → getD d (cur / pageLength) 0 ≡ 0 → r ≤ cur / pageLength * pageLength + pageLength → Going next root l r
-skipped next root l d cur r g k e h = record { long = g .long; first = g .first; sound = g .sound; closed = g .closed; past = past }
+skipped next root l d cur r g k e h = record { long = g .long; kind = g .kind; first = g .first; sound = g .sound; closed = g .closed; past = past }
   where
     past : (p : ℕ) → p < r → getD l p 0 ≡ 1 → ⊥
     past p i z = go (decLt p cur)
@@ -212,12 +262,17 @@ cleared l first e h none =
 pub begun : (next : ℕ → List ℕ) (root : ℕ) (l : List ℕ) → Fresh root l → Going next root l 0
 begun next root l f = record {
   long = f .long;
+  kind = λ p. few p (ℕ-discrete p root);
   first = λ z. omega arith;
   sound = λ p m. only p (λ k. m (f .others p k));
   closed = λ p q m n. absurd (m (f .others p (λ k. n (ap (λ (k : ℕ). getD l k 0) k ∙ f .pending))));
   past = λ p h. omega arith;
 }
   where
+    few : (p : ℕ) → Dec (p ≡ root) → getD l p 0 ≤ 2
+    few p (yes e) = rw e (omega (arith, f .pending))
+    few p (no n) = omega (arith, f .others p n)
+
     only : (p : ℕ) → ¬ ¬ (p ≡ root) → Reach next root p
     only p n = go (ℕ-discrete p (root))
       where

@@ -16,7 +16,8 @@ use Rattle.point.specs.declared.Point.{Point}
 use Rattle.fault.specs.declared.Fault.{Fault}
 use Rattle.walk.specs.Program.{faultAt}
 use Rattle.walk.specs.Index.{marksLength, pointAt}
-use Rattle.walk.specs.Graph.{Reach, lesser, least}
+use Rattle.walk.specs.Graph.{In, Reach, has, lesser, least}
+use Rattle.walk.proofs.Choice.{test, has-in, in-has}
 use Rattle.walk.specs.Successors.{nextOf}
 use Rattle.fault.specs.Fault.{isForeign, isBad}
 use Rattle.walk.specs.Verdict.{rootOf, reached, leastForeign, leastBad}
@@ -24,8 +25,7 @@ use Rattle.walk.proofs.IndexLaws.{has-point}
 use Rattle.walk.proofs.Least.{least-only}
 use Rattle.walk.proofs.History.{number-inside}
 use Rattle.walk.proofs.Exactly.{exact}
-use Rattle.loader.specs.Search.{Ready, Going, lowered}
-use Rattle.loader.proofs.Laws.{all-marked}
+use Rattle.loader.specs.Search.{Ready, Searched, lowered}
 
 -- the keys: the block of a number's point, and the number itself
 abbrev pub blockOf : ℕ → ℕ
@@ -84,7 +84,14 @@ module _ (h : Header) (bs : List ℕ) where
       go true e = least-lower marks foreignAt blockOf mostBlocks i m s k e
       go false e = least-kept marks foreignAt blockOf mostBlocks i m s (λ _ t. clash (sym t ∙ e))
 
-  module _ (r : Ready h) (marks : List ℕ) (g : Going (nextOf h bs) (rootOf h) marks marksLength) where
+  module _ (r : Ready h) (marks : List ℕ) (g : Searched h bs marks) where
+    -- what is marked is reached
+    marked-in : (p : ℕ) → (getD marks p 0 ≡ 0 → ⊥) → In p (reached h bs)
+    marked-in p m = test (has (reached h bs) p) (λ e. has-in (reached h bs) p e) (λ e. absurd (m (g .mark p ∙ rw e refl)))
+
+    in-marked : (p : ℕ) → In p (reached h bs) → getD marks p 0 ≡ 0 → ⊥
+    in-marked p k z = let e : _≡_ {A = ℕ} 0 2 = sym z ∙ g .mark p ∙ rw (in-has (reached h bs) p k) refl in omega arith
+
     inside : (p : ℕ) → Reach (nextOf h bs) (rootOf h) p → p < marksLength
     inside = number-inside h bs (r .most) (r .begins)
 
@@ -93,9 +100,9 @@ module _ (h : Header) (bs : List ℕ) where
     least-marked test key none bound m s =
         let x = exact h bs (r .most) (r .begins) in
         least-only test key none (reached h bs) (λ p k. bound p (inside p (x .sound p k))) m
-        (λ p k t. s .below p (inside p (x .sound p k)) (all-marked (nextOf h bs) (rootOf h) marks g p (x .sound p k)) t)
+        (λ p k t. s .below p (inside p (x .sound p k)) (in-marked p k) t)
         (⊎-elim (λ e. inl e)
-        (λ k. inr (record { at = k .at; member = x .whole (k .at) (g .sound (k .at) (k .marked)); passes = k .passes; key-is = k .key-is }))
+        (λ k. inr (record { at = k .at; member = marked-in (k .at) (k .marked); passes = k .passes; key-is = k .key-is }))
         (s .found))
 
     pub foreign-is : (m : ℕ) → LeastSo marks foreignAt blockOf mostBlocks marksLength m → m ≡ leastForeign h bs (reached h bs)
@@ -127,7 +134,7 @@ pub fault-bad : (h : Header) (bs : List ℕ) (i : ℕ) (p : Point) (f : Fault) �
 fault-bad h bs i p f e k b = ap isBad (sym (fault-is h bs i p f e k)) ∙ b
 
 -- the first bad point: none before it is bad
-pub first-bad : (h : Header) (bs : List ℕ) (r : Ready h) (marks : List ℕ) (g : Going (nextOf h bs) (rootOf h) marks marksLength) (i : ℕ)
+pub first-bad : (h : Header) (bs : List ℕ) (r : Ready h) (marks : List ℕ) (g : Searched h bs marks) (i : ℕ)
     → LeastSo marks (badAt h bs) self marksLength i marksLength → (getD marks i 0 ≡ 0 → ⊥) → badAt h bs i ≡ true → i ≡ leastBad h bs (reached h bs)
 first-bad h bs r marks g i s m b = bad-is h bs r marks g i (record { below = below; found = inr (record { at = i; marked = m; passes = b; key-is = refl }) })
   where

@@ -1,4 +1,4 @@
--- The search's own invariants. A mark is 0 for a point not seen, 1 for one that is pending, any other for one that is done; a page of marks is
+-- The search's own values and invariants. A mark is 0 for a point not seen, 1 for one that is pending, 2 for one that is done; a page of marks is
 -- clean (0) or dirty, and a pending point is on a dirty page. Assumes nothing.
 use Prim.Native.Nat.{ℕ, _+_, _-_, _/_, _<_, _≤_}
 use mathlib.Core.Path.{_≡_}
@@ -11,7 +11,8 @@ use Rattle.image.specs.declared.Header.{Header}
 use Rattle.fault.specs.Fault.{isForeign}
 use Rattle.walk.specs.Program.{blockNumber, faultAt}
 use Rattle.walk.specs.Index.{marksLength, pointAt}
-use Rattle.walk.specs.Graph.{In, Reach, lesser}
+use Rattle.walk.specs.Graph.{In, Reach, has, lesser}
+use Rattle.walk.specs.Verdict.{reached}
 
 -- marks to a page, and pages
 abbrev pub pageLength : ℕ
@@ -29,36 +30,52 @@ pub record Paged (marks dirty : List ℕ) : Type 0 where
   pub known : (p : ℕ) → getD marks p 0 ≡ 1 → getD dirty (p / pageLength) 0 ≡ 1
   pub pages : length dirty ≡ pageCount
 
--- a point q is touched: marked as pending where it was not seen; the cursor, if it was behind q, goes back to it
-pub data Touched (l l′ d d′ : List ℕ) (q cur r : ℕ) : Type 0 where
-  fresh : getD l q 0 ≡ 0 → l′ ≡ set l q 1 → d′ ≡ set d (q / pageLength) 1 → r ≤ cur → r ≤ q → Touched l l′ d d′ q cur r
-  seen : (getD l q 0 ≡ 0 → ⊥) → l′ ≡ l → d′ ≡ d → r ≡ cur → Touched l l′ d d′ q cur r
+-- what a search works on: marks, pages, and the cursor
+pub record Board : Type 0 where
+  pub marks : List ℕ
+  pub dirty : List ℕ
+  pub cursor : ℕ
+
+abbrev pub board : List ℕ → List ℕ → ℕ → Board
+board marks dirty cursor = record { marks = marks; dirty = dirty; cursor = cursor }
+
+-- a point q is touched: where it was not seen it is pending, its page is dirty, and the cursor is not past it
+unfoldable pub touched : ℕ → Board → Board
+touched q b =
+    cond (eqb (getD (b .marks) q 0) 0)
+    (board (set (b .marks) q 1) (set (b .dirty) (q / pageLength) 1) (lesser q (b .cursor)))
+    b
 
 -- the points of a list are touched one after the other
-pub data Touches : List ℕ → List ℕ → ℕ → List ℕ → List ℕ → List ℕ → ℕ → Type 0 where
-  none : {l d : List ℕ} {cur : ℕ} → Touches l d cur [] l d cur
-  more : {l d l₁ d₁ l₂ d₂ qs : List ℕ} {q cur r o : ℕ} → Touched l l₁ d d₁ q cur r → Touches l₁ d₁ r qs l₂ d₂ o → Touches l d cur (q ∷ qs) l₂ d₂ o
+unfoldable pub touchedAll : List ℕ → Board → Board
+touchedAll [] b = b
+touchedAll (q ∷ qs) b = touchedAll qs (touched q b)
+
+abbrev pub doneAt : ℕ → Board → Board
+doneAt p b = board (set (b .marks) p 2) (b .dirty) (b .cursor)
+
+-- a point p is visited: the points that follow it are touched, and p is done
+unfoldable pub visited : (ℕ → List ℕ) → ℕ → Board → Board
+visited next p b = doneAt p (touchedAll (next p) b)
 
 -- the search under way, with the cursor: what is marked is reached, what follows a point that is done is marked, and nothing before the cursor
 -- is pending
 pub record Going (next : ℕ → List ℕ) (root : ℕ) (marks : List ℕ) (cursor : ℕ) : Type 0 where
   pub long : length marks ≡ marksLength
+  pub kind : (p : ℕ) → getD marks p 0 ≤ 2
   pub first : getD marks root 0 ≡ 0 → ⊥
   pub sound : (p : ℕ) → (getD marks p 0 ≡ 0 → ⊥) → Reach next root p
   pub closed : (p q : ℕ) → (getD marks p 0 ≡ 0 → ⊥) → (getD marks p 0 ≡ 1 → ⊥) → In q (next p) → getD marks q 0 ≡ 0 → ⊥
   pub past : (p : ℕ) → p < cursor → getD marks p 0 ≡ 1 → ⊥
 
--- how many are not done
-unfoldable pub undone : List ℕ → ℕ
-undone [] = 0
-undone (x ∷ marks) = cond (eqb x 2) 0 1 + undone marks
+-- the search is over: the points that walks reach are done, and no other was seen
+pub record Searched (h : Header) (bs marks : List ℕ) : Type 0 where
+  pub long : length marks ≡ marksLength
+  pub mark : (p : ℕ) → getD marks p 0 ≡ cond (has (reached h bs) p) 2 0
 
--- after a visit of p: one more is done, and the cursor is not behind p
-pub record Visited (next : ℕ → List ℕ) (root : ℕ) (l l′ d′ : List ℕ) (p r : ℕ) : Type 0 where
-  pub going : Going next root l′ r
-  pub less : undone l′ < undone l
-  pub low : r ≤ p
-  pub paged : Paged l′ d′
+-- the pages after a search: as many as before; which of them are still dirty is free
+pub record FreePages (dirty : List ℕ) : Type 0 where
+  pub pages : length dirty ≡ pageCount
 
 -- the first point is pending, and no other is marked
 pub record Fresh (first : ℕ) (marks : List ℕ) : Type 0 where

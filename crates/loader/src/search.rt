@@ -14,7 +14,7 @@ ghost use Rattle.walk.specs.Index.{marksLength, pointAt};
 ghost use Rattle.walk.specs.Successors.{nextOf};
 ghost use Rattle.walk.specs.Verdict.{rootOf, reached, leastForeign, leastBad, verdictBy, walksVerdict};
 ghost use Rattle.loader.specs.After.{After};
-ghost use Rattle.loader.specs.Search.{Ready, Paged, Touched, Going, Visited, Fresh, lowered};
+ghost use Rattle.loader.specs.Search.{Ready, Paged, board, touched, visited, Going, Searched, FreePages, Fresh, lowered};
 
 // Marks to a page, and pages.
 const PAGE_LENGTH: usize = 256;
@@ -44,6 +44,7 @@ fn search(header: Header, blocks: &[u8], marks: &mut [u8]) -> Verdict
     requires { ⌜ Ready header ⌝ }
     requires { ⌜ length (now marks) ≡ marksLength ⌝ }
     ensures { λ r. ⌜ r ≡ walksVerdict header (now (blocks .entry)) ⌝ }
+    ensures { λ _. ⌜ Searched header (now (blocks .entry)) (now (marks .exit)) ⌝ }
 {
     clear(marks, root(header));
     let mut dirty = [1u8; PAGE_COUNT];
@@ -77,7 +78,8 @@ fn walk(header: Header, blocks: &[u8], marks: &mut [u8], dirty: &mut [u8; PAGE_C
     requires { ⌜ Ready header ⌝ }
     requires { ⌜ Paged (now marks) (now dirty) ⌝ }
     requires { ⌜ Going (nextOf header (now blocks)) (rootOf header) (now marks) 0 ⌝ }
-    ensures { λ _. ⌜ Going (nextOf header (now (blocks .entry))) (rootOf header) (now (marks .exit)) marksLength ⌝ }
+    ensures { λ _. ⌜ Searched header (now (blocks .entry)) (now (marks .exit)) ⌝ }
+    ensures { λ _. ⌜ FreePages (now (dirty .exit)) ⌝ }
 {
     let mut cursor = 0;
     while cursor < MARKS_LENGTH {
@@ -113,8 +115,7 @@ fn visit(
     requires { ⌜ Going (nextOf header (now blocks)) (rootOf header) (now marks) p ⌝ }
     requires { ⌜ p < marksLength ⌝ }
     requires { ⌜ getD (now marks) p 0 ≡ 1 ⌝ }
-    requires { ⌜ Paged (now marks) (now dirty) ⌝ }
-    ensures { λ r. ⌜ Visited (nextOf header (now (blocks .entry))) (rootOf header) (now (marks .entry)) (now (marks .exit)) (now (dirty .exit)) p r ⌝ }
+    ensures { λ r. ⌜ board (now (marks .exit)) (now (dirty .exit)) r ≡ visited (nextOf header (now (blocks .entry))) p (board (now (marks .entry)) (now (dirty .entry)) p) ⌝ }
 {
     match program::follow(header, blocks, point_at(p)) {
         Following::Nothing => {
@@ -135,11 +136,11 @@ fn visit(
     }
 }
 
-// Marks q as pending where it was not seen, and its page as dirty. Returns the cursor, at most q then.
+// Marks q as pending where it was not seen, and its page as dirty. Returns the cursor: the lesser of the two then.
 fn touch(marks: &mut [u8], dirty: &mut [u8; PAGE_COUNT], q: usize, cursor: usize) -> usize
     requires { ⌜ q < length (now marks) ⌝ }
     requires { ⌜ q < marksLength ⌝ }
-    ensures { λ r. ⌜ Touched (now (marks .entry)) (now (marks .exit)) (now (dirty .entry)) (now (dirty .exit)) q cursor r ⌝ }
+    ensures { λ r. ⌜ board (now (marks .exit)) (now (dirty .exit)) r ≡ touched q (board (now (marks .entry)) (now (dirty .entry)) cursor) ⌝ }
 {
     if marks[q] == NOT_SEEN {
         marks[q] = PENDING;
@@ -168,7 +169,7 @@ fn point_at(i: usize) -> Point
 // The least of what is marked: the least foreign block, or else the least bad point.
 fn least(header: Header, blocks: &[u8], marks: &[u8]) -> Verdict
     requires { ⌜ Ready header ⌝ }
-    requires { ⌜ Going (nextOf header (now blocks)) (rootOf header) (now marks) marksLength ⌝ }
+    requires { ⌜ Searched header (now blocks) (now marks) ⌝ }
     ensures { λ r. ⌜ r ≡ walksVerdict header (now (blocks .entry)) ⌝ }
 {
     let foreign = least_foreign(header, blocks, marks);
@@ -179,7 +180,7 @@ fn least(header: Header, blocks: &[u8], marks: &[u8]) -> Verdict
 // The least block of a marked point with a 51 that ends another task; MOST_BLOCKS where there is none.
 fn least_foreign(header: Header, blocks: &[u8], marks: &[u8]) -> usize
     requires { ⌜ Ready header ⌝ }
-    requires { ⌜ Going (nextOf header (now blocks)) (rootOf header) (now marks) marksLength ⌝ }
+    requires { ⌜ Searched header (now blocks) (now marks) ⌝ }
     ensures { λ r. ⌜ r ≡ leastForeign header (now (blocks .entry)) (reached header (now (blocks .entry))) ⌝ }
 {
     let mut found = reader::MOST_BLOCKS as usize;
@@ -213,7 +214,7 @@ fn lower(header: Header, blocks: &[u8], i: usize, found: usize) -> usize
 // The least marked point that is bad; MARKS_LENGTH where there is none.
 fn least_bad(header: Header, blocks: &[u8], marks: &[u8]) -> usize
     requires { ⌜ Ready header ⌝ }
-    requires { ⌜ Going (nextOf header (now blocks)) (rootOf header) (now marks) marksLength ⌝ }
+    requires { ⌜ Searched header (now blocks) (now marks) ⌝ }
     ensures { λ r. ⌜ r ≡ leastBad header (now (blocks .entry)) (reached header (now (blocks .entry))) ⌝ }
 {
     let mut i = 0;

@@ -4,7 +4,7 @@ use mathlib.Core.Path.{_≡_, refl, sym}
 use mathlib.Core.Bool.{Bool, true, false, _&&_, _||_}
 use mathlib.Core.Logic.{_⊎_, inl, inr, ⊎-elim}
 use mathlib.Core.List.{List, [], _∷_, _++_}
-use borrow.Author.Tests.{eqb-true}
+use borrow.Author.Tests.{eqb-true, eq-eqb}
 use lib.Dec.{eqb}
 use Rattle.number.proofs.Choice.{clash}
 use Rattle.walk.specs.Graph.{In, has}
@@ -13,6 +13,10 @@ use Rattle.walk.specs.Graph.{In, has}
 pub or-is : (a b : Bool) → (a || b) ≡ true → (a ≡ true) ⊎ (b ≡ true)
 or-is true b e = inl refl
 or-is false b e = inr e
+
+pub or-right : (a : Bool) → (a || true) ≡ true
+or-right true = refl
+or-right false = refl
 
 -- none of two
 pub neither : (a b : Bool) → (a || b) ≡ false → (a ≡ false) × (b ≡ false)
@@ -37,6 +41,11 @@ test false f g = g refl
 pub has-in : (xs : List ℕ) (q : ℕ) → has xs q ≡ true → In q xs
 has-in [] q e = clash (sym e)
 has-in (x ∷ xs) q e = ⊎-elim (λ i. inl (eqb-true q x i)) (λ m. inr (has-in xs q m)) (or-is (eqb q x) (has xs q) e)
+
+pub in-has : (xs : List ℕ) (q : ℕ) → In q xs → has xs q ≡ true
+in-has [] q m = absurd m
+in-has (x ∷ xs) q (inl e) = rw (eq-eqb q x e)
+in-has (x ∷ xs) q (inr m) = rw (in-has xs q m) (or-right (eqb q x))
 
 module _ {A : Type 0} where
   pub in-left : (xs ys : List A) (q : A) → In q xs → In q (xs ++ ys)

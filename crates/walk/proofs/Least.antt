@@ -10,14 +10,14 @@ use borrow.Author.Tests.{ltb-true, ltb-false}
 use Rattle.number.proofs.Choice.{clash}
 use Rattle.walk.specs.Graph.{In, lesser, least}
 
-lesser-first : (a b : ℕ) → lesser a b ≤ a
+pub lesser-first : (a b : ℕ) → lesser a b ≤ a
 lesser-first a b = go (ltb a b) refl
   where
     go : (t : Bool) → ltb a b ≡ t → cond t a b ≤ a
     go true e = omega arith
     go false e = let h = ltb-false a b e in omega arith
 
-lesser-second : (a b : ℕ) → lesser a b ≤ b
+pub lesser-second : (a b : ℕ) → lesser a b ≤ b
 lesser-second a b = go (ltb a b) refl
   where
     go : (t : Bool) → ltb a b ≡ t → cond t a b ≤ b

@@ -27,7 +27,7 @@ returns : tie.Need-returns
 returns c =
     let s = c .before .before .before .before .before .before in
     let r = c .before .before .search in
-    (r .ensures, after-front (s .args .n) (now (s .args .marks)) (r .last .1 .1 .0) (s .pre .1 .1) (r .kept .1 .1 .0))
+    (r .ensures .0, after-front (s .args .n) (now (s .args .marks)) (r .last .1 .1 .0) (s .pre .1 .1) (r .kept .1 .1 .0))
 
 pub judge-walks-spec : {M : Type 1} → statement M
 judge-walks-spec =

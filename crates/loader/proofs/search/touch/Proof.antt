@@ -1,7 +1,6 @@
 -- `touch` meets its contract by its tests. Assumes nothing.
-use mathlib.Core.Path.{refl}
-use native.Mathlib.Omega.{arith}
-use Rattle.loader.specs.Search.{Touched}
+use borrow.Author.Tests.{eq-eqb, ne-eqb, lt-ltb, le-ltb}
+use Rattle.loader.specs.Search.{touched}
 use borrow.Author.Needs.{needs}
 use Rattle.loader.proofs.search.touch.Statement.{statement}
 use Rattle.loader.proofs.search.touch.Tie as tie
@@ -19,16 +18,19 @@ same-length : tie.Need-same-length
 same-length c = search needs
 
 returns : tie.Need-returns
-returns c = Touched.fresh (c .before .if1 .taken) refl refl (omega arith) (omega arith)
+unfolding touched
+returns c = rw (eq-eqb _ _ (c .before .if1 .taken), lt-ltb _ _ (c .if2 .taken))
 
 same-length-2 : tie.Need-same-length-2
 same-length-2 c = search needs
 
 returns-2 : tie.Need-returns-2
-returns-2 c = Touched.fresh (c .before .if1 .taken) refl refl (omega arith) (omega arith)
+unfolding touched
+returns-2 c = rw (eq-eqb _ _ (c .before .if1 .taken), le-ltb _ _ (c .if2 .left))
 
 returns-3 : tie.Need-returns-3
-returns-3 c = Touched.seen (c .if1 .left) refl refl refl
+unfolding touched
+returns-3 c = rw (ne-eqb _ _ (c .if1 .left))
 
 pub touch-spec : {M : Type 1} → statement M
 touch-spec =

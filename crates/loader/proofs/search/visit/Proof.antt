@@ -8,8 +8,8 @@ use Rattle.walk.specs.Successors.{nextOf}
 use Rattle.walk.specs.Verdict.{rootOf}
 use Rattle.walk.proofs.History.{number-inside}
 use Rattle.program.specs.Numbers.{numbers}
-use Rattle.loader.specs.Search.{Touches}
-use Rattle.loader.proofs.Laws.{visited, touch-inside}
+use Rattle.loader.specs.Search.{touched, touchedAll}
+use Rattle.loader.proofs.Laws.{visit-is, touch-inside}
 use borrow.Author.Needs.{needs}
 use Rattle.loader.proofs.Laws.{follow-next}
 use Rattle.loader.proofs.search.visit.Statement.{statement}
@@ -36,7 +36,7 @@ touch-requires c κs =
     let h = s .args .header in
     let bs = now (s .args .blocks) in
     let a = c .before .before .before .a .given in
-    let i = touch-inside (nextOf h bs) (rootOf h) (number-inside h bs (s .pre .0 .most) (s .pre .0 .begins)) _ _ (s .pre .1 .0) (s .pre .1 .1 .1 .0) _
+    let i = touch-inside (nextOf h bs) (rootOf h) (number-inside h bs (s .pre .0 .most) (s .pre .0 .begins)) _ _ (s .pre .1 .0) (s .pre .1 .1 .1) _
     (sym (ap numbers (a .1)) ∙ follow-next h bs (s .args .p) _ (c .before .before .before .before .before .follow .result) (c .before .before .before .before .before .before .point-at .ensures) (c .before .before .before .before .before .follow .ensures)) (a .0 .0) (inl refl) in
     (omega (arith, s .pre .1 .0 .long), i)
 
@@ -52,7 +52,7 @@ touch-requires-2 c κs =
     let h = s .args .header in
     let bs = now (s .args .blocks) in
     let a = c .before .before .before .a2 .given in
-    let i = touch-inside (nextOf h bs) (rootOf h) (number-inside h bs (s .pre .0 .most) (s .pre .0 .begins)) _ _ (s .pre .1 .0) (s .pre .1 .1 .1 .0) _
+    let i = touch-inside (nextOf h bs) (rootOf h) (number-inside h bs (s .pre .0 .most) (s .pre .0 .begins)) _ _ (s .pre .1 .0) (s .pre .1 .1 .1) _
     (sym (ap numbers (a .1)) ∙ follow-next h bs (s .args .p) _ (c .before .before .before .before .before .follow .result) (c .before .before .before .before .before .before .point-at .ensures) (c .before .before .before .before .before .follow .ensures)) (a .0 .0) (inl refl) in
     (omega (arith, s .pre .1 .0 .long), i)
 
@@ -62,7 +62,7 @@ touch-requires-3 c κs =
     let h = s .args .header in
     let bs = now (s .args .blocks) in
     let a = c .before .before .before .before .before .before .before .before .a2 .given in
-    let i = touch-inside (nextOf h bs) (rootOf h) (number-inside h bs (s .pre .0 .most) (s .pre .0 .begins)) _ _ (s .pre .1 .0) (s .pre .1 .1 .1 .0) _
+    let i = touch-inside (nextOf h bs) (rootOf h) (number-inside h bs (s .pre .0 .most) (s .pre .0 .begins)) _ _ (s .pre .1 .0) (s .pre .1 .1 .1) _
     (sym (ap numbers (a .1)) ∙ follow-next h bs (s .args .p) _ (c .before .before .before .before .before .before .before .before .before .before .follow .result) (c .before .before .before .before .before .before .before .before .before .before .before .point-at .ensures) (c .before .before .before .before .before .before .before .before .before .before .follow .ensures)) (a .0 .1 .0) (inr (inl refl)) in
     (omega (arith, s .pre .1 .0 .long, c .before .before .before .before .touch2 .kept .0), i)
 
@@ -73,40 +73,43 @@ same-length : tie.Need-same-length
 same-length c = search needs
 
 returns : tie.Need-returns
+unfolding touchedAll
 returns c =
     let s = c .before .before .before .before .before .before in
     let h = s .args .header in
     let bs = now (s .args .blocks) in
     let to = sym (ap numbers (c .enum-told .given .1)) in
-    visited (nextOf h bs) (rootOf h) (number-inside h bs (s .pre .0 .most) (s .pre .0 .begins)) (now (s .args .marks)) (s .args .p) (s .pre .1 .0) (s .pre .1 .1 .1 .0) _ (s .pre .1 .1 .1 .1) _
+    visit-is (nextOf h bs) (s .args .p) _ _ _
     (to ∙ follow-next h bs (s .args .p) _ (c .before .before .follow .result) (c .before .before .before .point-at .ensures) (c .before .before .follow .ensures))
-    Touches.none
+    refl
 
 same-length-2 : tie.Need-same-length-2
 same-length-2 c = search needs
 
 returns-2 : tie.Need-returns-2
+unfolding touchedAll
 returns-2 c =
     let s = c .before .before .before .before .before .before .before .before .before .before .before .before in
     let h = s .args .header in
     let bs = now (s .args .blocks) in
     let to = sym (ap numbers (c .before .before .before .before .before .before .a .given .1)) in
-    visited (nextOf h bs) (rootOf h) (number-inside h bs (s .pre .0 .most) (s .pre .0 .begins)) (now (s .args .marks)) (s .args .p) (s .pre .1 .0) (s .pre .1 .1 .1 .0) _ (s .pre .1 .1 .1 .1) _
+    visit-is (nextOf h bs) (s .args .p) _ _ _
     (to ∙ follow-next h bs (s .args .p) _ (c .before .before .before .before .before .before .before .before .follow .result) (c .before .before .before .before .before .before .before .before .before .point-at .ensures) (c .before .before .before .before .before .before .before .before .follow .ensures))
-    (Touches.more (c .before .before .touch .ensures) Touches.none)
+    (c .before .before .touch .ensures)
 
 same-length-3 : tie.Need-same-length-3
 same-length-3 c = simp length-set (omega (arith, c .before .before .touch3 .kept .0, c .before .before .before .before .before .before .before .touch2 .kept .0))
 
 returns-3 : tie.Need-returns-3
+unfolding touchedAll
 returns-3 c =
     let s = c .before .before .before .before .before .before .before .before .before .before .before .before .before .before .before .before .before in
     let h = s .args .header in
     let bs = now (s .args .blocks) in
     let to = sym (ap numbers (c .before .before .before .before .before .before .before .before .before .before .before .a2 .given .1)) in
-    visited (nextOf h bs) (rootOf h) (number-inside h bs (s .pre .0 .most) (s .pre .0 .begins)) (now (s .args .marks)) (s .args .p) (s .pre .1 .0) (s .pre .1 .1 .1 .0) _ (s .pre .1 .1 .1 .1) _
+    visit-is (nextOf h bs) (s .args .p) _ _ _
     (to ∙ follow-next h bs (s .args .p) _ (c .before .before .before .before .before .before .before .before .before .before .before .before .before .follow .result) (c .before .before .before .before .before .before .before .before .before .before .before .before .before .before .point-at .ensures) (c .before .before .before .before .before .before .before .before .before .before .before .before .before .follow .ensures))
-    (Touches.more (c .before .before .before .before .before .before .before .touch2 .ensures) (Touches.more (c .before .before .touch3 .ensures) Touches.none))
+    (c .before .before .touch3 .ensures ∙ ap (touched _) (c .before .before .before .before .before .before .before .touch2 .ensures))
 
 pub visit-spec : {M : Type 1} → statement M
 visit-spec =

@@ -2,11 +2,13 @@
 use Prim.Native.Nat.{_+_, _-_, _*_, _≤_}
 use mathlib.Core.Path.{_≡_}
 use native.Mathlib.Omega.{arith}
+use denote.Ref.{now}
 use Rattle.walk.specs.Index.{marksLength}
 use Rattle.walk.specs.Successors.{nextOf}
 use Rattle.walk.specs.Verdict.{rootOf}
-use Rattle.loader.specs.Search.{Going, Paged, undone}
-use Rattle.loader.proofs.Laws.{onward, skipped, passed}
+use Rattle.walk.proofs.History.{number-inside}
+use Rattle.loader.specs.Search.{Going, Paged}
+use Rattle.loader.proofs.Laws.{undone, visit-keeps, onward, skipped, passed, searched}
 use Rattle.loader.proofs.search.walk.Statement.{statement}
 use Rattle.loader.proofs.search.walk.Tie as tie
 
@@ -53,15 +55,23 @@ slice-read-if3 c = omega (arith, c .before .before .before .before .loop .inv .0
 visit-requires : tie.Need-visit-requires Inv-loop μ-loop
 visit-requires c κs =
     let v = c .before .before .before .before .before .before .before .loop in
-    (c .before .before .before .before .before .before .before .before .before .before .pre .0, (v .inv .0, (c .before .before .before .before .before .before .loop-test .taken, (c .before .before .if3 .taken, v .inv .2))))
+    (c .before .before .before .before .before .before .before .before .before .before .pre .0, (v .inv .0, (c .before .before .before .before .before .before .loop-test .taken, c .before .before .if3 .taken)))
 
 loop-less-3 : tie.Need-loop-less-3 Inv-loop μ-loop
-loop-less-3 c = omega (arith, c .before .before .visit .ensures .less, c .before .before .visit .ensures .low)
+loop-less-3 c =
+    let s = c .before .before .before .before .before .before .before .before .before .before .before .before .before in
+    let v = c .before .before .before .before .before .before .before .before .before .before .loop in
+    let i = number-inside (s .args .header) (now (s .args .blocks)) (s .pre .0 .most) (s .pre .0 .begins) in
+    let k = visit-keeps _ _ i (v .marks) (v .dirty) (v .cursor) (v .inv .0) (c .before .before .before .before .before .if3 .taken) (v .inv .2) _ (c .before .before .visit .ensures) in
+    omega (arith, k .less, k .low)
 
 loop-again-3 : tie.Need-loop-again-3 Inv-loop μ-loop
 loop-again-3 c =
-    let v = c .before .before .visit .ensures in
-    (v .going, omega (arith, v .low, c .before .before .before .before .before .before .before .before .before .before .loop .inv .1), v .paged)
+    let s = c .before .before .before .before .before .before .before .before .before .before .before .before .before in
+    let v = c .before .before .before .before .before .before .before .before .before .before .loop in
+    let i = number-inside (s .args .header) (now (s .args .blocks)) (s .pre .0 .most) (s .pre .0 .begins) in
+    let k = visit-keeps _ _ i (v .marks) (v .dirty) (v .cursor) (v .inv .0) (c .before .before .before .before .before .if3 .taken) (v .inv .2) _ (c .before .before .visit .ensures) in
+    (k .going, omega (arith, k .low, v .inv .1), k .paged)
 
 add-cursor-2 : tie.Need-add-cursor-2 Inv-loop μ-loop
 add-cursor-2 c = omega arith
@@ -92,8 +102,9 @@ same-length c = omega (arith, c .before .loop .inv .0 .long, c .before .before .
 returns : tie.Need-returns Inv-loop μ-loop
 returns c =
     let l = c .before .loop in
+    let s = c .before .before .before .before in
     let e : l .cursor ≡ marksLength = omega arith in
-    rw e at (l .inv .0)
+    (searched (s .args .header) (now (s .args .blocks)) (s .pre .0) (l .marks) (rw e at (l .inv .0)), record { pages = l .inv .2 .pages })
 
 pub walk-spec : {M : Type 1} → statement M
 walk-spec =
