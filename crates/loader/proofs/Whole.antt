@@ -1,15 +1,19 @@
--- The verdict on an image, part by part: a header that is refused, and one that leads to the blocks. Assumes nothing.
+-- The verdict on an image, part by part: a header that is refused, one that leads to the blocks, and what is handed back of them. Assumes nothing.
 use Prim.Native.Nat.{ℕ, _≤_}
-use mathlib.Core.Path.{_≡_, sym, ap, _∙_}
-use mathlib.Core.Bool.{true, false}
-use mathlib.Core.List.{List}
+use mathlib.Core.Path.{_≡_, refl, sym, ap, _∙_}
+use mathlib.Core.Bool.{Bool, true, false, cond}
+use mathlib.Core.List.{List, []}
+use native.Mathlib.Omega.{arith}
+use lib.ListN.{length, take}
+use lib.Seq.{take-length}
 use borrow.Author.Tests.{le-ltb}
 use Rattle.outcome.specs.Outcome.{done}
 use Rattle.image.specs.Scan.{headerOf, blocksOf}
 use Rattle.image.specs.declared.reader.HeaderRead.{HeaderRead}
 use Rattle.image.proofs.HeaderLaws.{header-good}
 use Rattle.walk.specs.Index.{marksLength}
-use Rattle.walk.specs.Verdict.{blocksVerdict, readVerdict, verdictOf}
+use Rattle.walk.specs.Verdict.{blocksVerdict, readVerdict, verdictOf, isAccepted, acceptedBlocks}
+use Rattle.number.proofs.Choice.{either}
 use Rattle.walk.specs.declared.Verdict.{Verdict}
 use Rattle.walk.specs.declared.Verdict.the-variants.{Image}
 use Rattle.walk.proofs.Judged.{is-done}
@@ -29,3 +33,17 @@ module _ (image : List ℕ) where
       → v ≡ blocksVerdict (r .header) bs 0 (r .header .count) → v ≡ verdictOf image n
   unfolding verdictOf readVerdict
   judged-image n r bs v e k f l j = rw (le-ltb n marksLength l, ← e, ← k, f) j
+
+-- what is kept of a part is no more than the part
+pub kept-within : (v : Verdict) (n : ℕ) {k : ℕ} → k ≡ cond (isAccepted v) n 0 → k ≤ n
+kept-within v n e = rw e (either (λ (i : ℕ). i ≤ n) (isAccepted v) (omega arith) (omega arith))
+
+-- and it is what is handed back of the image
+pub kept-blocks : (image : List ℕ) (n : ℕ) {v : Verdict} {part : List ℕ} {k : ℕ} → v ≡ verdictOf image n → part ≡ blocksOf image
+    → k ≡ cond (isAccepted v) (length part) 0 → take k part ≡ acceptedBlocks image n
+unfolding acceptedBlocks
+kept-blocks image n {v} {part} {k} j p e = rw (← j, ← p, e) (go (isAccepted v))
+  where
+    go : (t : Bool) → take (cond t (length part) 0) part ≡ cond t part []
+    go true = take-length part
+    go false = refl

@@ -4,10 +4,11 @@ use image::reader;
 use program::MARKS_LENGTH;
 use walk::Verdict;
 ghost use mathlib.Core.Path.{_≡_};
+ghost use mathlib.Core.Bool.{cond};
 ghost use Prim.Native.Nat.{_≤_};
 ghost use lib.ListN.{length};
 ghost use Rattle.walk.specs.Index.{marksLength};
-ghost use Rattle.walk.specs.Verdict.{blocksVerdict, verdictOf, acceptedBlocks};
+ghost use Rattle.walk.specs.Verdict.{blocksVerdict, verdictOf, acceptedBlocks, isAccepted};
 ghost use Rattle.loader.specs.After.{After};
 ghost use Rattle.loader.specs.Search.{Ready, FirstRefused};
 
@@ -36,10 +37,19 @@ pub fn blocks<'a>(image: &'a [u8], marks: &mut [u8]) -> &'a [u8]
     ensures { λ _. ⌜ After marksLength (now (marks .entry)) (now (marks .exit)) ⌝ }
 {
     let verdict = judge(image, marks);
+    let part = reader::block_part(image);
+    let n = kept_length(verdict, part.len());
+    &part[..n]
+}
+
+// How much of a part of this length is handed back: all where the image is accepted, else nothing.
+fn kept_length(verdict: Verdict, length: usize) -> usize
+    ensures { λ r. ⌜ r ≡ cond (isAccepted verdict) length 0 ⌝ }
+{
     if !refusal::is_accepted(verdict) {
-        return &image[..0];
+        return 0;
     }
-    reader::block_part(image)
+    length
 }
 
 // The blocks of an image with this header, judged upwards by 5 to 8, then the walks.
