@@ -16,6 +16,7 @@ pub fn refusal(device: u8, drive: Drive, x: u8, y: u8) -> u32
         rows::OUTPUT_READ_Y => pin_refusal(drive, PinKind::OutputRead, y),
         rows::OUTPUT_WRITTEN_X => pin_refusal(drive, PinKind::OutputWritten, x),
         rows::NOT_637_PLUS => not_on_637_plus(drive),
+        // NO_DEVICE: no row has a number past these (proofs/Columns.antt)
         _ => 0,
     }
 }

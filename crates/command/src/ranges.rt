@@ -55,6 +55,7 @@ pub fn in_range(ranges: u8, count: u16, c: Command) -> bool
         rows::RAMP_STOP => ramp_stop(x, word),
         rows::SPEED => up_to(MOST_SPEED, word),
         rows::RAMP => up_to(MOST_RAMP, word),
+        // ANY: no row has a number past these (proofs/Columns.antt)
         _ => true,
     }
 }

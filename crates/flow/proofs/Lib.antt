@@ -1,2 +1,3 @@
 mod Tests
 pub mod Laws
+pub mod Columns

@@ -88,6 +88,7 @@ fn flow_by(flow: u8, x: u8, word: u16) -> Flow
         rows::START_PLC => Flow::Start(PLC, word),
         rows::START_MATHEMATICS => Flow::Start(MATHEMATICS, word),
         rows::ENDING => ending(x),
+        // 0, of a code that is not carried: no row has a number past these (proofs/Columns.antt)
         _ => Flow::End,
     }
 }

@@ -37,6 +37,7 @@ pub fn lay_out(layout: u8, block: [u8; 8]) -> Command
         rows::BYTE_VALUE => byte_value(block),
         rows::PAIR_VALUE => pair_value(block),
         rows::VALUE_JUMP => value_jump(block),
+        // BARE, and 0 for a code that is not carried: no row has a number past these (proofs/Columns.antt)
         _ => bare(block),
     }
 }
@@ -222,6 +223,7 @@ fn used_bytes(layout: u8) -> usize
         rows::BYTE_VALUE => 5,
         rows::PAIR_VALUE => 6,
         rows::VALUE_JUMP => 7,
+        // BARE and 0, as in lay_out
         _ => 0,
     }
 }

@@ -1,2 +1,3 @@
 mod Missed
 pub mod Laws
+pub mod Columns

@@ -1,7 +1,7 @@
 -- The commands carried, one row for each code: document 01, "The commands carried", and chapters 3 and 4 of 000. A row says where the operands stand
 -- behind the code byte, what the drive must have (6), which ranges the operands have (7), which tasks may use the command (9; the boxes of
 -- chapter 3), and what it may continue with. The columns are numbers, which the code has too; each is named here and given its meaning where it
--- is used. Assumes nothing.
+-- is used, in a list of as many entries as the column has numbers (its count). Assumes nothing.
 use Prim.Native.Nat.{ℕ, _+_, _*_}
 use mathlib.Core.Bool.{cond}
 use mathlib.Core.List.{List, [], _∷_}
@@ -54,6 +54,9 @@ pairValue = 10
 abbrev pub valueJump : ℕ
 valueJump = 11
 
+abbrev pub layoutCount : ℕ
+layoutCount = valueJump + 1
+
 -- ---- devices: what the drive must have
 
 -- every drive has it
@@ -83,6 +86,9 @@ outputWrittenX = 5
 -- the drive is no 637+ (DECISIONS R5b)
 abbrev pub not637Plus : ℕ
 not637Plus = 6
+
+abbrev pub deviceCount : ℕ
+deviceCount = not637Plus + 1
 
 -- ---- ranges: what 7 asks of the operands
 
@@ -142,6 +148,9 @@ speed = 12
 abbrev pub ramp : ℕ
 ramp = 13
 
+abbrev pub rangesCount : ℕ
+rangesCount = ramp + 1
+
 -- ---- tasks: 1 for BIAS, 2 for the PLC, 4 for mathematics, added
 
 abbrev pub B : ℕ
@@ -164,6 +173,9 @@ PM = P + M
 
 abbrev pub BPM : ℕ
 BPM = B + P + M
+
+abbrev pub tasksCount : ℕ
+tasksCount = BPM + 1
 
 -- ---- flows: what the command may continue with
 
@@ -206,6 +218,9 @@ startMathematics = 9
 -- the start of its task (mode 0), or nothing more
 abbrev pub ending : ℕ
 ending = 10
+
+abbrev pub flowCount : ℕ
+flowCount = ending + 1
 
 -- ---- the rows
 
