@@ -1,6 +1,5 @@
 -- Every column of every row is a number below its count, by one computation over the rows; so no list of meanings is read past its end. Assumes nothing.
 use Prim.Native.Nat.{ℕ, _<_}
-use mathlib.Core.Path.{sym}
 use mathlib.Core.Logic.{⊎-elim}
 use native.Mathlib.Omega.{arith}
 use lib.Dec.{T, ltb}
