@@ -1,6 +1,6 @@
 -- The search's laws: what a touch, a done point and a step of the cursor keep of `Going`, and that all that is reached is marked at its end.
 -- Assumes nothing.
-use Prim.Native.Nat.{ℕ, zero, suc, _+_, _*_, _/_, _<_, _≤_}
+use Prim.Native.Nat.{ℕ, zero, suc, _+_, _-_, _*_, _/_, _%_, _<_, _≤_}
 use mathlib.Core.Path.{_≡_, refl, sym, ap, _∙_}
 use mathlib.Core.Bool.{Bool, true, false, cond}
 use mathlib.Core.Logic.{inl, inr, ⊎-elim}
@@ -25,7 +25,7 @@ use Rattle.walk.specs.Verdict.{rootOf, reached}
 use Rattle.walk.proofs.Choice.{has-in, in-has}
 use Rattle.walk.proofs.Least.{lesser-first, lesser-second}
 use Rattle.walk.proofs.Exactly.{exact}
-use Rattle.loader.specs.Search.{pageLength, pageCount, Paged, Board, board, touched, touchedAll, doneAt, visited, Going, Searched, Fresh, Ready}
+use Rattle.loader.specs.Search.{pageLength, pageCount, Paged, Board, board, touched, touchedAll, doneAt, visited, Going, Searched, Swept, Fresh, Ready}
 
 -- what holds at every place of a list after a store
 at-set : (P : ℕ → ℕ → Type 0) (l : List ℕ) (q v : ℕ) → q < length l → P q v → ((p : ℕ) → (p ≡ q → ⊥) → P p (getD l p 0)) → (p : ℕ) → P p (getD (set l q v) p 0)
@@ -65,18 +65,20 @@ pub record Grown (next : ℕ → List ℕ) (root q : ℕ) (b b′ : Board) : Typ
   pub kept : (p : ℕ) → (getD (b .marks) p 0 ≡ 0 → ⊥) → getD (b′ .marks) p 0 ≡ getD (b .marks) p 0
   pub same : undone (b′ .marks) ≡ undone (b .marks)
   pub low : b′ .cursor ≤ b .cursor
-  pub paged : Paged (b′ .marks) (b′ .dirty)
+  pub paged : Paged (b′ .marks) (b′ .dirty) (b′ .cursor)
 
 module _ (next : ℕ → List ℕ) (root : ℕ) (l : List ℕ) (cur : ℕ) (g : Going next root l cur) where
-  module _ (q : ℕ) (h : q < length l) (w : Reach next root q) (d : List ℕ) (k : Paged l d) where
-    paged-touch : Paged (set l q 1) (set d (q / pageLength) 1)
-    paged-touch =
+  module _ (q : ℕ) (h : q < length l) (w : Reach next root q) (d : List ℕ) (k : Paged l d cur) where
+    paged-touch : (r : ℕ) → r ≤ cur → r ≤ q → Paged (set l q 1) (set d (q / pageLength) 1) r
+    paged-touch r a b =
         let g : q / pageLength < length d = omega (arith, k .pages, g .long) in
         record {
           known = at-set (λ p v. v ≡ 1 → getD (set d (q / pageLength) 1) (p / pageLength) 0 ≡ 1) l q 1 h
               (λ _. getD-set-same d (q / pageLength) 1 0 g)
               (λ p n e. at-set (λ j v. p / pageLength ≡ j → v ≡ 1) d (q / pageLength) 1 g (λ _. refl) (λ j m i. rw (← i) (k .known p e)) (p / pageLength) refl);
           pages = length-set d (q / pageLength) 1 ∙ k .pages;
+          clean = λ j i. getD-set-other d (q / pageLength) j 1 0 (λ e. omega arith) ∙ k .clean j (omega arith);
+          last = at-set (λ j v. j ≡ pageCount - 1 → v ≡ 1) d (q / pageLength) 1 g (λ _. refl) (λ j n i. rw i (k .last)) (pageCount - 1) refl;
         }
 
     fresh-grown : (r : ℕ) → getD l q 0 ≡ 0 → r ≤ cur → r ≤ q → Grown next root q (board l d cur) (board (set l q 1) (set d (q / pageLength) 1) r)
@@ -96,7 +98,7 @@ module _ (next : ℕ → List ℕ) (root : ℕ) (l : List ℕ) (cur : ℕ) (g : 
       kept = at-set (λ p v. (getD l p 0 ≡ 0 → ⊥) → v ≡ getD l p 0) l q 1 h (λ m. absurd (m e)) (λ p n m. refl);
       same = undone-touch l q h e;
       low = a;
-      paged = paged-touch;
+      paged = paged-touch r a b;
     }
 
     pub grown : Grown next root q (board l d cur) (touched q (board l d cur))
@@ -157,10 +159,12 @@ searched h bs r l g = record { long = g .long; mark = λ p. go p (has (reached h
         none (no m) = clash (sym (in-has (reached h bs) p (exact h bs (r .most) (r .begins) .whole p (g .sound p m))) ∙ e)
 
 -- a point that is done is not pending
-paged-done : (l d : List ℕ) (o : ℕ) → o < length l → Paged l d → Paged (set l o 2) d
-paged-done l d o h k = record {
+paged-done : (l d : List ℕ) (o cur : ℕ) → o < length l → Paged l d cur → Paged (set l o 2) d cur
+paged-done l d o cur h k = record {
   known = at-set (λ p v. v ≡ 1 → getD d (p / pageLength) 0 ≡ 1) l o 2 h (λ e. omega arith) (λ p n e. k .known p e);
   pages = k .pages;
+  clean = k .clean;
+  last = k .last;
 }
 
 -- what the touches of reached points give
@@ -170,9 +174,9 @@ record Grew (next : ℕ → List ℕ) (root : ℕ) (qs : List ℕ) (b b′ : Boa
   kept : (p : ℕ) → (getD (b .marks) p 0 ≡ 0 → ⊥) → getD (b′ .marks) p 0 ≡ getD (b .marks) p 0
   same : undone (b′ .marks) ≡ undone (b .marks)
   low : b′ .cursor ≤ b .cursor
-  paged : Paged (b′ .marks) (b′ .dirty)
+  paged : Paged (b′ .marks) (b′ .dirty) (b′ .cursor)
 
-grew : (next : ℕ → List ℕ) (root : ℕ) (qs : List ℕ) (b : Board) → Going next root (b .marks) (b .cursor) → Paged (b .marks) (b .dirty)
+grew : (next : ℕ → List ℕ) (root : ℕ) (qs : List ℕ) (b : Board) → Going next root (b .marks) (b .cursor) → Paged (b .marks) (b .dirty) (b .cursor)
     → ((q : ℕ) → In q qs → Reach next root q × (q < marksLength)) → Grew next root qs b (touchedAll qs b)
 unfolding touchedAll
 grew next root [] b g k to = record { going = g; marked = λ q m. absurd m; kept = λ p n. refl; same = refl; low = omega arith; paged = k }
@@ -194,11 +198,11 @@ pub record Visited (next : ℕ → List ℕ) (root : ℕ) (l : List ℕ) (p : �
   pub going : Going next root (b .marks) (b .cursor)
   pub less : undone (b .marks) < undone l
   pub low : b .cursor ≤ p
-  pub paged : Paged (b .marks) (b .dirty)
+  pub paged : Paged (b .marks) (b .dirty) (b .cursor)
 
 -- a visit: the points that follow are touched, and the point is done
 pub visit-keeps : (next : ℕ → List ℕ) (root : ℕ) → ((q : ℕ) → Reach next root q → q < marksLength) → (l d : List ℕ) (p : ℕ) → Going next root l p → getD l p 0 ≡ 1
-    → Paged l d → (b : Board) → b ≡ visited next p (board l d p) → Visited next root l p b
+    → Paged l d p → (b : Board) → b ≡ visited next p (board l d p) → Visited next root l p b
 unfolding visited
 visit-keeps next root inside l d p g e k b s =
     let m : getD l p 0 ≡ 0 → ⊥ = λ z. omega arith in
@@ -211,7 +215,7 @@ visit-keeps next root inside l d p g e k b s =
       going = done next root (b₁ .marks) (b₁ .cursor) (u .going) p long (λ z. omega arith) (λ q t z. u .marked q t z);
       less = omega (arith, undone-done (b₁ .marks) p long e₁, u .same);
       low = u .low;
-      paged = paged-done (b₁ .marks) (b₁ .dirty) p long (u .paged);
+      paged = paged-done (b₁ .marks) (b₁ .dirty) p (b₁ .cursor) long (u .paged);
     })
 
 -- a board after the touches of the points that were found to follow p, and with p done
@@ -220,8 +224,12 @@ unfolding visited
 visit-is next p qs b b₁ s e = ap (doneAt p) (e ∙ ap (λ (is : List ℕ). touchedAll is b) s)
 
 -- the cursor skips a clean page
-pub skipped : (next : ℕ → List ℕ) (root : ℕ) (l d : List ℕ) (cur r : ℕ) → Going next root l cur → Paged l d → getD d (cur / pageLength) 0 ≡ 0 → r ≤ cur / pageLength * pageLength + pageLength → Going next root l r
-skipped next root l d cur r g k e h = record { long = g .long; kind = g .kind; first = g .first; sound = g .sound; closed = g .closed; past = past }
+pub skipped : (next : ℕ → List ℕ) (root : ℕ) (l d : List ℕ) (cur r : ℕ) → Going next root l cur → Paged l d cur → getD d (cur / pageLength) 0 ≡ 0
+    → r ≤ cur / pageLength * pageLength + pageLength → Going next root l r × Paged l d r
+skipped next root l d cur r g k e h = (
+  record { long = g .long; kind = g .kind; first = g .first; sound = g .sound; closed = g .closed; past = past },
+  record { known = k .known; pages = k .pages; clean = λ j i. clean j i (ℕ-discrete j (cur / pageLength)); last = k .last },
+)
   where
     past : (p : ℕ) → p < r → getD l p 0 ≡ 1 → ⊥
     past p i z = go (decLt p cur)
@@ -230,12 +238,29 @@ skipped next root l d cur r g k e h = record { long = g .long; kind = g .kind; f
         go (yes j) = g .past p j z
         go (no j) = let s : p / pageLength ≡ cur / pageLength = omega arith in omega (arith, rw s at (k .known p z))
 
+    clean : (j : ℕ) → j * pageLength + pageLength ≤ r → Dec (j ≡ cur / pageLength) → getD d j 0 ≡ 0
+    clean j i (yes s) = rw s e
+    clean j i (no n) = k .clean j (omega arith)
+
+-- within a page
+pub stayed : (l d : List ℕ) (cur : ℕ) → Paged l d cur → ((cur + 1) % pageLength ≡ 0 → ⊥) → Paged l d (cur + 1)
+stayed l d cur k n = record { known = k .known; pages = k .pages; clean = λ j i. k .clean j (omega arith); last = k .last }
+
 -- a page that is passed is clean
-pub passed : (next : ℕ → List ℕ) (root : ℕ) (l d : List ℕ) (cur j : ℕ) → Going next root l cur → Paged l d → j * pageLength + pageLength ≤ cur → Paged l (set d j 0)
-passed next root l d cur j g k h = record {
-  known = λ p z. getD-set-other d j (p / pageLength) 0 0 (λ e. g .past p (omega arith) z) ∙ k .known p z;
-  pages = length-set d j 0 ∙ k .pages;
-}
+pub passed : (next : ℕ → List ℕ) (root : ℕ) (l d : List ℕ) (cur : ℕ) → Going next root l (cur + 1) → Paged l d cur → (cur + 1) % pageLength ≡ 0 → cur < marksLength
+    → Paged l (set d (cur / pageLength) 0) (cur + 1)
+passed next root l d cur g k e h =
+    let i : cur / pageLength < length d = omega (arith, k .pages) in
+    record {
+      known = λ p z. getD-set-other d (cur / pageLength) (p / pageLength) 0 0 (λ s. g .past p (omega arith) z) ∙ k .known p z;
+      pages = length-set d (cur / pageLength) 0 ∙ k .pages;
+      clean = at-set (λ j v. j * pageLength + pageLength ≤ cur + 1 → v ≡ 0) d (cur / pageLength) 0 i (λ _. refl) (λ j n o. k .clean j (omega arith));
+      last = getD-set-other d (cur / pageLength) (pageCount - 1) 0 0 (λ s. omega arith) ∙ k .last;
+    }
+
+-- at the end all are passed but the last
+pub swept : (l d : List ℕ) → Paged l d marksLength → Swept d
+swept l d k = record { pages = k .pages; clean = λ j h. k .clean j (omega arith); last = k .last }
 
 -- a marked number is that of a point
 pub point-of : (l : List ℕ) {n : ℕ} → length l ≡ n → (p : ℕ) → (getD l p 0 ≡ 0 → ⊥) → p < n
@@ -281,10 +306,12 @@ begun next root l f = record {
         go (no m) = absurd (n m)
 
 -- at first every page is dirty
-pub all-dirty : (l : List ℕ) → length l ≡ marksLength → Paged l (replicate pageCount 1)
+pub all-dirty : (l : List ℕ) → length l ≡ marksLength → Paged l (replicate pageCount 1) 0
 all-dirty l e = record {
   known = λ p z. getD-replicate pageCount (p / pageLength) 1 0 (let h = point-of l e p (λ y. omega arith) in omega arith);
   pages = refl;
+  clean = λ j h. omega arith;
+  last = refl;
 }
 
 -- a point that follows a pending point has a mark

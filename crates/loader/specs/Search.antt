@@ -1,6 +1,6 @@
 -- The search's own values and invariants. A mark is 0 for a point not seen, 1 for one that is pending, 2 for one that is done; a page of marks is
 -- clean (0) or dirty, and a pending point is on a dirty page. Assumes nothing.
-use Prim.Native.Nat.{ℕ, _+_, _-_, _/_, _<_, _≤_}
+use Prim.Native.Nat.{ℕ, _+_, _-_, _*_, _/_, _<_, _≤_}
 use mathlib.Core.Path.{_≡_}
 use mathlib.Core.Bool.{cond}
 use mathlib.Core.List.{List, [], _∷_}
@@ -26,9 +26,12 @@ pub record Ready (h : Header) : Type 0 where
   pub most : h .count ≤ mostBlocks
   pub begins : h .start < h .count
 
-pub record Paged (marks dirty : List ℕ) : Type 0 where
+-- the pages with the cursor: those wholly before it are clean; the last, at whose end it never stands, is dirty
+pub record Paged (marks dirty : List ℕ) (cursor : ℕ) : Type 0 where
   pub known : (p : ℕ) → getD marks p 0 ≡ 1 → getD dirty (p / pageLength) 0 ≡ 1
   pub pages : length dirty ≡ pageCount
+  pub clean : (j : ℕ) → j * pageLength + pageLength ≤ cursor → getD dirty j 0 ≡ 0
+  pub last : getD dirty (pageCount - 1) 0 ≡ 1
 
 -- what a search works on: marks, pages, and the cursor
 pub record Board : Type 0 where
@@ -51,6 +54,7 @@ unfoldable pub touchedAll : List ℕ → Board → Board
 touchedAll [] b = b
 touchedAll (q ∷ qs) b = touchedAll qs (touched q b)
 
+-- p is done
 abbrev pub doneAt : ℕ → Board → Board
 doneAt p b = board (set (b .marks) p 2) (b .dirty) (b .cursor)
 
@@ -73,9 +77,11 @@ pub record Searched (h : Header) (bs marks : List ℕ) : Type 0 where
   pub long : length marks ≡ marksLength
   pub mark : (p : ℕ) → getD marks p 0 ≡ cond (has (reached h bs) p) 2 0
 
--- the pages after a search: as many as before; which of them are still dirty is free
-pub record FreePages (dirty : List ℕ) : Type 0 where
+-- the pages after a search: all are clean but the last
+pub record Swept (dirty : List ℕ) : Type 0 where
   pub pages : length dirty ≡ pageCount
+  pub clean : (j : ℕ) → j < pageCount - 1 → getD dirty j 0 ≡ 0
+  pub last : getD dirty (pageCount - 1) 0 ≡ 1
 
 -- the first point is pending, and no other is marked
 pub record Fresh (first : ℕ) (marks : List ℕ) : Type 0 where

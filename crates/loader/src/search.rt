@@ -14,7 +14,7 @@ ghost use Rattle.walk.specs.Index.{marksLength, pointAt};
 ghost use Rattle.walk.specs.Successors.{nextOf};
 ghost use Rattle.walk.specs.Verdict.{rootOf, reached, leastForeign, leastBad, verdictBy, walksVerdict};
 ghost use Rattle.loader.specs.After.{After};
-ghost use Rattle.loader.specs.Search.{Ready, Paged, board, touched, visited, Going, Searched, FreePages, Fresh, lowered};
+ghost use Rattle.loader.specs.Search.{Ready, Paged, board, touched, visited, Going, Searched, Swept, Fresh, lowered};
 
 // Marks to a page, and pages.
 const PAGE_LENGTH: usize = 256;
@@ -76,10 +76,10 @@ fn clear(marks: &mut [u8], first: usize)
 // From the first point to all that is reached.
 fn walk(header: Header, blocks: &[u8], marks: &mut [u8], dirty: &mut [u8; PAGE_COUNT])
     requires { ⌜ Ready header ⌝ }
-    requires { ⌜ Paged (now marks) (now dirty) ⌝ }
+    requires { ⌜ Paged (now marks) (now dirty) 0 ⌝ }
     requires { ⌜ Going (nextOf header (now blocks)) (rootOf header) (now marks) 0 ⌝ }
     ensures { λ _. ⌜ Searched header (now (blocks .entry)) (now (marks .exit)) ⌝ }
-    ensures { λ _. ⌜ FreePages (now (dirty .exit)) ⌝ }
+    ensures { λ _. ⌜ Swept (now (dirty .exit)) ⌝ }
 {
     let mut cursor = 0;
     while cursor < MARKS_LENGTH {

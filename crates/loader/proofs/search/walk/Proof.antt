@@ -1,5 +1,5 @@
 -- `walk` meets its contract: at each turn the search is under way with this cursor; each visit leaves one point fewer to do, and else the cursor goes up. Assumes nothing.
-use Prim.Native.Nat.{_+_, _-_, _*_, _≤_}
+use Prim.Native.Nat.{_+_, _-_, _*_, _/_, _≤_}
 use mathlib.Core.Path.{_≡_}
 use native.Mathlib.Omega.{arith}
 use denote.Ref.{now}
@@ -7,13 +7,13 @@ use Rattle.walk.specs.Index.{marksLength}
 use Rattle.walk.specs.Successors.{nextOf}
 use Rattle.walk.specs.Verdict.{rootOf}
 use Rattle.walk.proofs.History.{number-inside}
-use Rattle.loader.specs.Search.{Going, Paged}
-use Rattle.loader.proofs.Laws.{undone, visit-keeps, onward, skipped, passed, searched}
+use Rattle.loader.specs.Search.{pageLength, Going, Paged}
+use Rattle.loader.proofs.Laws.{undone, visit-keeps, onward, skipped, stayed, passed, searched, swept}
 use Rattle.loader.proofs.search.walk.Statement.{statement}
 use Rattle.loader.proofs.search.walk.Tie as tie
 
 abbrev Inv-loop : tie.InvT-loop
-Inv-loop header blocks marks₀ dirty₀ cursor₀ marks dirty cursor = Going (nextOf header blocks) (rootOf header) marks cursor × (cursor ≤ marksLength) × Paged marks dirty
+Inv-loop header blocks marks₀ dirty₀ cursor₀ marks dirty cursor = Going (nextOf header blocks) (rootOf header) marks cursor × (cursor ≤ marksLength) × Paged marks dirty cursor
 
 abbrev μ-loop : tie.MeasureT-loop
 μ-loop header blocks marks₀ dirty₀ cursor₀ marks dirty cursor = (marksLength + 1) * undone marks + (marksLength - cursor)
@@ -39,7 +39,8 @@ loop-less c = omega arith
 loop-again : tie.Need-loop-again Inv-loop μ-loop
 loop-again c =
     let v = c .before .before .before .before .loop in
-    (skipped _ _ _ _ _ _ (v .inv .0) (v .inv .2) (c .before .if1 .taken) (omega arith), omega arith, v .inv .2)
+    let k = skipped _ _ _ _ _ (v .cursor / pageLength * pageLength + pageLength) (v .inv .0) (v .inv .2) (c .before .if1 .taken) (omega arith) in
+    (k .0, omega arith, k .1)
 
 loop-less-2 : tie.Need-loop-less-2 Inv-loop μ-loop
 loop-less-2 c = omega arith
@@ -47,7 +48,8 @@ loop-less-2 c = omega arith
 loop-again-2 : tie.Need-loop-again-2 Inv-loop μ-loop
 loop-again-2 c =
     let v = c .before .before .before .before .loop in
-    (skipped _ _ _ _ _ _ (v .inv .0) (v .inv .2) (c .before .if1 .taken) (omega arith), omega arith, v .inv .2)
+    let k = skipped _ _ _ _ _ marksLength (v .inv .0) (v .inv .2) (c .before .if1 .taken) (omega arith) in
+    (k .0, omega arith, k .1)
 
 slice-read-if3 : tie.Need-slice-read-if3 Inv-loop μ-loop
 slice-read-if3 c = omega (arith, c .before .before .before .before .loop .inv .0 .long)
@@ -86,7 +88,7 @@ loop-again-4 : tie.Need-loop-again-4 Inv-loop μ-loop
 loop-again-4 c =
     let v = c .before .before .before .before .before .before .loop in
     let g = onward _ _ _ _ (v .inv .0) (c .before .if3 .left) in
-    (g, omega arith, passed _ _ _ _ _ _ g (v .inv .2) (omega arith))
+    (g, omega arith, passed _ _ _ _ _ g (v .inv .2) (c .if4 .taken) (omega arith))
 
 loop-less-5 : tie.Need-loop-less-5 Inv-loop μ-loop
 loop-less-5 c = omega arith
@@ -94,7 +96,7 @@ loop-less-5 c = omega arith
 loop-again-5 : tie.Need-loop-again-5 Inv-loop μ-loop
 loop-again-5 c =
     let v = c .before .before .before .before .before .before .loop in
-    (onward _ _ _ _ (v .inv .0) (c .before .if3 .left), omega arith, v .inv .2)
+    (onward _ _ _ _ (v .inv .0) (c .before .if3 .left), omega arith, stayed _ _ _ (v .inv .2) (c .if4 .left))
 
 same-length : tie.Need-same-length Inv-loop μ-loop
 same-length c = omega (arith, c .before .loop .inv .0 .long, c .before .before .before .before .pre .1 .1 .long)
@@ -104,7 +106,7 @@ returns c =
     let l = c .before .loop in
     let s = c .before .before .before .before in
     let e : l .cursor ≡ marksLength = omega arith in
-    (searched (s .args .header) (now (s .args .blocks)) (s .pre .0) (l .marks) (rw e at (l .inv .0)), record { pages = l .inv .2 .pages })
+    (searched (s .args .header) (now (s .args .blocks)) (s .pre .0) (l .marks) (rw e at (l .inv .0)), swept (l .marks) _ (rw e at (l .inv .2)))
 
 pub walk-spec : {M : Type 1} → statement M
 walk-spec =
