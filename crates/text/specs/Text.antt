@@ -1,0 +1,61 @@
+-- Text as bytes: decimal, signed and hexadecimal numbers. That each gives its number back is proved in proofs/Read.antt. Assumes nothing.
+use Prim.Native.Nat.{ℕ, zero, suc, _+_, _*_, _-_, _/_, _%_, _<_, _≤_}
+use mathlib.Core.Bool.{cond}
+use mathlib.Core.List.{List, [], _∷_, _++_}
+use lib.Dec.{ltb, eqb}
+use lib.IntN.{ℤ, pos, negsuc}
+use lib.ListN.{length, getD}
+
+-- the digits 0 to 9 are the bytes 48 to 57
+abbrev pub digit : ℕ → ℕ
+digit d = 48 + d
+
+-- the digits of n, of which there are no more than the fuel: those before the last, none where n is below 10, and the last
+unfoldable pub digitsOf : ℕ → ℕ → List ℕ
+digitsOf zero n = []
+digitsOf (suc fuel) n = cond (ltb n 10) [] (digitsOf fuel (n / 10)) ++ (digit (n % 10) ∷ [])
+
+-- a number has no more digits than one more than itself
+unfoldable pub decimalOf : ℕ → List ℕ
+decimalOf n = digitsOf (suc n) n
+
+abbrev pub minus : ℕ
+minus = 45
+
+-- a signed number: a minus stands before one below 0
+unfoldable pub signedOf : ℤ → List ℕ
+signedOf (pos n) = decimalOf n
+signedOf (negsuc n) = minus ∷ decimalOf (suc n)
+
+-- the digits A to F are the bytes 65 to 70
+abbrev pub hexDigit : ℕ → ℕ
+hexDigit d = cond (ltb d 10) (digit d) (55 + d)
+
+-- a byte in two capital hexadecimal digits
+unfoldable pub hexOf : ℕ → List ℕ
+hexOf b = hexDigit (b / 16) ∷ hexDigit (b % 16) ∷ []
+
+-- ---- read back
+
+-- digits behind a number v
+unfoldable pub valueFrom : ℕ → List ℕ → ℕ
+valueFrom v [] = v
+valueFrom v (d ∷ ds) = valueFrom (10 * v + (d - 48)) ds
+
+-- the number of decimal digits
+unfoldable pub valueOf : List ℕ → ℕ
+valueOf ds = valueFrom 0 ds
+
+-- the number that lies n below 0
+abbrev pub below : ℕ → ℤ
+below zero = pos 0
+below (suc n) = negsuc n
+
+-- the signed number of a text
+unfoldable pub signedValueOf : List ℕ → ℤ
+signedValueOf [] = pos 0
+signedValueOf (b ∷ ds) = cond (eqb b minus) (below (valueOf ds)) (pos (valueOf (b ∷ ds)))
+
+-- every byte is a decimal digit
+abbrev pub Digits : List ℕ → Type 0
+Digits ds = (k : ℕ) → k < length ds → (digit 0 ≤ getD ds k 0) × (getD ds k 0 ≤ digit 9)
