@@ -1,58 +1,38 @@
-// Numbers behind a text, to standard output. Each function gives back what it shows; what is printed is held to the stored outputs of the programs.
+// Numbers behind a word, to standard output: put together by `text`, then written once. Each function gives back what it shows. A word and its
+// number are cut at ROOM bytes.
 use libc::STDOUT_FILENO;
 ghost use mathlib.Core.Path.{_≡_};
-ghost use mathlib.Core.Bool.{cond};
-ghost use Prim.Native.Nat.{_+_, _%_};
-ghost use lib.Dec.{ltb};
 
-// Prints text before a number.
-pub fn show(text: &[u8], v: u64) -> u64
+const ROOM: usize = 128;
+
+// Prints a word before a number.
+pub fn show(word: &[u8], v: u64) -> u64
     ensures { λ r. ⌜ r ≡ v ⌝ }
 {
-    io::write_all(STDOUT_FILENO, text);
-    io::print_decimal(STDOUT_FILENO, v);
+    let mut line = [0u8; ROOM];
+    let n = text::put_labelled(&mut line, 0, word, v);
+    io::write_all(STDOUT_FILENO, &line[..n]);
     v
 }
 
-// Prints text before a signed number.
-pub fn show_signed(text: &[u8], v: i32) -> i32
+// Prints a word before a signed number.
+pub fn show_signed(word: &[u8], v: i32) -> i32
     ensures { λ r. ⌜ r ≡ v ⌝ }
 {
-    io::write_all(STDOUT_FILENO, text);
-    if v < 0 {
-        show(b"-", 4_294_967_296 - (arith::pattern(v) as u64));
-    } else {
-        show(b"", arith::pattern(v) as u64);
-    }
+    let mut line = [0u8; ROOM];
+    let at = text::put(&mut line, 0, word);
+    let n = text::put_signed(&mut line, at, v);
+    io::write_all(STDOUT_FILENO, &line[..n]);
     v
 }
 
-// Prints text before a byte in two hexadecimal digits.
-pub fn show_hex(text: &[u8], v: u8) -> u8
+// Prints a word before a byte in two hexadecimal digits.
+pub fn show_hex(word: &[u8], v: u8) -> u8
     ensures { λ r. ⌜ r ≡ v ⌝ }
 {
-    io::write_all(STDOUT_FILENO, text);
-    show_digit(v / 16);
-    show_digit(v % 16);
+    let mut line = [0u8; ROOM];
+    let at = text::put(&mut line, 0, word);
+    let n = text::put_hex(&mut line, at, v);
+    io::write_all(STDOUT_FILENO, &line[..n]);
     v
-}
-
-// Prints one digit.
-fn show_digit(v: u8) -> u8
-    ensures { λ r. ⌜ r ≡ v ⌝ }
-{
-    let text = [glyph(v)];
-    io::write_all(STDOUT_FILENO, &text);
-    v
-}
-
-// The letter of the last digit of a number: A to F for 10 to 15.
-fn glyph(v: u8) -> u8
-    ensures { λ r. ⌜ r ≡ cond (ltb (v % 16) 10) (48 + v % 16) (55 + v % 16) ⌝ }
-{
-    let k = v % 16;
-    if k < 10 {
-        return b'0' + k;
-    }
-    b'A' - 10 + k
 }

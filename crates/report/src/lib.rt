@@ -4,10 +4,13 @@ use libc::STDOUT_FILENO;
 use program::MARKS_LENGTH;
 use walk::Verdict;
 ghost use mathlib.Core.Path.{_≡_};
+ghost use Prim.Native.Nat.{_≤_};
 ghost use lib.ListN.{length};
 ghost use Rattle.walk.specs.Index.{marksLength};
 ghost use Rattle.walk.specs.Verdict.{verdictOf};
-ghost use Rattle.report.specs.Input.{inputLength};
+ghost use Rattle.text.specs.Put.{Put};
+ghost use Rattle.report.specs.Input.{inputLength, zeros};
+ghost use Rattle.report.specs.Line.{lineOf, lineRoom, Holds};
 
 // The most bytes that a header's six numbers take, and one byte more than the longest image has: of a longer input no other byte counts
 // (proofs/Beginning.antt).
@@ -15,9 +18,10 @@ pub const HEADER_BYTES: usize = 2 * reader::ROWS as usize;
 
 pub const INPUT_LENGTH: usize = HEADER_BYTES + reader::BLOCK_LENGTH * program::BLOCKS + 1;
 
-// Room for an image: all that is needed of an input.
+// Room for an image, each byte 0: all that is needed of an input.
 pub fn input() -> [u8; INPUT_LENGTH]
     ensures { λ r. ⌜ inputLength ≡ length r ⌝ }
+    ensures { λ r. ⌜ r ≡ zeros inputLength ⌝ }
 {
     [0; INPUT_LENGTH]
 }
@@ -30,21 +34,55 @@ pub fn judge(image: &[u8]) -> Verdict
     write_line(loader::judge(image, &mut space))
 }
 
-// The bytes that the search works in.
+// The bytes that the search works in, each 0.
 pub fn marks() -> [u8; MARKS_LENGTH]
     ensures { λ r. ⌜ marksLength ≡ length r ⌝ }
+    ensures { λ r. ⌜ r ≡ zeros marksLength ⌝ }
 {
     [0; MARKS_LENGTH]
 }
+
+// The bytes of a line, and how many of them are it.
+pub struct LineBytes {
+    pub bytes: [u8; LINE_ROOM],
+    pub length: usize,
+}
+
+// Room for the line of any verdict.
+pub const LINE_ROOM: usize = 80;
 
 // Writes the line of a verdict to standard output; gives the verdict back.
 pub fn write_line(v: Verdict) -> Verdict
     ensures { λ r. ⌜ r ≡ v ⌝ }
 {
-    print::show(b"refusal ", refusal::number(v) as u64);
-    print::show(b" place ", refusal::place(v) as u64);
-    print::show(b" task ", refusal::task(v) as u64);
-    print::show(b" depth ", refusal::depth(v) as u64);
-    io::write_all(STDOUT_FILENO, b"\n");
+    let l = line_of(v);
+    let bytes = l.bytes;
+    let n = l.length;
+    io::write_all(STDOUT_FILENO, &bytes[..n]);
     v
+}
+
+// The line of a verdict.
+pub fn line_of(v: Verdict) -> LineBytes
+    ensures { λ r. ⌜ Holds (lineOf v) r ⌝ }
+{
+    let mut bytes = [0u8; LINE_ROOM];
+    let length = put_line(&mut bytes, 0, v);
+    LineBytes { bytes, length }
+}
+
+// Puts the line of a verdict behind the text in a buffer, as the functions of `text` do. It is never longer than the room of a line.
+pub fn put_line(out: &mut [u8], at: usize, v: Verdict) -> usize
+    ensures { λ r. ⌜ Put (now (out .entry)) at (lineOf v) r (now (out .exit)) ⌝ }
+    ensures { λ _. ⌜ length (lineOf v) ≤ lineRoom ⌝ }
+{
+    let number = refusal::number(v) as u64;
+    let place = refusal::place(v) as u64;
+    let task = refusal::task(v) as u64;
+    let depth = refusal::depth(v) as u64;
+    let end = text::put_labelled(out, at, b"refusal ", number);
+    let end = text::put_labelled(out, end, b" place ", place);
+    let end = text::put_labelled(out, end, b" task ", task);
+    let end = text::put_labelled(out, end, b" depth ", depth);
+    text::put(out, end, b"\n")
 }

@@ -88,6 +88,14 @@ and-then {out} {first} {last} {at} {r} {s} {a} {b} p q =
       holds = q .holds ∙ ap (λ (l : List ℕ). putAt l r b) (p .holds) ∙ ap (λ (k : ℕ). putAt (putAt out at a) k b) (p .ends) ∙ joined out at a b;
     }
 
+-- an equal word is put
+pub same-word : {out last : List ℕ} {at end : ℕ} {a b : List ℕ} → a ≡ b → Put out at a end last → Put out at b end last
+same-word {out} {last} {at} {end} e p = rw e at p
+
+-- a text put where none stood, in a buffer that has room for it: the first bytes are it
+pub is-text : {out last : List ℕ} {end : ℕ} {word : List ℕ} → Put out 0 word end last → length word ≤ length out → take end last ≡ word
+is-text {out} {last} {end} {word} p l = rw (p .ends, p .holds) (stands out word l)
+
 -- ---- what `put` leaves
 
 -- where the text fills the buffer, nothing changes

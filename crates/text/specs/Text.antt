@@ -19,6 +19,10 @@ digitsOf (suc fuel) n = cond (ltb n 10) [] (digitsOf fuel (n / 10)) ++ (digit (n
 unfoldable pub decimalOf : ℕ → List ℕ
 decimalOf n = digitsOf (suc n) n
 
+-- a word and a number behind it
+abbrev pub labelled : List ℕ → ℕ → List ℕ
+labelled word n = word ++ decimalOf n
+
 abbrev pub minus : ℕ
 minus = 45
 

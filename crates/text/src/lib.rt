@@ -2,7 +2,7 @@
 // Each function gives where the text ends then; what there is no room for is cut off. A line is put word by word (proofs/Joined.antt).
 ghost use mathlib.Core.Path.{_≡_};
 ghost use Prim.Native.Nat.{_<_};
-ghost use Rattle.text.specs.Text.{decimalOf, signedOf, hexDigit, hexOf};
+ghost use Rattle.text.specs.Text.{decimalOf, labelled, signedOf, hexDigit, hexOf};
 ghost use Rattle.text.specs.Put.{Put};
 
 // Puts a word.
@@ -28,6 +28,14 @@ pub fn put_decimal(out: &mut [u8], at: usize, v: u64) -> usize
     let mut digits = [0u8; 20];
     let n = io::decimal(v, &mut digits);
     put(out, at, &digits[..n])
+}
+
+// Puts a word and a number behind it.
+pub fn put_labelled(out: &mut [u8], at: usize, word: &[u8], v: u64) -> usize
+    ensures { λ r. ⌜ Put (now (out .entry)) at (labelled (now (word .entry)) v) r (now (out .exit)) ⌝ }
+{
+    let behind = put(out, at, word);
+    put_decimal(out, behind, v)
 }
 
 // Puts a signed number in decimal digits, a minus before one below 0.

@@ -29,7 +29,7 @@ judge-requires c κs = search needs
 returns : tie.Need-returns
 returns c =
     let d = c .before .before .before .decode in
-    let room = c .before .before .before .before .before .input .ensures in
+    let room = c .before .before .before .before .before .input .ensures .0 in
     let line = c .before .before .before .before .before .before .before .args .line .now in
     let e = rw (d .ensures .1 .1, front line (d .result)) at (c .judge .ensures) in
     e ∙ enough line _ (d .result) marksLength (d .ensures .0) (omega (arith, room))

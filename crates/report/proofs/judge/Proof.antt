@@ -19,7 +19,7 @@ write-line-requires c κs = search needs
 
 returns : tie.Need-returns
 returns c =
-    c .write-line .ensures ∙ c .before .before .judge .ensures .0 ∙ ap (verdictOf (c .before .before .before .before .before .before .args .image .now)) (sym (c .before .before .before .before .marks .ensures))
+    c .write-line .ensures ∙ c .before .before .judge .ensures .0 ∙ ap (verdictOf (c .before .before .before .before .before .before .args .image .now)) (sym (c .before .before .before .before .marks .ensures .0))
 
 pub judge-spec : {M : Type 1} → statement M
 judge-spec =
