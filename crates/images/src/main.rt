@@ -1,13 +1,18 @@
-// Judges test images: a line of standard input is an image in capital hexadecimal digits, and its verdict is a line of standard output. What it
-// prints is held to the file stdout, whose verdicts come from a second reading of the papers and not from this code.
+// Judges test images: a line of standard input is an image in capital hexadecimal digits, and its verdict is a line of standard output; behind that
+// of an accepted image stands a line of its blocks, how many bytes and a sum of them. What it prints is held to the file stdout, whose verdicts come
+// from a second reading of the papers, and whose lines of blocks a script computed from them and the bytes behind the six numbers of each image.
 use libc::STDIN_FILENO;
+use libc::STDOUT_FILENO;
 use walk::Verdict;
 ghost use mathlib.Core.Path.{_≡_};
+ghost use Prim.Native.Nat.{_+_, _*_, _%_, _<_};
 ghost use lib.ListN.{length};
 ghost use Rattle.walk.specs.Index.{marksLength};
-ghost use Rattle.walk.specs.Verdict.{verdictOf};
+ghost use Rattle.walk.specs.Verdict.{verdictOf, acceptedBlocks};
 ghost use Rattle.hex.specs.Hex.{allBytes};
 ghost use Rattle.hex.specs.Lines.{linesOf};
+ghost use Rattle.report.specs.Input.{zeros};
+ghost use Rattle.images.specs.Part.{partOf};
 
 // Room for the whole input.
 const TEXT_LENGTH: usize = 262144;
@@ -22,6 +27,7 @@ fn main() {
 
 fn text() -> [u8; TEXT_LENGTH]
     ensures { λ r. ⌜ 262144 ≡ length r ⌝ }
+    ensures { λ r. ⌜ r ≡ zeros 262144 ⌝ }
 {
     [0; TEXT_LENGTH]
 }
@@ -44,11 +50,67 @@ fn rows(text: &[u8]) -> usize
     n
 }
 
-// Judges the image of a line and writes the line of its verdict; gives the verdict.
-fn row(line: &[u8]) -> Verdict
-    ensures { λ r. ⌜ r ≡ verdictOf (allBytes (now (line .entry))) marksLength ⌝ }
+// What an image comes to.
+pub struct Judged {
+    pub verdict: Verdict,
+    pub blocks: Blocks,
+}
+
+// The blocks that are handed back: how many bytes, and their sum.
+pub struct Blocks {
+    pub length: usize,
+    pub check: u64,
+}
+
+// Judges the image of a line, writes the line of its verdict and that of its blocks; gives the verdict and what is printed of the blocks.
+fn row(line: &[u8]) -> Judged
+    ensures { λ r. ⌜ r .verdict ≡ verdictOf (allBytes (now (line .entry))) marksLength ⌝ }
+    ensures { λ r. ⌜ r .blocks ≡ partOf (acceptedBlocks (allBytes (now (line .entry))) marksLength) ⌝ }
 {
     let mut image = report::input();
     let n = hex::decode(line, &mut image);
-    report::judge(&image[..n])
+    let verdict = report::judge(&image[..n]);
+    let blocks = show_blocks(blocks_of(&image[..n]));
+    Judged { verdict, blocks }
+}
+
+// The blocks of an image, none where it is refused.
+fn blocks_of(image: &[u8]) -> Blocks
+    ensures { λ r. ⌜ r ≡ partOf (acceptedBlocks (now (image .entry)) marksLength) ⌝ }
+{
+    let mut marks = report::marks();
+    summed(loader::blocks(image, &mut marks))
+}
+
+// How many bytes, and their sum.
+fn summed(bytes: &[u8]) -> Blocks
+    ensures { λ r. ⌜ r ≡ partOf (now (bytes .entry)) ⌝ }
+{
+    let mut check: u64 = 0;
+    let mut i = 0;
+    while i < bytes.len() {
+        check = next(check, bytes[i]);
+        i += 1;
+    }
+    Blocks { length: i, check }
+}
+
+// The sum with a byte more.
+fn next(check: u64, byte: u8) -> u64
+    requires { ⌜ check < 65521 ⌝ }
+    ensures { λ r. ⌜ r ≡ (257 * check + byte) % 65521 ⌝ }
+{
+    (257 * check + byte as u64) % 65521
+}
+
+// Writes the line of blocks, nothing where there are none; gives them back.
+fn show_blocks(b: Blocks) -> Blocks
+    ensures { λ r. ⌜ r ≡ b ⌝ }
+{
+    if 0 < b.length {
+        print::show(b"blocks ", b.length as u64);
+        print::show(b" sum ", b.check);
+        io::write_all(STDOUT_FILENO, b"\n");
+    }
+    b
 }

@@ -1,4 +1,4 @@
--- The verdict on an image is that of its first bytes, however many, if they are more than the longest image has: the header stands in the first
+-- The verdict on an image, and its blocks where it is accepted, are those of its first bytes, however many, if they are more than the longest image has: the header stands in the first
 -- twelve, and a longer image is refused by its header, or by 4 at a place that its header fixes. Assumes nothing.
 use mathlib.Core.Path.{_≡_, refl, sym, ap, _∙_}
 use mathlib.Core.Bool.{Bool, true, false, cond}
@@ -21,7 +21,7 @@ use Rattle.number.proofs.Choice.{by, either}
 use Rattle.image.proofs.Accepted.{accepted-header}
 use Rattle.image.proofs.Scanning.{at-most, image-near}
 use Rattle.image.proofs.Read.{read-fine}
-use Rattle.walk.specs.Verdict.{verdictOf}
+use Rattle.walk.specs.Verdict.{verdictOf, acceptedBlocks}
 use Rattle.report.specs.Input.{mostImageBytes, inputLength}
 
 -- what a number comes to where two bytes are there, b and c
@@ -103,15 +103,29 @@ module _ (a b : List ℕ) (long-a : mostImageBytes < length a) (long-b : mostIma
       let e = refused (done (headerOf a .outcome)) refl in
       rw (← same-header, e)
 
-  pub same-verdict : (marks : ℕ) → verdictOf a marks ≡ verdictOf b marks
+  same-verdict : (marks : ℕ) → verdictOf a marks ≡ verdictOf b marks
   unfolding verdictOf
   same-verdict marks = rw (same-header, same-blocks)
 
--- the law: n first bytes are enough
-pub beginning : (image : List ℕ) (n marks : ℕ) → inputLength ≤ n → verdictOf (take n image) marks ≡ verdictOf image marks
-beginning image n marks h =
+  same-accepted : (marks : ℕ) → acceptedBlocks a marks ≡ acceptedBlocks b marks
+  unfolding acceptedBlocks
+  same-accepted marks = rw (same-verdict marks, same-blocks)
+
+-- what two such images have in common, n first bytes have in common with the image
+enough : {A : Type 0} (f : List ℕ → A)
+    → ((a b : List ℕ) → mostImageBytes < length a → mostImageBytes < length b → ((k : ℕ) → k < mostHeaderBytes → getD a k 0 ≡ getD b k 0) → f a ≡ f b)
+    → (image : List ℕ) (n : ℕ) → inputLength ≤ n → f (take n image) ≡ f image
+enough f same image n h =
     by n (length image)
     (λ l.
     let e = length-take-le n image (omega arith) in
-    same-verdict (take n image) image (omega arith) (omega arith) (λ k g. getD-take n image k 0 (omega arith)) marks)
-    (λ l. ap (λ (s : List ℕ). verdictOf s marks) (take-all n image l))
+    same (take n image) image (omega arith) (omega arith) (λ k g. getD-take n image k 0 (omega arith)))
+    (λ l. ap f (take-all n image l))
+
+-- the law: n first bytes are enough for the verdict
+pub beginning : (image : List ℕ) (n marks : ℕ) → inputLength ≤ n → verdictOf (take n image) marks ≡ verdictOf image marks
+beginning image n marks = enough (λ s. verdictOf s marks) (λ a b x y z. same-verdict a b x y z marks) image n
+
+-- and for the blocks that are handed back
+pub beginning-blocks : (image : List ℕ) (n marks : ℕ) → inputLength ≤ n → acceptedBlocks (take n image) marks ≡ acceptedBlocks image marks
+beginning-blocks image n marks = enough (λ s. acceptedBlocks s marks) (λ a b x y z. same-accepted a b x y z marks) image n

@@ -1,0 +1,62 @@
+-- `images::summed` meets its contract. The loop's invariant: the sum is that of the bytes passed. Assumes nothing.
+use borrow.Author.Needs.{needs}
+use native.Mathlib.Omega.{arith}
+use native.Mathlib.Numerals.{add-one}
+use mathlib.Core.Path.{_≡_, refl, sym, ap, _∙_}
+use Prim.Native.Nat.{ℕ, _+_, _*_, _-_, _%_, _<_, _≤_}
+use lib.ListN.{length, getD}
+use Rattle.images.specs.Part.{checkOf}
+use Rattle.images.proofs.summed.Statement.{statement}
+use Rattle.images.proofs.summed.Tie as tie
+
+abbrev Inv-loop : tie.InvT-loop
+Inv-loop bytes check₀ i₀ check i = (i ≤ length bytes) × (check < 65521) × (check ≡ checkOf bytes i)
+
+abbrev μ-loop : tie.MeasureT-loop
+μ-loop bytes check₀ i₀ check i = length bytes - i
+
+loop-holds : tie.Need-loop-holds Inv-loop μ-loop
+unfolding checkOf
+loop-holds c = (omega arith, omega arith, refl)
+
+shared-slice-read-next : tie.Need-shared-slice-read-next Inv-loop μ-loop
+shared-slice-read-next c = search needs
+
+next-requires : tie.Need-next-requires Inv-loop μ-loop
+next-requires c κs = search needs
+
+add-i : tie.Need-add-i Inv-loop μ-loop
+add-i c = search needs
+
+loop-less : tie.Need-loop-less Inv-loop μ-loop
+loop-less c = search needs
+
+loop-again : tie.Need-loop-again Inv-loop μ-loop
+unfolding checkOf
+loop-again c =
+    let v = c .before .before .before .loop in
+    let bytes = c .before .before .before .before .before .args .bytes .now in (
+      omega arith,
+      omega (arith, c .next .ensures),
+      c .next .ensures ∙ ap (λ (k : ℕ). (257 * k + getD bytes (v .i) 0) % 65521) (v .inv .2) ∙ ap (checkOf bytes) (sym (add-one (v .i))),
+    )
+
+returns : tie.Need-returns Inv-loop μ-loop
+returns c =
+    let v = c .before .loop in
+    let q : v .i ≡ length (c .before .before .before .args .bytes .now) = omega arith in
+    rw (v .inv .2, q)
+
+pub summed-spec : {M : Type 1} → statement M
+summed-spec =
+    tie.close
+    (tie.spec
+    Inv-loop
+    μ-loop
+    loop-holds
+    shared-slice-read-next
+    next-requires
+    add-i
+    loop-less
+    loop-again
+    returns)

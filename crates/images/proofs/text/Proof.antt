@@ -1,0 +1,12 @@
+-- `images::text` meets its contract: the array is made of zeros. Assumes nothing.
+use mathlib.Core.Path.{refl}
+use Rattle.report.specs.Input.{zeros}
+use Rattle.images.proofs.text.Statement.{statement}
+use Rattle.images.proofs.text.Tie as tie
+
+returns : tie.Need-returns
+unfolding zeros
+returns c = (refl, refl)
+
+pub text-spec : {M : Type 1} → statement M
+text-spec = tie.close (tie.spec returns)
