@@ -79,14 +79,26 @@ pub counts : (out : List ℕ) (at : ℕ) (word : List ℕ) → Counts (endAfter 
 unfolding endAfter
 counts out at word = let n = put-length out at word in (omega arith, simp length-take (omega arith))
 
+pub kept-length : {out last : List ℕ} {at end : ℕ} {word : List ℕ} → Put out at word end last → length last ≡ length out
+kept-length {out} {last} {at} {end} {word} p = ap length (p .holds) ∙ put-length out at word
+
 -- two calls, one after the other, put the two words as one
 pub and-then : {out first last : List ℕ} {at r s : ℕ} {a b : List ℕ} → Put out at a r first → Put first r b s last → Put out at (a ++ b) s last
 and-then {out} {first} {last} {at} {r} {s} {a} {b} p q =
-    let n : length first ≡ length out = ap length (p .holds) ∙ put-length out at a in record {
+    let n = kept-length p in record {
       ends = q .ends ∙ ap (λ (k : ℕ). endAfter k r b) n ∙ ap (λ (k : ℕ). endAfter (length out) k b) (p .ends) ∙ joined-end out at a b;
       counts = q .counts;
       holds = q .holds ∙ ap (λ (l : List ℕ). putAt l r b) (p .holds) ∙ ap (λ (k : ℕ). putAt (putAt out at a) k b) (p .ends) ∙ joined out at a b;
     }
+
+-- no word put where a text ends
+pub nothing : (out : List ℕ) (end : ℕ) → end ≤ length out → Put out end [] end out
+unfolding endAfter
+nothing out end h =
+    let e : end ≡ endAfter (length out) end [] = omega arith in
+    let n : end + 0 ≡ end = omega arith in
+    let is : out ≡ putAt out end [] = sym (whole out end [] (omega arith) ∙ ap (λ (k : ℕ). take end out ++ drop k out) n ∙ take-append-drop end out) in
+    record { ends = e; counts = (h, sym (length-take-le end out h)); holds = is }
 
 -- an equal word is put
 pub same-word : {out last : List ℕ} {at end : ℕ} {a b : List ℕ} → a ≡ b → Put out at a end last → Put out at b end last

@@ -8,8 +8,8 @@ use native.Mathlib.Nat.{pow-suc, one-le-pow}
 use native.Mathlib.Omega.{arith}
 use lib.Dec.{ltb, eqb}
 use lib.IntN.{ℤ, pos, negsuc}
-use lib.ListN.{length, getD, length-append, List·getD-append}
-use lib.Seq.{getD-append-add}
+use lib.ListN.{length, getD, take, length-append, List·getD-append}
+use lib.Seq.{getD-append-add, take-suc, take-length}
 use mir.Syntax.{Width}
 use mir.Val.{SFits, bits, hbits}
 use mir.ValLaws.{pow-bits}
@@ -19,7 +19,7 @@ use Rattle.io.specs.Digits.{digits, Fewest}
 use Rattle.arith.specs.Wrap.{word}
 use Rattle.arith.proofs.Cut.{word-same}
 use Rattle.hex.specs.Hex.{digitOf, byteOf, bytesOf, allBytes}
-use Rattle.text.specs.Text.{digit, digitsOf, decimalOf, minus, signedOf, hexDigit, hexOf, valueFrom, valueOf, below, signedValueOf, Digits}
+use Rattle.text.specs.Text.{digit, digitsOf, decimalOf, minus, signedOf, hexDigit, hexOf, hexFirst, hexAll, valueFrom, valueOf, below, signedValueOf, Digits}
 
 -- ---- digits, by the fuel
 
@@ -144,13 +144,42 @@ digit-back d h = by d 10 (λ l. rw (lt-ltb d 10 l) (decimal l)) (λ l. rw (le-lt
         rw (q, z) (omega arith)
 
 -- two hexadecimal digits give the byte back, as `hex` reads them
-pub hex-back : (b : ℕ) → b < 256 → allBytes (hexOf b) ≡ b ∷ []
-unfolding hexOf bytesOf
-hex-back b h =
-    let high = digit-back (b / 16) (omega arith) in
-    let low = digit-back (b % 16) (omega arith) in
-    let e : byteOf (hexDigit (b / 16)) (hexDigit (b % 16)) ≡ b = rw (high, low) (omega arith) in
-    ap (λ (x : ℕ). x ∷ []) e
+pub hex-back : (b : ℕ) → b < 256 → byteOf (hexDigit (b / 16)) (hexDigit (b % 16)) ≡ b
+hex-back b h = rw (digit-back (b / 16) (omega arith), digit-back (b % 16) (omega arith)) (omega arith)
+
+-- ---- bytes in hexadecimal digits give the bytes back
+
+-- digits behind those of n bytes play no part
+first-digits : (l rest : List ℕ) (n : ℕ) → 2 * n ≤ length l → bytesOf (l ++ rest) n ≡ bytesOf l n
+unfolding bytesOf
+first-digits l rest zero h = refl
+first-digits l rest (suc n) h =
+    rw (first-digits l rest n (omega arith), List·getD-append l rest 0 (2 * n) (omega arith), List·getD-append l rest 0 (2 * n + 1) (omega arith))
+
+module _ (bs : List ℕ) (bytes : (k : ℕ) → k < length bs → getD bs k 0 < 256) where
+  hex-length : (n : ℕ) → length (hexFirst bs n) ≡ 2 * n
+  unfolding hexFirst hexOf
+  hex-length zero = refl
+  hex-length (suc n) = let e = hex-length n in omega (arith, length-append (hexFirst bs n) (hexOf (getD bs n 0)))
+
+  first-back : (n : ℕ) → n ≤ length bs → bytesOf (hexFirst bs n) n ≡ take n bs
+  unfolding hexFirst hexOf bytesOf
+  first-back zero h = refl
+  first-back (suc n) h =
+      let l = hexFirst bs n in
+      let b = getD bs n 0 in
+      let long = hex-length n in
+      let high : getD (l ++ hexOf b) (2 * n) 0 ≡ hexDigit (b / 16) =
+      (let q : 2 * n ≡ length l + 0 = omega arith in rw q (getD-append-add l (hexOf b) 0 0)) in
+      let low : getD (l ++ hexOf b) (2 * n + 1) 0 ≡ hexDigit (b % 16) =
+      (let q : 2 * n + 1 ≡ length l + 1 = omega arith in rw q (getD-append-add l (hexOf b) 1 0)) in
+      rw (first-digits l (hexOf b) n (omega arith), first-back n (omega arith), high, low, hex-back b (bytes n h), take-suc bs n 0 h)
+
+  pub all-back : allBytes (hexAll bs) ≡ bs
+  all-back =
+      let long = hex-length (length bs) in
+      let half : length (hexAll bs) / 2 ≡ length bs = omega arith in
+      rw half (first-back (length bs) (omega arith) ∙ take-length bs)
 
 -- ---- what other functions say of digits
 

@@ -39,6 +39,15 @@ hexDigit d = cond (ltb d 10) (digit d) (55 + d)
 unfoldable pub hexOf : ℕ → List ℕ
 hexOf b = hexDigit (b / 16) ∷ hexDigit (b % 16) ∷ []
 
+-- the digits of the first n bytes
+unfoldable pub hexFirst : List ℕ → ℕ → List ℕ
+hexFirst bs zero = []
+hexFirst bs (suc n) = hexFirst bs n ++ hexOf (getD bs n 0)
+
+-- of all of them
+abbrev pub hexAll : List ℕ → List ℕ
+hexAll bs = hexFirst bs (length bs)
+
 -- ---- read back
 
 -- digits behind a number v

@@ -2,7 +2,7 @@
 // Each function gives where the text ends then; what there is no room for is cut off. A line is put word by word (proofs/Joined.antt).
 ghost use mathlib.Core.Path.{_≡_};
 ghost use Prim.Native.Nat.{_<_};
-ghost use Rattle.text.specs.Text.{decimalOf, labelled, signedOf, hexDigit, hexOf};
+ghost use Rattle.text.specs.Text.{decimalOf, labelled, signedOf, hexDigit, hexOf, hexAll};
 ghost use Rattle.text.specs.Put.{Put};
 
 // Puts a word.
@@ -56,6 +56,19 @@ pub fn put_hex(out: &mut [u8], at: usize, v: u8) -> usize
 {
     let digits = [hex_digit(v / 16), hex_digit(v % 16)];
     put(out, at, &digits)
+}
+
+// Puts bytes, each in two digits.
+pub fn put_hex_bytes(out: &mut [u8], at: usize, bytes: &[u8]) -> usize
+    ensures { λ r. ⌜ Put (now (out .entry)) at (hexAll (now (bytes .entry))) r (now (out .exit)) ⌝ }
+{
+    let mut end = put(out, at, b"");
+    let mut i = 0;
+    while i < bytes.len() {
+        end = put_hex(out, end, bytes[i]);
+        i += 1;
+    }
+    end
 }
 
 fn hex_digit(d: u8) -> u8

@@ -1,4 +1,4 @@
-// Runs vectors with known answers over the crates arith, drive and image, a line for each, and a table of the pins of every drive.
+// Runs vectors with known answers over the crates arith, drive, image and loader, a line for each, and a table of the pins of every drive.
 // What it prints is held to the file stdout, whose answers are document 01's. Each function shows what it does, and gives it back.
 use arith::Quotient;
 use drive::Drive;
@@ -20,6 +20,8 @@ ghost use Rattle.arith.specs.Wrap.{word, wrap};
 ghost use Rattle.le.specs.LittleEndian.{leBytes};
 ghost use Rattle.number.specs.Number.{numberAt};
 ghost use Rattle.image.specs.Scan.{headerOf};
+ghost use Rattle.walk.specs.Index.{marksLength};
+ghost use Rattle.walk.specs.Verdict.{acceptedBlocks};
 ghost use Rattle.writer.specs.Writer.{written, outAfter};
 ghost use Rattle.pins.specs.declared.PinKind.the-variants.{Input, OutputWritten, OutputRead};
 ghost use Rattle.outcome.specs.declared.Outcome.the-variants.{Done, EndsEarly, NotShortest, OutOfRange, LeftOver, NoRoom};
@@ -32,6 +34,7 @@ fn main() {
     number_rows();
     case_rows();
     range_rows();
+    block_rows();
     write_rows();
     room_rows();
     pin_rows();
@@ -132,6 +135,25 @@ fn range_rows() -> [Outcome; 11]
         header_outcome(b"\x01\x02\x00\x00\x00\xdd\x0b\x55\x00\x00\x00\x00\x00\x00\x00"),
         header_outcome(b"\x01\x02\x00\x00\x80\x01\x01\x55\x00\x00\x00\x00\x00\x00\x00"),
         header_outcome(b"\x01\x02\x00\x00\x80\x01\xdc\x0b"),
+    ]
+}
+
+// The blocks that the loader hands back: of case A and the accepted image of I, then of A cut by a byte (1), C (3), H (7) and B (12); gives how
+// many bytes.
+fn block_rows() -> [usize; 6]
+    ensures { λ r. ⌜ r ≡ 8 ∷ 16 ∷ 0 ∷ 0 ∷ 0 ∷ 0 ∷ [] ⌝ }
+{
+    [
+        block_row(b"\x01\x02\x00\x00\x00\x01\x55\x00\x00\x00\x00\x00\x00\x00"),
+        block_row(
+            b"\x01\x02\x00\x00\x00\x02\x72\x0c\x01\x00\x00\x00\x00\x00\x55\x00\x00\x00\x00\x00\x00\x00",
+        ),
+        block_row(b"\x01\x02\x00\x00\x00\x01\x55\x00\x00\x00\x00\x00\x00"),
+        block_row(b"\x01\x02\x00\x00\x01\x01\x55\x00\x00\x00\x00\x00\x00\x00"),
+        block_row(
+            b"\x01\x02\x00\x00\x00\x02\x1f\x01\x01\xfa\x00\x00\x00\x00\x55\x00\x00\x00\x00\x00\x00\x00",
+        ),
+        block_row(b"\x01\x02\x00\x00\x00\x01\x50\x00\x00\x00\x00\x00\x00\x00"),
     ]
 }
 
@@ -305,6 +327,26 @@ fn header_row(image: &[u8]) -> HeaderRead
     print::show(b" blocks ", reader::block_part(image).len() as u64);
     io::write_all(STDOUT_FILENO, b"\n");
     r
+}
+
+// The verdict on an image, and its blocks in hexadecimal digits; gives how many bytes they are.
+fn block_row(image: &[u8]) -> usize
+    ensures { λ r. ⌜ r ≡ length (acceptedBlocks (now (image .entry)) marksLength) ⌝ }
+{
+    report::judge(image);
+    let mut marks = report::marks();
+    show_blocks(loader::blocks(image, &mut marks))
+}
+
+fn show_blocks(blocks: &[u8]) -> usize
+    ensures { λ r. ⌜ r ≡ length (now (blocks .entry)) ⌝ }
+{
+    let mut line = [0u8; 64];
+    let end = text::put(&mut line, 0, b"blocks [");
+    let end = text::put_hex_bytes(&mut line, end, blocks);
+    let end = text::put(&mut line, end, b"]\n");
+    io::write_all(STDOUT_FILENO, &line[..end]);
+    blocks.len()
 }
 
 fn show_header(r: HeaderRead) -> HeaderRead

@@ -1,0 +1,74 @@
+-- How many bytes the loader hands back of the images of `block_rows`, computed by the verdict's fast twin (crates/walk/proofs/Fast.antt).
+-- Assumes nothing.
+use mathlib.Core.Path.{_≡_, refl, sym, ap, _∙_}
+use mathlib.Core.Bool.{cond}
+use mathlib.Core.List.{List, [], _∷_, map}
+use Prim.Native.Nat.{ℕ}
+use lib.ListN.{length}
+use Rattle.drive.specs.Types as types
+use Rattle.pins.specs.Homes as homes
+use Rattle.drive.specs.Pins as pins
+use Rattle.number.specs.Number as number
+use Rattle.image.specs.Rows as header
+use Rattle.image.specs.Scan as scan
+use Rattle.rows.specs.Rows as rows
+use Rattle.operands.specs.Operands as operands
+use Rattle.command.specs.Judged as judged
+use Rattle.flow.specs.Flow as flow
+use Rattle.flow.specs.Tasks as tasks
+use Rattle.point.specs.Fault as fault
+use Rattle.walk.specs.Program as program
+use Rattle.walk.specs.Index.{marksLength, indexOf, pointAt}
+use Rattle.walk.specs.Successors as successors
+use Rattle.walk.specs.Graph.{least}
+use Rattle.walk.specs.Verdict as verdict
+use Rattle.walk.proofs.Fast.{closureFast, walksFast, blocksFast, readFast, verdictFast, fast-is}
+use Rattle.walk.specs.Verdict.{acceptedBlocks, isAccepted}
+use Rattle.walk.specs.declared.Verdict.{Verdict}
+use Rattle.vectors.proofs.Rows.{_◂_}
+
+abbrev images : List (List ℕ)
+images =
+    (1 ∷ 2 ∷ 0 ∷ 0 ∷ 0 ∷ 1 ∷ 85 ∷ 0 ∷ 0 ∷ 0 ∷ 0 ∷ 0 ∷ 0 ∷ 0 ∷ []) ∷
+    (1 ∷ 2 ∷ 0 ∷ 0 ∷ 0 ∷ 2 ∷ 114 ∷ 12 ∷ 1 ∷ 0 ∷ 0 ∷ 0 ∷ 0 ∷ 0 ∷ 85 ∷ 0 ∷ 0 ∷ 0 ∷ 0 ∷ 0 ∷ 0 ∷ 0 ∷ []) ∷
+    (1 ∷ 2 ∷ 0 ∷ 0 ∷ 0 ∷ 1 ∷ 85 ∷ 0 ∷ 0 ∷ 0 ∷ 0 ∷ 0 ∷ 0 ∷ []) ∷
+    (1 ∷ 2 ∷ 0 ∷ 0 ∷ 1 ∷ 1 ∷ 85 ∷ 0 ∷ 0 ∷ 0 ∷ 0 ∷ 0 ∷ 0 ∷ 0 ∷ []) ∷
+    (1 ∷ 2 ∷ 0 ∷ 0 ∷ 0 ∷ 2 ∷ 31 ∷ 1 ∷ 1 ∷ 250 ∷ 0 ∷ 0 ∷ 0 ∷ 0 ∷ 85 ∷ 0 ∷ 0 ∷ 0 ∷ 0 ∷ 0 ∷ 0 ∷ 0 ∷ []) ∷
+    (1 ∷ 2 ∷ 0 ∷ 0 ∷ 0 ∷ 1 ∷ 80 ∷ 0 ∷ 0 ∷ 0 ∷ 0 ∷ 0 ∷ 0 ∷ 0 ∷ []) ∷
+    []
+
+-- the blocks by a verdict
+abbrev by : List ℕ → Verdict → List ℕ
+by image v = cond (isAccepted v) (scan.blocksOf image) []
+
+abbrev quick : List ℕ → ℕ
+quick image = length (by image (verdictFast image marksLength))
+
+abbrev handed : List ℕ → ℕ
+handed image = length (acceptedBlocks image marksLength)
+
+quick-is : (is : List (List ℕ)) → map handed is ≡ map quick is
+unfolding acceptedBlocks
+quick-is [] = refl
+quick-is (i ∷ is) = ap (λ (v : Verdict). length (by i v)) (sym (fast-is i marksLength)) ◂ quick-is is
+
+computed : map quick images ≡ 8 ∷ 16 ∷ 0 ∷ 0 ∷ 0 ∷ 0 ∷ []
+unfolding types.takes homes.outputsWritten homes.homeIn homes.homeOf pins.onBoard pins.presence pins.pinOf pins.refusalOf
+    number.secondByte number.firstByte number.numberAt
+    header.formatRow header.typeRow header.slotBRow header.slotCRow header.countInRange header.countRow header.judged
+    scan.taken scan.more scan.scan scan.firstRefusal scan.lengthOutcome scan.readWith scan.closed scan.headerOf scan.blocksOf
+    rows.rows rows.rowIn rows.rowOf
+    operands.laidOut operands.operands operands.usedBytes operands.allZero operands.unusedZero
+    judged.deviceRefusal judged.inRange judged.judgedBy judged.decodedBy judged.decoded
+    flow.flowBy flow.flowOf
+    tasks.foreign tasks.permitted fault.flowFault fault.faultOf
+    program.commandAt program.faultAt
+    indexOf pointAt
+    successors.successors successors.indices successors.nextOf
+    least
+    verdict.leastForeign verdict.leastBad verdict.verdictBy
+    closureFast walksFast blocksFast readFast verdictFast
+computed = refl
+
+pub known : map handed images ≡ 8 ∷ 16 ∷ 0 ∷ 0 ∷ 0 ∷ 0 ∷ []
+known = quick-is images ∙ computed
