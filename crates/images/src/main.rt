@@ -50,8 +50,8 @@ fn rows(text: &[u8]) -> usize
     n
 }
 
-// What an image comes to.
-pub struct Judged {
+// What is shown of an image.
+pub struct Shown {
     pub verdict: Verdict,
     pub blocks: Blocks,
 }
@@ -62,16 +62,17 @@ pub struct Blocks {
     pub check: u64,
 }
 
-// Judges the image of a line, writes the line of its verdict and that of its blocks; gives the verdict and what is printed of the blocks.
-fn row(line: &[u8]) -> Judged
+// Judges the image of a line, writes the line of its verdict and that of its blocks; gives what is shown.
+fn row(line: &[u8]) -> Shown
     ensures { λ r. ⌜ r .verdict ≡ verdictOf (allBytes (now (line .entry))) marksLength ⌝ }
     ensures { λ r. ⌜ r .blocks ≡ partOf (acceptedBlocks (allBytes (now (line .entry))) marksLength) ⌝ }
 {
     let mut image = report::input();
     let n = hex::decode(line, &mut image);
-    let verdict = report::judge(&image[..n]);
+    let judged = report::judge(&image[..n]);
+    let verdict = judged.verdict;
     let blocks = show_blocks(blocks_of(&image[..n]));
-    Judged { verdict, blocks }
+    Shown { verdict, blocks }
 }
 
 // The blocks of an image, none where it is refused.

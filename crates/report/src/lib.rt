@@ -6,6 +6,7 @@ use walk::Verdict;
 ghost use mathlib.Core.Path.{_≡_};
 ghost use Prim.Native.Nat.{_≤_};
 ghost use lib.ListN.{length};
+ghost use Rattle.io.specs.Counts.{Counts};
 ghost use Rattle.walk.specs.Index.{marksLength};
 ghost use Rattle.walk.specs.Verdict.{verdictOf};
 ghost use Rattle.text.specs.Put.{Put};
@@ -26,12 +27,21 @@ pub fn input() -> [u8; INPUT_LENGTH]
     [0; INPUT_LENGTH]
 }
 
-// Judges an image and writes the line of its verdict to standard output; gives the verdict.
-pub fn judge(image: &[u8]) -> Verdict
-    ensures { λ r. ⌜ r ≡ verdictOf (now (image .entry)) marksLength ⌝ }
+// An image judged: the verdict, and its line as it was written.
+pub struct Judged {
+    pub verdict: Verdict,
+    pub line: LineBytes,
+}
+
+// Judges an image and writes the line of its verdict to standard output; gives the verdict and the line.
+pub fn judge(image: &[u8]) -> Judged
+    ensures { λ r. ⌜ r .verdict ≡ verdictOf (now (image .entry)) marksLength ⌝ }
+    ensures { λ r. ⌜ Holds (lineOf (r .verdict)) (r .line) ⌝ }
 {
     let mut space = marks();
-    write_line(loader::judge(image, &mut space))
+    let verdict = loader::judge(image, &mut space);
+    let line = write_line(verdict);
+    Judged { verdict, line }
 }
 
 // The bytes that the search works in, each 0.
@@ -51,15 +61,22 @@ pub struct LineBytes {
 // Room for the line of any verdict.
 pub const LINE_ROOM: usize = 80;
 
-// Writes the line of a verdict to standard output; gives the verdict back.
-pub fn write_line(v: Verdict) -> Verdict
-    ensures { λ r. ⌜ r ≡ v ⌝ }
+// Writes the line of a verdict to standard output; gives the line.
+pub fn write_line(v: Verdict) -> LineBytes
+    ensures { λ r. ⌜ Holds (lineOf v) r ⌝ }
 {
-    let l = line_of(v);
-    let bytes = l.bytes;
-    let n = l.length;
+    written(line_of(v))
+}
+
+// Writes a line; gives it back.
+fn written(line: LineBytes) -> LineBytes
+    requires { ⌜ Counts (line .length) (line .bytes) ⌝ }
+    ensures { λ r. ⌜ r ≡ line ⌝ }
+{
+    let bytes = line.bytes;
+    let n = line.length;
     io::write_all(STDOUT_FILENO, &bytes[..n]);
-    v
+    line
 }
 
 // The line of a verdict.

@@ -44,7 +44,7 @@ returns c =
     let d = c .before .before .before .before .before .before .decode in
     let room = c .before .before .before .before .before .before .before .before .input .ensures .0 in
     let line = c .before .before .before .before .before .before .before .before .before .before .args .line .now in
-    let judged = rw (d .ensures .1 .1, front line (d .result)) at (c .before .before .before .judge .ensures) in
+    let judged = rw (d .ensures .1 .1, front line (d .result)) at (c .before .before .before .judge .ensures .0) in
     let blocks = rw (d .ensures .1 .1, front line (d .result)) at (c .before .blocks-of .ensures) in (
       judged ∙ enough line _ (d .result) marksLength (d .ensures .0) (omega (arith, room)),
       c .show-blocks .ensures ∙ blocks ∙ ap partOf (enough-blocks line _ (d .result) marksLength (d .ensures .0) (omega (arith, room))),

@@ -1,7 +1,8 @@
--- `report::judge` meets its contract: it gives the loader's verdict, with marks of the length that 13 asks for. Assumes nothing.
-use borrow.Author.Needs.{needs}
+-- `report::judge` meets its contract: it gives the loader's verdict, with marks of the length that 13 asks for, and the line of that verdict.
+-- Assumes nothing.
 use mathlib.Core.Path.{sym, ap, _∙_}
 use Rattle.walk.specs.Verdict.{verdictOf}
+use borrow.Author.Needs.{needs}
 use Rattle.report.proofs.judge.Statement.{statement}
 use Rattle.report.proofs.judge.Tie as tie
 
@@ -19,7 +20,8 @@ write-line-requires c κs = search needs
 
 returns : tie.Need-returns
 returns c =
-    c .write-line .ensures ∙ c .before .before .judge .ensures .0 ∙ ap (verdictOf (c .before .before .before .before .before .before .args .image .now)) (sym (c .before .before .before .before .marks .ensures .0))
+    let image = c .before .before .before .before .before .before .args .image .now in
+    (c .before .before .judge .ensures .0 ∙ ap (verdictOf image) (sym (c .before .before .before .before .marks .ensures .0)), c .write-line .ensures)
 
 pub judge-spec : {M : Type 1} → statement M
 judge-spec =
