@@ -2,10 +2,10 @@
 -- Assumes nothing.
 use Prim.Native.Nat.{ℕ, _<_, _≤_}
 use native.Mathlib.Omega.{arith}
-use mathlib.Core.Path.{_≡_, refl, sym, ap, _∙_}
+use mathlib.Core.Path.{_≡_, refl, ap}
 use mathlib.Core.Bool.{true, false}
 use mathlib.Core.Logic.{_↔_, _⊎_}
-use mathlib.Core.List.{List, [], _∷_}
+use mathlib.Core.List.{List, _∷_}
 use lib.ListN.{getD}
 use Rattle.le.specs.LittleEndian.{Bytes}
 use Rattle.number.proofs.Choice.{clash}
@@ -29,7 +29,6 @@ use Rattle.machine.specs.declared.Cause.the-variants.{ZeroDivisor, BadContent}
 use Rattle.machine.specs.declared.Answer.{Answer}
 use Rattle.machine.specs.declared.Answer.the-variants.{Done, NoTask, Inputs as BadInputs, NotRunning, Differs, Halted}
 use Rattle.machine.proofs.Apart.{threadFor, alike-is, permitted-fits}
-use Rattle.border.specs.Border.{answerFor}
 use Rattle.border.specs.declared.BiasAnswer.{BiasAnswer}
 use Rattle.bias.specs.Load.{load}
 use Rattle.bias.specs.Step.{stepped}

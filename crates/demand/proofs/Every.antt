@@ -1,10 +1,9 @@
 -- Every step of bytes goes one of the ways of specs/Every.antt, by the tests that lead there, and what it answers and leaves is that way's: a command halts exactly
 -- for its reason, and where it halts no wait was pending. Assumes nothing.
-use Prim.Native.Nat.{ℕ, _<_, _≤_}
+use Prim.Native.Nat.{ℕ}
 use native.Mathlib.Omega.{arith}
 use mathlib.Core.Path.{_≡_, refl, sym, ap, _∙_, subst}
 use mathlib.Core.Bool.{Bool, true, false, _&&_, _||_, not}
-use mathlib.Core.Logic.{⊎-elim}
 use mathlib.Core.List.{List}
 use lib.Dec.{eqb}
 use lib.ListN.{length, set}
@@ -15,7 +14,6 @@ use Rattle.image.specs.Scan.{blocksOf}
 use Rattle.rows.specs.Rows.{hex}
 use Rattle.operands.specs.declared.Command.{Command}
 use Rattle.flow.specs.Flow.{taskCount}
-use Rattle.walk.specs.Program.{commandAt}
 use Rattle.state.specs.State.{cells, runs, halted, task, taskAt}
 use Rattle.state.specs.Good.{Good, GoodWait}
 use Rattle.state.specs.declared.Task.{Task}
@@ -35,7 +33,6 @@ use Rattle.machine.specs.declared.Motion.the-variants.{None}
 use Rattle.machine.specs.declared.Answer.{Answer}
 use Rattle.machine.specs.declared.Answer.the-variants.{Done, NotRunning, Differs, Halted}
 use Rattle.machine.specs.declared.Effect.{Effect}
-use Rattle.machine.specs.declared.Out.{Out}
 use Rattle.machine.specs.declared.Outcome.{Outcome}
 use Rattle.machine.specs.declared.Outcome.the-variants as outcome
 use Rattle.machine.proofs.Laws.{Law, Halting, isHalt}

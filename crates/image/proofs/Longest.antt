@@ -3,11 +3,11 @@
 use mathlib.Core.Path.{_≡_, refl, ap, subst}
 use mathlib.Core.Bool.{Bool, true, false, cond}
 use mathlib.Core.List.{List}
-use Prim.Native.Nat.{ℕ, zero, suc, _+_, _*_, _<_, _≤_}
+use Prim.Native.Nat.{ℕ, suc, _+_, _*_, _<_, _≤_}
 use native.Mathlib.Omega.{arith}
 use lib.ListN.{length, getD}
 use lib.Dec.{eqb, ltb}
-use borrow.Author.Tests.{ltb-true, ltb-false, eqb-false, lt-ltb, le-ltb}
+use borrow.Author.Tests.{ltb-false, eqb-false, le-ltb}
 use Rattle.drive.specs.Types.{slotB, slotC}
 use Rattle.drive.proofs.Laws.{board-small}
 use Rattle.outcome.specs.Outcome.{done}
@@ -15,7 +15,6 @@ use Rattle.outcome.specs.declared.Outcome.the-variants.{Done}
 use Rattle.number.specs.Number.{secondByte, firstByte, numberAt}
 use Rattle.number.specs.declared.Number.{Number}
 use Rattle.number.specs.declared.Number as number
-use Rattle.number.proofs.Choice.{by}
 use Rattle.image.specs.Scan.{Source, fromImage, scan, headerOf, rowCount}
 use Rattle.image.specs.Longest.{greatest, sizeUpTo, longestHeader, longestImage}
 use Rattle.image.specs.declared.Header.{Header}

@@ -2,7 +2,7 @@
 -- noticed here. Assumes nothing.
 use Prim.Native.Nat.{ℕ, _+_, _<_}
 use mathlib.Core.Path.{_≡_, refl, sym, ap, _∙_}
-use mathlib.Core.Bool.{Bool, true, false, _&&_}
+use mathlib.Core.Bool.{true, false, _&&_}
 use mathlib.Core.Logic.{_⊎_, inl, inr, ⊎-elim}
 use mathlib.Core.List.{List, [], _∷_, map}
 use native.Mathlib.Omega.{arith}
@@ -27,8 +27,6 @@ use Rattle.machine.specs.Alike.{returnsOf, SameTask, SameValues, Alike}
 use Rattle.machine.specs.Run.{SameHanded, Permitted}
 use Rattle.machine.specs.Each.{Calls, callsAfter, commandOf, executed, Behind, Reason, Stopped, Step, EveryStep}
 use Rattle.machine.specs.declared.Cause.{Cause}
-use Rattle.machine.specs.declared.Motion.{Motion}
-use Rattle.machine.specs.declared.Answer.{Answer}
 use Rattle.machine.specs.declared.Answer.the-variants.{Done, Halted}
 use Rattle.machine.specs.declared.Out.{Out}
 

@@ -12,7 +12,6 @@ use borrow.Author.Tests.{lt-ltb, le-ltb}
 use Rattle.outcome.specs.Outcome.{done}
 use Rattle.number.specs.Number.{numberAt, firstByte, secondByte}
 use Rattle.image.specs.Scan.{fromImage, taken, more, scan, mostHeaderBytes, firstRefusal, lengthOutcome, readWith, closed, headerOf, blocksOf}
-use Rattle.image.specs.declared.Header.{Header}
 use Rattle.outcome.specs.declared.Outcome.the-variants.{LeftOver}
 use Rattle.number.specs.declared.Number.{Number}
 use Rattle.number.specs.declared.Number.the-variants.{Value}
@@ -22,7 +21,9 @@ use Rattle.image.proofs.Accepted.{accepted-header}
 use Rattle.image.proofs.Scanning.{at-most, image-near}
 use Rattle.image.proofs.Read.{read-fine}
 use Rattle.walk.specs.Verdict.{verdictOf, acceptedBlocks}
-use Rattle.report.specs.Input.{mostImageBytes, inputLength}
+use Rattle.image.specs.Longest.{longestImage}
+use Rattle.image.proofs.Longest.{image-sized, image-end}
+use Rattle.report.specs.Input.{inputLength}
 
 -- what a number comes to where two bytes are there, b and c
 unfoldable twoBytes : ℕ → ℕ → ℕ → Number
@@ -42,7 +43,7 @@ length-free n m row s at b c =
     P x = taken n row s x ≡ taken m row s x
 
 -- two images that are longer than any image let pass, with the same bytes where the header stands
-module _ (a b : List ℕ) (long-a : mostImageBytes < length a) (long-b : mostImageBytes < length b)
+module _ (a b : List ℕ) (long-a : longestImage < length a) (long-b : longestImage < length b)
     (same : (k : ℕ) → k < mostHeaderBytes → getD a k 0 ≡ getD b k 0) where
   same-taken : (row : ℕ) (s : Scan) → s .at + 1 < mostHeaderBytes → taken (length a) row s (numberAt a (s .at)) ≡ taken (length b) row s (numberAt b (s .at))
   same-taken row s h =
@@ -62,19 +63,14 @@ module _ (a b : List ℕ) (long-a : mostImageBytes < length a) (long-b : mostIma
       same-more k (scan (length a) (fromImage a) k) (omega arith) ∙ ap (λ (s : Scan). more (length b) (fromImage b) k s) e
 
   -- the six numbers of a, where the scan let them pass, leave room for no byte more
-  within : done (scan (length a) (fromImage a) 6 .outcome) ≡ true → scan (length a) (fromImage a) 6 .at + 8 * scan (length a) (fromImage a) 6 .header .count ≤ mostImageBytes
-  within h =
-      let near = at-most (length a) (fromImage a) (image-near a) 6 in
-      let read = accepted-header (length a) (fromImage a) h in
-      let few = read .count .1 in
-      let is = ap (λ (h : Header). h .count) (read .header) in
-      omega arith
+  within : done (scan (length a) (fromImage a) 6 .outcome) ≡ true → scan (length a) (fromImage a) 6 .at + 8 * scan (length a) (fromImage a) 6 .header .count ≤ longestImage
+  within h = image-end (length a) (fromImage a) (image-sized a) (accepted-header (length a) (fromImage a) h)
 
-  left-over : (at count n : ℕ) → at + 8 * count ≤ mostImageBytes → mostImageBytes < n → lengthOutcome at count n ≡ LeftOver (at + 8 * count)
+  left-over : (at count n : ℕ) → at + 8 * count ≤ longestImage → longestImage < n → lengthOutcome at count n ≡ LeftOver (at + 8 * count)
   unfolding lengthOutcome
   left-over at count n h l = rw (le-ltb n (at + 8 * count) (omega arith), lt-ltb (at + 8 * count) n (omega arith))
 
-  same-length : (s : Scan) → (done (s .outcome) ≡ true → s .at + 8 * s .header .count ≤ mostImageBytes) → closed s (length a) ≡ closed s (length b)
+  same-length : (s : Scan) → (done (s .outcome) ≡ true → s .at + 8 * s .header .count ≤ longestImage) → closed s (length a) ≡ closed s (length b)
   unfolding closed firstRefusal
   same-length s h = ap (readWith s) (go (done (s .outcome)) refl)
     where
@@ -113,7 +109,7 @@ module _ (a b : List ℕ) (long-a : mostImageBytes < length a) (long-b : mostIma
 
 -- what two such images have in common, n first bytes have in common with the image
 enough : {A : Type 0} (f : List ℕ → A)
-    → ((a b : List ℕ) → mostImageBytes < length a → mostImageBytes < length b → ((k : ℕ) → k < mostHeaderBytes → getD a k 0 ≡ getD b k 0) → f a ≡ f b)
+    → ((a b : List ℕ) → longestImage < length a → longestImage < length b → ((k : ℕ) → k < mostHeaderBytes → getD a k 0 ≡ getD b k 0) → f a ≡ f b)
     → (image : List ℕ) (n : ℕ) → inputLength ≤ n → f (take n image) ≡ f image
 enough f same image n h =
     by n (length image)

@@ -1,17 +1,12 @@
 -- How much of an input is enough to judge it: proofs/Beginning.antt. Assumes nothing.
-use Prim.Native.Nat.{ℕ, _+_, _*_}
+use Prim.Native.Nat.{ℕ, _+_}
 use mathlib.Core.List.{List}
 use lib.ListN.{replicate}
-use Rattle.image.specs.Rows.{mostBlocks}
-use Rattle.image.specs.Scan.{mostHeaderBytes, blockLength}
+use Rattle.image.specs.Longest.{longestImage}
 
--- six numbers and the blocks take no more
-abbrev pub mostImageBytes : ℕ
-mostImageBytes = mostHeaderBytes + blockLength * mostBlocks
-
--- and a byte behind them, by which 4 is seen
+-- the longest image and a byte behind it, by which 4 is seen
 abbrev pub inputLength : ℕ
-inputLength = mostImageBytes + 1
+inputLength = longestImage + 1
 
 -- so many bytes, each 0
 unfoldable pub zeros : ℕ → List ℕ

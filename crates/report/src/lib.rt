@@ -13,9 +13,9 @@ ghost use Rattle.text.specs.Put.{Put};
 ghost use Rattle.report.specs.Input.{inputLength, zeros};
 ghost use Rattle.report.specs.Line.{lineOf, lineRoom, Holds};
 
-// The most bytes that a header's six numbers take, and one byte more than the longest image has: of a longer input no other byte counts
-// (proofs/Beginning.antt).
-pub const HEADER_BYTES: usize = 2 * reader::ROWS as usize;
+// The most bytes that a header's six numbers take, of which start and count alone may take two, and one byte more than the longest image has: of a longer
+// input no other byte counts (proofs/Beginning.antt).
+pub const HEADER_BYTES: usize = reader::ROWS as usize + 2;
 
 pub const INPUT_LENGTH: usize = HEADER_BYTES + reader::BLOCK_LENGTH * program::BLOCKS + 1;
 

@@ -11,12 +11,11 @@ use Rattle.drive.specs.Types as types
 use Rattle.outcome.specs.Outcome.{done}
 use Rattle.outcome.specs.declared.Outcome.the-variants.{Done}
 use Rattle.number.specs.Number.{numberBytes}
-use Rattle.number.specs.declared.Number.{Number}
 use Rattle.image.specs.Rows as rows
 use Rattle.image.specs.Scan.{taken, more, scan, firstRefusal, rowCount, blockLength}
 use Rattle.image.specs.Longest.{greatest, sizeUpTo, longestImage}
 use Rattle.image.proofs.Longest.{Sized, one-byte, two-bytes, image-end}
-use Rattle.writer.specs.Writer.{given, standing, roomOutcome, writtenWith, fitted, written}
+use Rattle.writer.specs.Writer.{given, roomOutcome, writtenWith, fitted, written}
 use Rattle.writer.specs.declared.Written.{Written}
 use Rattle.writer.proofs.Judged.{judged-numbers, fitted-fine, fitted-is}
 

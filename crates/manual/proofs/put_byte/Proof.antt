@@ -1,7 +1,7 @@
 -- `put_byte` meets its contract: the place from its two bytes, then the byte there. Assumes nothing.
 use borrow.Author.Needs.{needs}
 use Rattle.manual.specs.Run.{withByte}
-use Rattle.places.specs.Places.{numberAt, puts}
+use Rattle.places.specs.Places.{puts}
 use denote.Ref.{now}
 use lib.ListN.{getD}
 use mathlib.Core.List.{List, [], _∷_}
