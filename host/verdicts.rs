@@ -1,5 +1,5 @@
 //! Runs a verdict program on each image of crates/images/stdin, once by standard input, and compares the line that it
-//! prints with the stored one, and its exit status. What crates/images/stdout has behind those lines is not looked at.
+//! prints with the stored one, and its exit status. The other lines of crates/images/stdout are of the blocks handed back.
 //! Usage: verdicts PROGRAM REFUSED STDIN STDOUT, with REFUSED the exit status for a refused image
 
 use std::fs;
@@ -29,7 +29,7 @@ fn main() -> ExitCode {
     let refused: i32 = refused.parse().expect("a status");
     let images = fs::read_to_string(images).expect("the images");
     let verdicts = fs::read_to_string(verdicts).expect("their verdicts");
-    let mut expected = verdicts.lines();
+    let mut expected = verdicts.lines().filter(|line| line.starts_with("refusal "));
     let (mut count, mut wrong) = (0, 0);
     for digits in images.lines() {
         count += 1;
