@@ -1,10 +1,26 @@
--- The rows of the table by name, in document 01's order: none is left out. Assumes nothing.
+-- The rows of the table by name and answer, in document 01's order: none is left out, and none answers what it should not. Assumes nothing.
 use mathlib.Core.Path.{_≡_, refl}
 use mathlib.Core.List.{[], _∷_, map}
-use Rattle.cases.specs.Table.{Row, table}
+use lib.IntN.{negsuc}
+use Rattle.state.specs.State.{startAxis}
+use Rattle.machine.specs.declared.Motion.the-variants.{None, MoveTo}
+use Rattle.cases.specs.Table.{Name, Answer, Row, stand, accepted, table}
 use Rattle.cases.specs.Table.Name.{A, B, C, D, E, F, G, H, I, J, K, L, chainOf, heldStart, startMark}
+use Rattle.cases.specs.Table.Answer.{refusal, value, noNumber, standing, whole, motions}
 
-pub named : map (λ (r : Row). r .name) table
-    ≡ A ∷ B ∷ C ∷ D ∷ E ∷ F ∷ G ∷ H ∷ I ∷ I ∷ J ∷ J ∷ K ∷ K ∷ K ∷ K ∷ L ∷ L ∷ chainOf 8 ∷ chainOf 9 ∷ heldStart ∷ startMark ∷ []
+record Told : Type 0 where
+  name : Name
+  answer : Answer
+
+abbrev told : Name → Answer → Told
+told n a = record { name = n; answer = a }
+
+pub named : map (λ (r : Row). told (r .name) (r .answer)) table
+    ≡ told A accepted ∷ told B (refusal 12 0 0 0) ∷ told C (refusal 3 4 0 0) ∷ told D (refusal 10 0 0 8) ∷ told E (refusal 11 1 0 0) ∷ told F (refusal 9 0 1 0)
+    ∷ told G accepted ∷ told H (refusal 7 0 0 0) ∷ told I (refusal 6 0 0 0) ∷ told I accepted
+    ∷ told J (standing (stand 0 1000 526) (stand 1 0 0)) ∷ told J (standing (stand 0 1000 1184) (stand 1 0 0))
+    ∷ told K (value 1500) ∷ told K (noNumber 2) ∷ told K (noNumber 1) ∷ told K (refusal 2 4 0 0)
+    ∷ told L (whole (negsuc 2)) ∷ told L (whole (negsuc 2)) ∷ told (chainOf 8) accepted ∷ told (chainOf 9) (refusal 10 16 0 8)
+    ∷ told heldStart (motions (None ∷ None ∷ None ∷ MoveTo startAxis ∷ [])) ∷ told startMark (motions (None ∷ MoveTo startAxis ∷ None ∷ None ∷ [])) ∷ []
 unfolding table
 named = refl

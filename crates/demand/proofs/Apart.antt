@@ -1,8 +1,8 @@
--- What `Demand` gives when it is taken apart, in the numbers and buffers that C sees: one way more, or one thing less, in specs/Theorem.antt is noticed here.
--- Assumes nothing.
+-- What `Demand` and `EveryStep` give when they are taken apart, in the numbers and buffers that C sees: one way more, or one thing less, in specs/Theorem.antt and
+-- specs/Every.antt is noticed here, or in Loads.antt and Every.antt, where theorems go both ways. Assumes nothing.
 use Prim.Native.Nat.{ℕ, _<_, _≤_}
 use native.Mathlib.Omega.{arith}
-use mathlib.Core.Path.{_≡_, refl, ap}
+use mathlib.Core.Path.{_≡_, refl, sym, ap, _∙_}
 use mathlib.Core.Bool.{true, false}
 use mathlib.Core.Logic.{_↔_, _⊎_}
 use mathlib.Core.List.{List, _∷_}
@@ -28,12 +28,14 @@ use Rattle.machine.specs.declared.Cause.{Cause}
 use Rattle.machine.specs.declared.Cause.the-variants.{ZeroDivisor, BadContent}
 use Rattle.machine.specs.declared.Answer.{Answer}
 use Rattle.machine.specs.declared.Answer.the-variants.{Done, NoTask, Inputs as BadInputs, NotRunning, Differs, Halted}
-use Rattle.machine.proofs.Apart.{threadFor, alike-is, permitted-fits}
+use Rattle.machine.proofs.Apart.{threadFor, both-run, alike-is, permitted-fits}
 use Rattle.border.specs.declared.BiasAnswer.{BiasAnswer}
+use Rattle.border.specs.declared.BiasVerdict.{BiasVerdict}
 use Rattle.bias.specs.Load.{load}
 use Rattle.bias.specs.Step.{stepped}
 use Rattle.demand.specs.Run.{answers, bufferAfter, referenceAnswers}
-use Rattle.demand.specs.Theorem.{refused, differs, StepOn, EveryStepOn, Run, WellFormed, SomeBad, SomeForeign, Demand}
+use Rattle.demand.specs.Every.{haltedState, Way, StepOf}
+use Rattle.demand.specs.Theorem.{refused, differs, StepOn, EveryStepOn, Run, Loads, WellFormed, SomeBad, SomeForeign, Demand}
 
 -- ---- a step of a run, by the numbers that C sees
 
@@ -65,8 +67,8 @@ module _ {image b : List ℕ} {calls : Calls} {x : Inputs} (e : StepOn image cal
   number-is = ap (λ (a : BiasAnswer). a .number) (e .answer)
 
   -- no step of a run is refused by 16 or 17
-  pub never-17 : 16 ≤ stepped image b x .answer .number → stepped image b x .answer .number ≤ 17 → ⊥
-  never-17 l h = let n = number-is in not-17 (step image (decoded b) x .answer) (e .same) (omega arith) (omega arith)
+  pub never-16-17 : 16 ≤ stepped image b x .answer .number → stepped image b x .answer .number ≤ 17 → ⊥
+  never-16-17 l h = let n = number-is in not-17 (step image (decoded b) x .answer) (e .same) (omega arith) (omega arith)
 
   -- refused by 15 or 18 it leaves the buffer
   pub left : 15 ≤ stepped image b x .answer .number → stepped image b x .answer .number ≤ 18 → stepped image b x .buffer ≡ b
@@ -76,9 +78,40 @@ module _ {image b : List ℕ} {calls : Calls} {x : Inputs} (e : StepOn image cal
   pub parts-of : (isState b ≡ true) × (Step image calls (decoded b) x × (decoded (stepped image b x .buffer) ≡ step image (decoded b) x .state))
   parts-of = (e .held, (e .parts, e .state))
 
-pub first-step : {image b : List ℕ} {calls : Calls} {x : Inputs} {xs : List Inputs} → EveryStepOn image calls b (x ∷ xs)
+pub first-step-on : {image b : List ℕ} {calls : Calls} {x : Inputs} {xs : List Inputs} → EveryStepOn image calls b (x ∷ xs)
     → StepOn image calls b x × EveryStepOn image (callsAfter image (decoded b) x calls) (stepped image b x .buffer) xs
-first-step (EveryStepOn.more p q) = (p, q)
+first-step-on (EveryStepOn.more p q) = (p, q)
+
+-- ---- any step, of whatever bytes: carried out, refused with no motion and the buffer as it was, or halted
+
+pub data Comes (image b : List ℕ) (x : Inputs) : Type 0 where
+  carriedOut : stepped image b x .answer .number ≡ 0 → Comes image b x
+  turnedAway : 15 ≤ stepped image b x .answer .number → stepped image b x .answer .number ≤ 18 → stepped image b x .answer .motion ≡ 0
+      → stepped image b x .buffer ≡ b → Comes image b x
+  halted : 19 ≤ stepped image b x .answer .number → stepped image b x .answer .motion ≡ 0
+      → stepped image b x .buffer ≡ encoded (haltedState (decoded b) x) → Comes image b x
+
+module _ {image b : List ℕ} {x : Inputs} where
+  -- a refusal by 15 to 18
+  turned : (a : BiasAnswer) → 15 ≤ a .number → a .number ≤ 18 → a .motion ≡ 0 → a ≡ stepped image b x .answer → b ≡ stepped image b x .buffer → Comes image b x
+  turned a l h m e f =
+      let n = ap (λ (r : BiasAnswer). r .number) e in
+      Comes.turnedAway (omega arith) (omega arith) (sym (ap (λ (r : BiasAnswer). r .motion) e) ∙ m) (sym f)
+
+  by-way : (a : BiasAnswer) (after : List ℕ) → Way image b x a after → a ≡ stepped image b x .answer → after ≡ stepped image b x .buffer → Comes image b x
+  by-way a after (Way.noTask l) e f = turned a (omega arith) (omega arith) refl e f
+  by-way a after (Way.badInputs l n) e f = turned a (omega arith) (omega arith) refl e f
+  by-way a after (Way.noState q is) e f = turned a (omega arith) (omega arith) refl e f
+  by-way a after (Way.notRunning h n) e f = turned a (omega arith) (omega arith) refl e f
+  by-way a after (Way.differs h g) e f = turned a (omega arith) (omega arith) refl e f
+  by-way a after (Way.done r n) e f = Comes.carriedOut (sym (ap (λ (r : BiasAnswer). r .number) e))
+  by-way a after (Way.halts r q h) e f =
+      let n = ap (λ (r : BiasAnswer). r .number) e in
+      let l = halt-number q in
+      Comes.halted (omega arith) (sym (ap (λ (r : BiasAnswer). r .motion) e)) (sym f)
+
+  pub comes-to : StepOf image b x → Comes image b x
+  comes-to s = by-way _ _ (s .way _ _ .1 (refl, refl)) refl refl
 
 -- ---- the whole, of an image of bytes and a load
 
@@ -97,6 +130,10 @@ module _ (d : Demand) (image : List ℕ) (n : ℕ) (b : List ℕ) where
         → getD (machineAfter image (begun image) xs .threads) t idle ≡ threadFor (taskAt (decoded (bufferAfter image (load image n b .buffer) xs)) t))
     states-are = alike-is _ _ (run .alike)
 
+    pub both-running : (t : ℕ) → t < taskCount → getD (machineAfter image (begun image) xs .threads) t idle .runs ≡ true
+        → taskAt (decoded (bufferAfter image (load image n b .buffer) xs)) t .status ≡ runs
+    both-running t l r = both-run _ _ (run .alike .tasks t l) r
+
     -- 3
     pub block-fits : (t : ℕ) → t < taskCount → taskAt (decoded (bufferAfter image (load image n b .buffer) xs)) t .status ≡ runs
         → (blockFits (headerOf image .header) (blocksOf image) t (taskAt (decoded (bufferAfter image (load image n b .buffer) xs)) t) ≡ true)
@@ -107,7 +144,14 @@ module _ (d : Demand) (image : List ℕ) (n : ℕ) (b : List ℕ) where
     pub steps-are : EveryStepOn image noCalls (load image n b .buffer) xs × (isState (bufferAfter image (load image n b .buffer) xs) ≡ true)
     steps-are = (run .steps, run .held)
 
-  -- 7: a load that is refused leaves the buffer, and one that is not leaves the fresh state
+  -- 7: what a load answers is what 13, 16 and the image say, and nothing else is
+  pub answer-only : (v : BiasVerdict) → Loads image n b v → v ≡ load image n b .verdict
+  answer-only v l = d .loads image n b .answer v .0 l
+
+  pub answer-some : Loads image n b (load image n b .verdict)
+  answer-some = d .loads image n b .answer (load image n b .verdict) .1 refl
+
+  -- a load that is refused leaves the buffer, and one that is not leaves the fresh state
   pub load-leaves : ((load image n b .verdict .number ≡ 0 → ⊥) → load image n b .buffer ≡ b) × (load image n b .verdict .number ≡ 0 → load image n b .buffer ≡ encoded (loaded image))
   load-leaves = (d .loads image n b .refused, d .loads image n b .accepted)
 

@@ -13,6 +13,8 @@ use Rattle.outcome.specs.Outcome.{numberOf, done}
 use Rattle.outcome.specs.declared.Outcome.{Outcome}
 use Rattle.outcome.specs.declared.Outcome.the-variants.{Done, EndsEarly, NotShortest, OutOfRange, LeftOver, NoRoom}
 use Rattle.image.specs.Scan.{headerOf, blocksOf}
+use Rattle.image.specs.Longest.{longestImage}
+use Rattle.image.proofs.Longest.{longest-image}
 use Rattle.number.proofs.Choice.{clash, by}
 use Rattle.fault.specs.Fault.{isBad, faultNumber}
 use Rattle.fault.specs.declared.Fault.{Fault}
@@ -139,6 +141,10 @@ module _ (image : List ℕ) (n : ℕ) (b : List ℕ) where
 
   pub well-formed : load image n b .verdict .number ≡ 0 → WellFormed image n b × NoForeign (headerOf image .header) (blocksOf image)
   well-formed z = zero-way z (λ room right. fits-well room right (verdict-judges image n) (sym (number-is room right) ∙ z))
+
+  -- so it is no longer than the longest image (include/bias.h)
+  pub longest-load : load image n b .verdict .number ≡ 0 → length image ≤ longestImage
+  longest-load z = longest-image image (well-formed z .0 .header)
 
   -- ---- refused exactly when some walk reaches a bad place or a 51 that would end another task
 

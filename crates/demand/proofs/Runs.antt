@@ -28,7 +28,7 @@ use Rattle.machine.specs.Effect.{effectOf}
 use Rattle.machine.specs.Reference.{Thread, Machine, Did, idle, begun, replies, does, lost, tries, acts, turn}
 use Rattle.machine.specs.Alike.{Alike}
 use Rattle.machine.specs.Run.{outs, dids, stateAfter, machineAfter, SameHanded, Permitted}
-use Rattle.machine.specs.Each.{Calls, noCalls, callsAfter, Step, EveryStep}
+use Rattle.machine.specs.Each.{Calls, noCalls, callsAfter, Step, EachStep}
 use Rattle.machine.specs.Theorem.{loaded}
 use Rattle.machine.specs.declared.Out.{Out}
 use Rattle.machine.specs.declared.Effect.{Effect}
@@ -171,11 +171,11 @@ module _ (image : List ℕ) (bytes : Bytes image) where
         stays = λ r. buffer-is image s g x ∙ ap encoded (refused-stays image s x (sym (ap (λ (r : State). refused (step image r x .answer)) d) ∙ r));
       }
 
-  each-on : (s : State) → Good s → (m : Machine) (calls : Calls) (xs : List Inputs) → EveryStep image calls s xs → SameHanded (outs image s xs) (dids image m xs)
+  each-on : (s : State) → Good s → (m : Machine) (calls : Calls) (xs : List Inputs) → EachStep image calls s xs → SameHanded (outs image s xs) (dids image m xs)
       → EveryStepOn image calls (encoded s) xs
   unfolding outs dids
   each-on s g m calls [] h i = EveryStepOn.none
-  each-on s g m calls (x ∷ xs) (EveryStep.more p h) (SameHanded.more a o i) =
+  each-on s g m calls (x ∷ xs) (EachStep.more p h) (SameHanded.more a o i) =
       let later = each-on (step image s x .state) (next-good s g x) (turn image m x .machine) (callsAfter image s x calls) xs h i in
       let first = subst (λ (b : List ℕ). EveryStepOn image (callsAfter image s x calls) b xs) (sym (buffer-is image s g x)) later in
       EveryStepOn.more (step-on s g calls x p (ap differs a ∙ turn-same image m x)) (subst (λ (r : State). EveryStepOn image (callsAfter image r x calls) (stepped image (encoded s) x .buffer) xs) (sym (decode-encode s g)) first)

@@ -129,7 +129,7 @@ pub record SomeForeign (image : List ℕ) : Type 0 where
   pub place : Point
   pub foreign : ForeignAt (headerOf image .header) (blocksOf image) place
 
--- a load of bytes that are well formed is refused exactly when .., in both readings of document 01's "well formed" (docs/DECISIONS.md, R2)
+-- a load of bytes that are well formed is refused exactly when .., in both readings of document 01's "well formed" (docs/DECISIONS.md, the border to C)
 pub record RefusedExactly : Type 0 where
   -- the form is that of header, blocks and lengths alone: when some walk reaches a bad place or a 51 that would end another task
   pub byForm : (image : List ℕ) (n : ℕ) (b : List ℕ) → WellFormed image n b → (load image n b .verdict .number ≡ 0 → ⊥) ↔ (SomeBad image ⊎ SomeForeign image)

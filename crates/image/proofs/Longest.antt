@@ -11,7 +11,6 @@ use borrow.Author.Tests.{ltb-false, eqb-false, le-ltb}
 use Rattle.drive.specs.Types.{slotB, slotC}
 use Rattle.drive.proofs.Laws.{board-small}
 use Rattle.outcome.specs.Outcome.{done}
-use Rattle.outcome.specs.declared.Outcome.the-variants.{Done}
 use Rattle.number.specs.Number.{secondByte, firstByte, numberAt}
 use Rattle.number.specs.declared.Number.{Number}
 use Rattle.number.specs.declared.Number as number
@@ -93,9 +92,9 @@ module _ (n : ℕ) (source : Source) (sized : (row at : ℕ) → Sized at (sourc
       let is = ap (λ (h : Header). h .count) (a .header) in
       omega arith
 
-pub longest-image : (image : List ℕ) → headerOf image .outcome ≡ Done → length image ≤ longestImage
+pub longest-image : (image : List ℕ) → done (headerOf image .outcome) ≡ true → length image ≤ longestImage
 longest-image image ok =
-    let r = read-fine image (ap done ok) in
+    let r = read-fine image ok in
     let l = r .long in
     let e = image-end (length image) (fromImage image) (image-sized image) (accepted-header (length image) (fromImage image) (r .scanned)) in
     omega arith

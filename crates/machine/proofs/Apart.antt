@@ -1,6 +1,6 @@
 -- What the statements of specs/Each.antt, Alike.antt and Run.antt give when they are taken apart: one way more, or one thing less, in any of them is
--- noticed here. Assumes nothing.
-use Prim.Native.Nat.{ℕ, _+_, _<_}
+-- noticed here, or, of a reason to halt, in Halts.antt. Assumes nothing.
+use Prim.Native.Nat.{ℕ, _+_, _<_, _≤_}
 use mathlib.Core.Path.{_≡_, refl, sym, ap, _∙_}
 use mathlib.Core.Bool.{true, false, _&&_}
 use mathlib.Core.Logic.{_⊎_, inl, inr, ⊎-elim}
@@ -15,19 +15,22 @@ use Rattle.rows.specs.Rows.{hex}
 use Rattle.fault.specs.Fault.{faultNumber}
 use Rattle.fault.specs.declared.Fault.{Fault}
 use Rattle.flow.specs.Flow.{taskCount}
+use Rattle.point.specs.Fault.{mostDepth}
 use Rattle.walk.specs.Walk.{starts}
-use Rattle.state.specs.State.{runs, taskAt}
+use Rattle.state.specs.State.{runs, ended, halted, taskAt}
 use Rattle.state.specs.declared.Task.{Task}
 use Rattle.state.specs.declared.Values.{Values}
 use Rattle.state.specs.declared.State.{State}
 use Rattle.machine.specs.Given.{Inputs}
-use Rattle.machine.specs.Engine.{step, pointOf, blockFits}
+use Rattle.machine.specs.Engine.{step, pointOf, noted, stopped, blockFits}
 use Rattle.machine.specs.Reference.{Thread, Machine, Did, thread, idle}
 use Rattle.machine.specs.Alike.{returnsOf, SameTask, SameValues, Alike}
 use Rattle.machine.specs.Run.{SameHanded, Permitted}
-use Rattle.machine.specs.Each.{Calls, callsAfter, commandOf, executed, Behind, Reason, Stopped, Step, EveryStep}
+use Rattle.machine.specs.Each.{Calls, callsAfter, commandOf, executed, Behind, Reason, Stopped, Step, EachStep}
 use Rattle.machine.specs.declared.Cause.{Cause}
-use Rattle.machine.specs.declared.Answer.the-variants.{Done, Halted}
+use Rattle.machine.specs.declared.Motion.the-variants.{None}
+use Rattle.machine.specs.declared.Answer.{Answer}
+use Rattle.machine.specs.declared.Answer.the-variants.{Done, NoTask, Inputs as BadInputs, NotRunning, Differs, Halted}
 use Rattle.machine.specs.declared.Out.{Out}
 
 -- ---- part 1
@@ -80,7 +83,19 @@ permitted-fits image t k p =
     let e = ap (λ (f : Fault). eqb (faultNumber f) 0) (p .fine) in
     λ ι. eqb (p .sound ι) 0 && e ι
 
+pub permitted-at : (image : List ℕ) (t : ℕ) (k : Task) → Permitted image t k → (k .block < headerOf image .header .count) × (k .depth ≤ mostDepth)
+permitted-at image t k p = (p .block, p .depth)
+
 -- ---- parts 4 to 6
+
+-- a command counts as executed where its step is answered 0, and nowhere else
+pub executed-is : (a : Answer) → executed a ≡ true → a ≡ Done
+executed-is Done e = refl
+executed-is (NoTask t) e = clash (sym e)
+executed-is (BadInputs n) e = clash (sym e)
+executed-is NotRunning e = clash (sym e)
+executed-is (Differs p) e = clash (sym e)
+executed-is (Halted q p) e = clash (sym e)
 
 pub behind-is : (b c : ℕ) (bs : List ℕ) → Behind (b ∷ bs) c → c ≡ b + 1
 behind-is b _ bs Behind.latest = refl
@@ -89,12 +104,25 @@ behind-is b _ bs Behind.latest = refl
 pub behind-some : {l : List ℕ} {c : ℕ} → Behind l c → l ≡ [] → ⊥
 behind-some Behind.latest e = let n = ap length e in omega arith
 
--- why a task stopped, and what was answered
-pub how : {image : List ℕ} {s : State} {x : Inputs} → Stopped image s x
-    → ((q : Cause) × (Reason (commandOf image s x) (s .values) (taskAt s (x .task) .time) q × (step image s x .answer ≡ Halted q (pointOf (x .task) (taskAt s (x .task))))))
-    ⊎ ((commandOf image s x .code ≡ hex 5 1) × ((commandOf image s x .x ≡ x .task + 1) × (step image s x .answer ≡ Done)))
-how (Stopped.byRefusal q r a v k m) = inl (q, (r, a))
-how (Stopped.byItself c m a k) = inr (c, (m, a))
+-- why a task stopped, what was answered, and what else changed: by 19 or 20
+pub record ByRefusal (image : List ℕ) (s : State) (x : Inputs) : Type 0 where
+  pub cause : Cause
+  pub reason : Reason (commandOf image s x) (s .values) (taskAt s (x .task) .time) cause
+  pub answer : step image s x .answer ≡ Halted cause (pointOf (x .task) (taskAt s (x .task)))
+  pub values : step image s x .state .values ≡ noted (x .task) (x .start) (s .values)
+  pub task : taskAt (step image s x .state) (x .task) ≡ stopped halted (taskAt s (x .task))
+  pub motion : step image s x .motion ≡ None
+
+-- or by its own 51
+pub record ByItself (image : List ℕ) (s : State) (x : Inputs) : Type 0 where
+  pub code : commandOf image s x .code ≡ hex 5 1
+  pub mode : commandOf image s x .x ≡ x .task + 1
+  pub answer : step image s x .answer ≡ Done
+  pub task : taskAt (step image s x .state) (x .task) ≡ stopped ended (taskAt s (x .task))
+
+pub how : {image : List ℕ} {s : State} {x : Inputs} → Stopped image s x → ByRefusal image s x ⊎ ByItself image s x
+how (Stopped.byRefusal q r a v k m) = inl (record { cause = q; reason = r; answer = a; values = v; task = k; motion = m })
+how (Stopped.byItself c m a k) = inr (record { code = c; mode = m; answer = a; task = k })
 
 module _ {image : List ℕ} {calls : Calls} {s : State} {x : Inputs} (e : Step image calls s x) where
   -- a 53 comes to the block behind the call that is the latest
@@ -110,6 +138,10 @@ module _ {image : List ℕ} {calls : Calls} {s : State} {x : Inputs} (e : Step i
   pub runs-on : (t : ℕ) → t < taskCount → (t ≡ x .task → ⊥) → taskAt s t .status ≡ runs → (taskAt (step image s x .state) t .status ≡ runs → ⊥) → ⊥
   runs-on t l n r d = n (e .stops t l r d .0)
 
-pub first-step : {image : List ℕ} {calls : Calls} {s : State} {x : Inputs} {xs : List Inputs} → EveryStep image calls s (x ∷ xs)
-    → Step image calls s x × EveryStep image (callsAfter image s x calls) (step image s x .state) xs
-first-step (EveryStep.more p q) = (p, q)
+  -- the header stays
+  pub header-stays : step image s x .state .header ≡ s .header
+  header-stays = e .header
+
+pub first-step : {image : List ℕ} {calls : Calls} {s : State} {x : Inputs} {xs : List Inputs} → EachStep image calls s (x ∷ xs)
+    → Step image calls s x × EachStep image (callsAfter image s x calls) (step image s x .state) xs
+first-step (EachStep.more p q) = (p, q)

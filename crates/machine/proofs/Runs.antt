@@ -15,7 +15,7 @@ use Rattle.machine.specs.Engine.{step, pointOf}
 use Rattle.machine.specs.Reference.{Machine, turn, begun, idle, thread}
 use Rattle.machine.specs.Alike.{SameTask, SameValues, Alike}
 use Rattle.machine.specs.Run.{outs, stateAfter, dids, machineAfter, SameHanded, Permitted}
-use Rattle.machine.specs.Each.{Calls, noCalls, callsAfter, EveryStep}
+use Rattle.machine.specs.Each.{Calls, noCalls, callsAfter, EachStep}
 use Rattle.machine.specs.Theorem.{loaded, EveryRun}
 use Rattle.machine.proofs.Accepted.{Accepted, accepted, hd, body, within}
 use Rattle.machine.proofs.Sound.{Sound, never-sound}
@@ -107,11 +107,11 @@ module _ (image : List ℕ) where
         let w = within image ok (pointOf t (taskAt s t)) q in
         record { block = w .block; sound = ok .blocks (taskAt s t .block) (w .block); fine = ok .fine (pointOf t (taskAt s t)) q; depth = w .depth }
 
-    each : (s : State) (m : Machine) (calls : Calls) → Agree image s m → Counts calls (m .threads) → (xs : List Inputs) → EveryStep image calls s xs
-    each s m calls g n [] = EveryStep.none
+    each : (s : State) (m : Machine) (calls : Calls) → Agree image s m → Counts calls (m .threads) → (xs : List Inputs) → EachStep image calls s xs
+    each s m calls g n [] = EachStep.none
     each s m calls g n (x ∷ xs) =
         let k = step-parts image ok s m g calls n x in
-        EveryStep.more (k .0) (each (step image s x .state) (turn image m x .machine) (callsAfter image s x calls) (step-same image ok s m g x .agree) (k .1) xs)
+        EachStep.more (k .0) (each (step image s x .state) (turn image m x .machine) (callsAfter image s x calls) (step-same image ok s m g x .agree) (k .1) xs)
 
   goods : Bytes image → (s : State) → Good s → (xs : List Inputs) → Good (stateAfter image s xs)
   unfolding stateAfter

@@ -113,7 +113,7 @@ pub record Step (image : List ℕ) (calls : Calls) (s : State) (x : Inputs) : Ty
   -- and the header stays
   pub header : step image s x .state .header ≡ s .header
 
-pub data EveryStep (image : List ℕ) : Calls → State → List Inputs → Type 0 where
-  none : {calls : Calls} {s : State} → EveryStep image calls s []
+pub data EachStep (image : List ℕ) : Calls → State → List Inputs → Type 0 where
+  none : {calls : Calls} {s : State} → EachStep image calls s []
   more : {calls : Calls} {s : State} {x : Inputs} {xs : List Inputs} → Step image calls s x
-      → EveryStep image (callsAfter image s x calls) (step image s x .state) xs → EveryStep image calls s (x ∷ xs)
+      → EachStep image (callsAfter image s x calls) (step image s x .state) xs → EachStep image calls s (x ∷ xs)

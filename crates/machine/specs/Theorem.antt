@@ -17,7 +17,7 @@ use Rattle.machine.specs.Engine.{step}
 use Rattle.machine.specs.Reference.{begun}
 use Rattle.machine.specs.Alike.{Alike}
 use Rattle.machine.specs.Run.{outs, stateAfter, dids, machineAfter, SameHanded, Permitted}
-use Rattle.machine.specs.Each.{noCalls, EveryStep}
+use Rattle.machine.specs.Each.{noCalls, EachStep}
 
 -- what the engine begins with; the reference machine begins with `begun`
 abbrev pub loaded : List ℕ → State
@@ -32,7 +32,7 @@ pub record Run (image : List ℕ) (xs : List Inputs) : Type 0 where
   -- 3. afterwards each task that runs is at a block of the image that is permitted to it, at its depth, which is at most the limit
   pub permitted : (t : ℕ) → t < taskCount → taskAt (stateAfter image (loaded image) xs) t .status ≡ runs → Permitted image t (taskAt (stateAfter image (loaded image) xs) t)
   -- 4, 5, 6. at every step: a return goes behind its task's latest open call; a task stops by its own step alone, and for a reason; other tasks stay
-  pub steps : EveryStep image noCalls (loaded image) xs
+  pub steps : EachStep image noCalls (loaded image) xs
   -- and the state afterwards is a good one, where the image's bytes are bytes
   pub good : Bytes image → Good (stateAfter image (loaded image) xs)
 

@@ -1,5 +1,5 @@
 // Runs the manual's examples: a line of standard input is a program image and a list of steps, and its trace goes to standard output. What is printed is
-// held to the file stdout, which comes from a second reading of the papers (host/reference) and not from this code; docs/EXAMPLES.md names the examples.
+// held to the file stdout, which comes from other readings of the papers and not from this code; docs/EXAMPLES.md says which, and names the examples.
 use libc::STDIN_FILENO;
 use libc::STDOUT_FILENO;
 use places::LENGTH;

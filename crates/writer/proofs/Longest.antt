@@ -42,7 +42,7 @@ longest-write numbers b room ok =
     let w = ap (λ (r : Written). r .length) (f .is) in
     omega arith
 
--- then 14 does not come
+-- with so much room 14 does not come to numbers that pass, with as many blocks as they say
 pub room-enough : (numbers : List ℕ) (b room : ℕ) → longestImage ≤ room → done (scan 0 (given numbers) rowCount .outcome) ≡ true
     → b ≡ blockLength * scan 0 (given numbers) rowCount .header .count → done (written numbers b room .outcome) ≡ true
 unfolding written
