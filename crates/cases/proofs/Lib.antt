@@ -1,3 +1,3 @@
 pub mod Right
-pub mod Named
+pub mod Told
 pub mod Example

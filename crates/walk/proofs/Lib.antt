@@ -10,4 +10,4 @@ pub mod Exactly
 pub mod Judged
 pub mod Fast
 pub mod Ahead
-pub mod Facts
+pub mod ClosedFacts
