@@ -21,13 +21,17 @@ abbrev pub bytesOf : List (List ℕ) → List ℕ
 bytesOf [] = []
 bytesOf (b ∷ bs) = b ++ bytesOf bs
 
--- the four numbers of every example: format 1, type 2 (a 637), both slots empty
-abbrev pub header : List ℕ → List ℕ
-header rest = hex 0 1 ∷ hex 0 2 ∷ hex 0 0 ∷ hex 0 0 ∷ rest
+-- four numbers: format 1, a type, both slots empty
+abbrev pub headerFor : ℕ → List ℕ → List ℕ
+headerFor model rest = hex 0 1 ∷ model ∷ hex 0 0 ∷ hex 0 0 ∷ rest
 
--- the same for a type of drive, program start 0
-abbrev pub imageOf : ℕ → List (List ℕ) → List ℕ
-imageOf model blocks = hex 0 1 ∷ model ∷ hex 0 0 ∷ hex 0 0 ∷ 0 ∷ length blocks ∷ bytesOf blocks
+-- those of every example but J's second: type 2, a 637
+abbrev pub header : List ℕ → List ℕ
+header = headerFor (hex 0 2)
+
+-- an image for a type of drive that begins at block 0
+abbrev pub imageFor : ℕ → List (List ℕ) → List ℕ
+imageFor model blocks = headerFor model (0 ∷ length blocks ∷ bytesOf blocks)
 
 -- an image that begins at a block
 abbrev pub imageAt : ℕ → List (List ℕ) → List ℕ

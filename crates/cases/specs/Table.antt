@@ -27,7 +27,7 @@ use Rattle.machine.specs.Run.{outs, stateAfter}
 use Rattle.machine.specs.Theorem.{loaded}
 use Rattle.machine.specs.declared.Motion.{Motion}
 use Rattle.machine.specs.declared.Motion.the-variants.{None, MoveTo}
-use Rattle.cases.specs.Images.{block, plain, toward, header, image, imageOf, imageAt, blockA, chain}
+use Rattle.cases.specs.Images.{block, plain, toward, header, image, imageFor, imageAt, blockA, chain}
 
 -- ---- names
 
@@ -142,7 +142,7 @@ marked = image (plain (hex 0 14) ∷ plain (hex 0 0) ∷ toward (hex 5 5) 1 ∷ 
 
 -- a wait of 1000 ms, then a jump back to it, on a type of drive
 abbrev pub waiter : ℕ → List ℕ
-waiter model = imageOf model (block (hex 5 9) (hex 15 4) 1 0 ∷ blockA ∷ [])
+waiter model = imageFor model (block (hex 5 9) (hex 15 4) 1 0 ∷ blockA ∷ [])
 
 unfoldable pub table : List Row
 table =

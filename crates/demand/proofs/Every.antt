@@ -4,6 +4,7 @@ use Prim.Native.Nat.{ℕ}
 use native.Mathlib.Omega.{arith}
 use mathlib.Core.Path.{_≡_, refl, sym, ap, _∙_, subst}
 use mathlib.Core.Bool.{Bool, true, false, _&&_, _||_, not}
+use mathlib.Core.Logic.{_⊎_, inl, inr, ⊎-elim}
 use mathlib.Core.List.{List}
 use lib.Dec.{eqb}
 use lib.ListN.{length, set}
@@ -14,6 +15,7 @@ use Rattle.image.specs.Scan.{blocksOf}
 use Rattle.rows.specs.Rows.{hex}
 use Rattle.operands.specs.declared.Command.{Command}
 use Rattle.flow.specs.Flow.{taskCount}
+use Rattle.point.specs.declared.Point.{Point}
 use Rattle.state.specs.State.{cells, runs, halted, task, taskAt}
 use Rattle.state.specs.Good.{Good, GoodWait}
 use Rattle.state.specs.declared.Task.{Task}
@@ -71,6 +73,19 @@ no-turns model _ _ (GoodWait.pending l m d) e = absurd (omega arith)
 status-alone : (k : Task) → k .time ≡ 0 → k .turns ≡ 0 → stopped halted k ≡ withStatus halted k
 status-alone k e f = λ ι. task halted (k .block) (k .start) (k .depth) (k .stack) (sym e ι) (sym f ι)
 
+-- ---- an outcome is a halt, or is answered 0
+
+halt-or-done : (o : Outcome) (p : Point) → ((q : Cause) × (o ≡ outcome.Halt q)) ⊎ ((answerTo o p ≡ Done) × (isHalt o ≡ false))
+halt-or-done outcome.GoOn p = inr (refl, refl)
+halt-or-done (outcome.Stay time turns) p = inr (refl, refl)
+halt-or-done (outcome.Jump a) p = inr (refl, refl)
+halt-or-done (outcome.Call a) p = inr (refl, refl)
+halt-or-done outcome.Return p = inr (refl, refl)
+halt-or-done (outcome.Start u a) p = inr (refl, refl)
+halt-or-done outcome.Restart p = inr (refl, refl)
+halt-or-done outcome.End p = inr (refl, refl)
+halt-or-done (outcome.Halt q) p = inl (q, refl)
+
 -- ---- one step
 
 module _ (image b : List ℕ) (x : Inputs) where
@@ -114,11 +129,9 @@ module _ (image b : List ℕ) (x : Inputs) where
       performs = to-task (r .runs .held) ∙ ap handed (rw (eq-eqb (k .status) runs (r .runs .running), r .fits))
 
       -- the command's number is 0 where it does not halt its task
-      carried : (o : Outcome) → e .outcome ≡ o → answerTo o (pointOf (x .task) k) ≡ Done
-          → Gives (answerFor (carriedOut image s x k .motion) Done) (encoded (carriedOut image s x k .state))
+      carried : answerTo (e .outcome) (pointOf (x .task) k) ≡ Done → Gives (answerFor (carriedOut image s x k .motion) Done) (encoded (carriedOut image s x k .state))
       unfolding handed performed
-      carried o q z =
-          given-by _ _ (performs ∙ (λ ι. record { answer = answerFor (e .motion) ((ap (λ (o : Outcome). answerTo o (pointOf (x .task) k)) q ∙ z) ι); buffer = encoded (carriedOut image s x k .state) }))
+      carried z = given-by _ _ (performs ∙ (λ ι. record { answer = answerFor (e .motion) (z ι); buffer = encoded (carriedOut image s x k .state) }))
 
       task-good : Good s
       task-good = good (r .runs .held .state)
@@ -156,17 +169,8 @@ module _ (image b : List ℕ) (x : Inputs) where
           }))
 
       -- a command without a reason does not halt
-      going : ((q : Cause) → ReasonHere image b x q → ⊥) → (o : Outcome) → e .outcome ≡ o
-          → Gives (answerFor (carriedOut image s x k .motion) Done) (encoded (carriedOut image s x k .state))
-      going n outcome.GoOn i = carried _ i refl
-      going n (outcome.Stay time turns) i = carried _ i refl
-      going n (outcome.Jump a) i = carried _ i refl
-      going n (outcome.Call a) i = carried _ i refl
-      going n outcome.Return i = carried _ i refl
-      going n (outcome.Start u a) i = carried _ i refl
-      going n outcome.Restart i = carried _ i refl
-      going n outcome.End i = carried _ i refl
-      going n (outcome.Halt q) i = absurd (n q (reason-of q i))
+      going : ((q : Cause) → ReasonHere image b x q → ⊥) → Gives (answerFor (carriedOut image s x k .motion) Done) (encoded (carriedOut image s x k .state))
+      going n = ⊎-elim (λ h. absurd (n (h .0) (reason-of (h .0) (h .1)))) (λ h. carried (h .0)) (halt-or-done (e .outcome) (pointOf (x .task) k))
 
     -- ---- what a way says is what the step gives
 
@@ -177,7 +181,7 @@ module _ (image b : List ℕ) (x : Inputs) where
     gives _ _ (Way.noState q is) = given-by _ _ (of-buffer image b x (q .task) (q .levels) ∙ no-state image b x is)
     gives _ _ (Way.notRunning h n) = put-back h NotRunning (rw (ne-eqb (k .status) runs n))
     gives _ _ (Way.differs h f) = put-back (h .held) (Differs (pointOf (x .task) k)) (rw (eq-eqb (k .status) runs (h .running), f))
-    gives _ _ (Way.done r n) = going r n (e r .outcome) refl
+    gives _ _ (Way.done r n) = going r n
     gives _ _ (Way.halts r q h) = halting r q (halts-for (given s k x) (commandOf image s x) (s .values) h)
 
     -- ---- a step goes some way
@@ -188,23 +192,15 @@ module _ (image b : List ℕ) (x : Inputs) where
     abbrev Some : Type 0
     Some = Way image b x (stepped image b x .answer) (stepped image b x .buffer)
 
-    -- a command that comes to o, which is no halt, has no reason to
-    unhalted : (r : Ready image b x) (o : Outcome) → e r .outcome ≡ o → isHalt o ≡ false → Some
-    unhalted r o i f = goes (Way.done r (λ q h. clash (ap isHalt (sym (halts-for (given s k x) (commandOf image s x) (s .values) h) ∙ i) ∙ f)))
-
-    executed-way : (r : Ready image b x) (o : Outcome) → e r .outcome ≡ o → Some
-    executed-way r outcome.GoOn i = unhalted r _ i refl
-    executed-way r (outcome.Stay time turns) i = unhalted r _ i refl
-    executed-way r (outcome.Jump a) i = unhalted r _ i refl
-    executed-way r (outcome.Call a) i = unhalted r _ i refl
-    executed-way r outcome.Return i = unhalted r _ i refl
-    executed-way r (outcome.Start u a) i = unhalted r _ i refl
-    executed-way r outcome.Restart i = unhalted r _ i refl
-    executed-way r outcome.End i = unhalted r _ i refl
-    executed-way r (outcome.Halt q) i = goes (Way.halts r q (reason-of r q i))
+    -- a command that does not halt its task has no reason to
+    executed-way : Ready image b x → Some
+    executed-way r =
+        ⊎-elim (λ h. goes (Way.halts r (h .0) (reason-of r (h .0) (h .1))))
+        (λ h. goes (Way.done r (λ q w. clash (ap isHalt (sym (halts-for (given s k x) (commandOf image s x) (s .values) w)) ∙ h .1))))
+        (halt-or-done (e r .outcome) (pointOf (x .task) k))
 
     running-way : Running b x → (t : Bool) → fits image (s .header) (x .task) k ≡ t → Some
-    running-way h true f = let r : Ready image b x = record { runs = h; fits = f } in executed-way r (e r .outcome) refl
+    running-way h true f = executed-way (record { runs = h; fits = f })
     running-way h false f = goes (Way.differs h f)
 
     held-way : Held b x → (t : Bool) → eqb (k .status) runs ≡ t → Some

@@ -3,3 +3,4 @@ mod Front
 mod Minima
 mod Upwards
 mod Whole
+pub mod Fixed

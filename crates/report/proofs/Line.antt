@@ -3,7 +3,7 @@ use mathlib.Core.Path.{_≡_, refl, sym, ap, _∙_}
 use mathlib.Core.List.{List, [], _∷_}
 use Prim.Native.Nat.{ℕ, _^_, _<_, _≤_}
 use native.Mathlib.Omega.{arith}
-use lib.ListN.{length, length-append}
+use lib.ListN.{length, take, length-append}
 use Rattle.text.specs.Text.{digitsOf, decimalOf}
 use Rattle.text.proofs.Read.{few-digits}
 use Rattle.drive.specs.Types as types
@@ -24,7 +24,8 @@ use Rattle.walk.specs.Verdict as verdict
 use Rattle.walk.proofs.Fast.{closureFast, walksFast, blocksFast, readFast, verdictFast, fast-is}
 use Rattle.walk.specs.Verdict.{verdictOf, verdictNumber, verdictPlace, verdictTask, verdictDepth}
 use Rattle.walk.specs.declared.Verdict.{Verdict}
-use Rattle.report.specs.Line.{lineRoom, lineOf}
+use Rattle.report.specs.Line.{lineRoom, lineOf, Holds}
+use Rattle.report.specs.declared.LineBytes.{LineBytes}
 
 -- numbers of 32, 64, 8 and 8 bits leave it within its room
 pub line-length : (v : Verdict) → verdictNumber v < 2 ^ 32 → verdictPlace v < 2 ^ 64 → verdictTask v < 2 ^ 8 → verdictDepth v < 2 ^ 8 → length (lineOf v) ≤ lineRoom
@@ -70,3 +71,7 @@ computed = refl
 
 pub case-B : lineOf (verdictOf caseB marksLength) ≡ documented
 case-B = ap lineOf (sym (fast-is caseB marksLength)) ∙ computed
+
+-- what a held line gives
+pub line-bytes : (text : List ℕ) (l : LineBytes) → Holds text l → take (l .length) (l .bytes) ≡ text
+line-bytes text l h = h .is

@@ -205,3 +205,20 @@ module _ (image : List ℕ) (bytes : Bytes image) (ok : headerOf image .outcome 
       ∙ fitted-is s (length (blocksOf image)) (length out) (read-fine image fine .scanned) b (omega arith)
       ∙ ap (λ (n : ℕ). record { outcome = Done; length = n }) e in
       (w, sym (put-there numbers (blocksOf image) out (ap (λ (r : Written). done (r .outcome)) w)) ∙ ap (λ (x : List ℕ). overlaid x out) image-back)
+
+-- ---- what the first of them gives when it is taken apart
+
+module _ (numbers blocks out : List ℕ) (ok : written numbers (length blocks) (length out) .outcome ≡ Done) where
+  -- what stands at the front of the buffer
+  abbrev image : List ℕ
+  image = take (written numbers (length blocks) (length out) .length) (outAfter numbers blocks out)
+
+  pub header-back : (headerOf image .outcome ≡ Done)
+      × (headerOf image .header ≡ headerWith (getD numbers 0 0) (getD numbers 1 0) (getD numbers 2 0) (getD numbers 3 0) (getD numbers 4 0) (getD numbers 5 0))
+  header-back = let r = read-what-was-written numbers blocks out ok .read in (r .outcome, r .header)
+
+  pub blocks-back : blocksOf image ≡ blocks
+  blocks-back = read-what-was-written numbers blocks out ok .read .body
+
+  pub rest-stays : drop (written numbers (length blocks) (length out) .length) (outAfter numbers blocks out) ≡ drop (written numbers (length blocks) (length out) .length) out
+  rest-stays = read-what-was-written numbers blocks out ok .behind
