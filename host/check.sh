@@ -34,6 +34,10 @@ refused() {
     fi
     grep 'refused by 12 at block 0, task BIAS, depth 0' "$out/bad.out"
 }
+numbers() {
+    sed -n 's/^ *number_row(b"\(.*\)"),$/\1/p' crates/vectors/src/main.rt | sed 's/\\x//g' | "$out/numbers" > "$out/numbers.out"
+    grep '^number ' crates/vectors/stdout | cmp - "$out/numbers.out"
+}
 traced() { "$out/trace" < "$manual/stdin" > "$out/trace.out" && cmp "$out/trace.out" "$manual/stdout"; }
 
 # What a verdict program prints and how it ends: says STATUS LINE COMMAND..; an empty LINE is for nothing. Messages go to $out/err.
@@ -97,6 +101,7 @@ try "bias.h in C++" header_in_cpp
 try "the feed image, written by the library" feed
 try "the example's trace of the feed program" example
 try "the example refuses a bad image" refused
+try "the vectors' numbers on the reference" numbers
 try "the manual's examples on the reference" traced
 try "bias-verdict on a named file" named_file
 try "bias-verdict on standard input" standard_input

@@ -2,14 +2,10 @@
 //! prints with the stored one, and its exit status. The other lines of crates/images/stdout are of the blocks handed back.
 //! Usage: verdicts PROGRAM REFUSED STDIN STDOUT, with REFUSED the exit status for a refused image
 
+use reference::hex::bytes_of;
 use std::fs;
 use std::io::Write;
 use std::process::{Command, ExitCode, Stdio};
-
-fn bytes_of(digits: &str) -> Vec<u8> {
-    let pairs = digits.as_bytes().chunks(2).map(|pair| std::str::from_utf8(pair).expect("hexadecimal"));
-    pairs.map(|pair| u8::from_str_radix(pair, 16).expect("hexadecimal")).collect()
-}
 
 /// What the program prints for an image, and its exit status. A program may leave the end of a long image unread.
 fn judged(program: &str, image: &[u8]) -> (String, Option<i32>) {

@@ -1,10 +1,11 @@
-//! Document 01's own examples, A to L and the chains of calls, with the answers that it prints; and images cut at every
-//! length. Done on the library and on the reference alike.
+//! Document 01's own examples, A to L and the chains of calls, with the answers that it prints; starts at the ends of each
+//! length of a number; and images cut at every length. Done on the library and on the reference alike.
 
 use crate::case::{Action, Case};
 use crate::program;
 use crate::random::Random;
 use crate::tally::Tally;
+use reference::hex::bytes_of;
 use reference::number::*;
 use reference::state::{State, STATE_LENGTH};
 use reference::Verdict;
@@ -12,7 +13,7 @@ use reference::Verdict;
 /// Name, image in hexadecimal, and number, place, task, depth.
 type Row = (&'static str, &'static str, [u64; 4]);
 
-const CASES: [Row; 11] = [
+const CASES: [Row; 15] = [
     ("A", "010200000001 5500000000000000", [0, 0, 0, 0]),
     ("B", "010200000001 5000000000000000", [12, 0, 0, 0]),
     ("C", "010200000101 5500000000000000", [3, 4, 0, 0]),
@@ -24,13 +25,11 @@ const CASES: [Row; 11] = [
     ("I, refused", "010200000002 7208010000000000 5500000000000000", [6, 0, 0, 0]),
     ("I, accepted", "010200000002 720C010000000000 5500000000000000", [0, 0, 0, 0]),
     ("K, not shortest", "0102000000 8000 5500000000000000", [2, 5, 0, 0]),
+    ("start FF 00", "01020000 FF00 01 5500000000000000", [2, 4, 0, 0]),
+    ("start 127", "01020000 7F 01 5500000000000000", [3, 4, 0, 0]),
+    ("start 128", "01020000 8001 01 5500000000000000", [3, 4, 0, 0]),
+    ("start 16383", "01020000 FF7F 01 5500000000000000", [3, 4, 0, 0]),
 ];
-
-fn bytes(text: &str) -> Vec<u8> {
-    let digits: Vec<u8> = text.bytes().filter(|byte| *byte != b' ').collect();
-    let pairs = digits.chunks(2).map(|pair| std::str::from_utf8(pair).unwrap_or(""));
-    pairs.map(|pair| u8::from_str_radix(pair, 16).unwrap_or(0)).collect()
-}
 
 fn case(image: Vec<u8>, actions: Vec<Action>) -> Case {
     Case { image, marks_len: MARKS_LENGTH, state_len: STATE_LENGTH, fill: 0x5A, actions }
@@ -49,7 +48,7 @@ fn expect(name: &str, image: Vec<u8>, wanted: [u64; 4], tally: &mut Tally) -> Re
 
 pub fn check(tally: &mut Tally) -> Result<(), String> {
     for (name, image, wanted) in CASES {
-        expect(name, bytes(image), wanted, tally)?;
+        expect(name, bytes_of(image), wanted, tally)?;
     }
     expect("K, 1500 blocks", longest(), [0; 4], tally)?;
     expect("8 nested calls", nested(8), [0; 4], tally)?;
@@ -62,9 +61,9 @@ pub fn check(tally: &mut Tally) -> Result<(), String> {
 
 /// DC 0B is 1500: that many jumps.
 fn longest() -> Vec<u8> {
-    let mut image = bytes("0102000000 DC0B");
+    let mut image = bytes_of("0102000000 DC0B");
     for _ in 0..MOST_BLOCKS {
-        image.extend(bytes("5500000000000000"));
+        image.extend(bytes_of("5500000000000000"));
     }
     image
 }
@@ -81,7 +80,7 @@ fn nested(calls: u8) -> Vec<u8> {
 
 /// A wait of 1000 ms passes at this k and not before.
 fn wait_ends(name: &str, kind: &str, turns: usize, tally: &mut Tally) -> Result<(), String> {
-    let image = bytes(&format!("01{kind}00000002 59F4010000000000 5501000000000000"));
+    let image = bytes_of(&format!("01{kind}00000002 59F4010000000000 5501000000000000"));
     let steps = vec![Action::plain(0); turns + 1];
     let mut state = vec![0; STATE_LENGTH];
     reference::load(&image, &mut vec![0; MARKS_LENGTH], &mut state);
@@ -102,12 +101,12 @@ fn wait_ends(name: &str, kind: &str, turns: usize, tally: &mut Tally) -> Result<
 /// L: -7 by 2 is -3; and -2^31 by -1 wraps.
 fn quotient(tally: &mut Tally) -> Result<(), String> {
     for (dividend, divisor, wanted) in [(-7i32, 2i32, -3i32), (i32::MIN, -1, i32::MIN)] {
-        let mut image = bytes("010200000003");
+        let mut image = bytes_of("010200000003");
         image.extend([0x80, 0]);
         image.extend(dividend.to_le_bytes());
         image.extend([0, 0, 0x85, 1, 0]);
         image.extend(divisor.to_le_bytes());
-        image.extend(bytes("00 5502000000000000"));
+        image.extend(bytes_of("00 5502000000000000"));
         let mut state = vec![0; STATE_LENGTH];
         reference::load(&image, &mut vec![0; MARKS_LENGTH], &mut state);
         let given = reference::engine::Given { inputs: &[0; INPUTS_LENGTH], start: 0, reached: 0 };

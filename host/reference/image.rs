@@ -19,15 +19,15 @@ pub type Block = [u8; BLOCK_LENGTH];
 const GROUP: usize = 128;
 
 /// One number: its value, the byte where it stands and the byte behind it.
-struct Read {
-    value: usize,
+pub struct Read {
+    pub value: usize,
     at: usize,
-    behind: usize,
+    pub behind: usize,
 }
 
 /// "in groups of seven bits, low group first, the top bit set on every byte but the last, in the shortest form, at most
 /// two bytes": 1 when the image ends, 2 for another form.
-fn read_number(image: &[u8], at: usize) -> Result<Read, Verdict> {
+pub fn read_number(image: &[u8], at: usize) -> Result<Read, Verdict> {
     let early = Verdict::at(ENDS_EARLY, image.len());
     let first = *image.get(at).ok_or(early)? as usize;
     if first < GROUP {

@@ -8,6 +8,7 @@ pub mod command;
 pub mod drive;
 pub mod effect;
 pub mod engine;
+pub mod hex;
 pub mod image;
 pub mod loader;
 pub mod number;

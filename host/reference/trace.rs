@@ -3,6 +3,7 @@
 
 use reference::answer::{Answer, STOP};
 use reference::engine::Given;
+use reference::hex::bytes_of;
 use reference::image;
 use reference::number::*;
 use reference::state::{State, RUNNING, STATE_LENGTH};
@@ -33,11 +34,6 @@ fn main() -> io::Result<()> {
         example(&line?, &mut out);
     }
     io::stdout().write_all(out.as_bytes())
-}
-
-fn bytes_of(text: &str) -> Vec<u8> {
-    let digits = text.as_bytes().chunks(2);
-    digits.map(|pair| u8::from_str_radix(std::str::from_utf8(pair).unwrap_or(""), 16).expect("hexadecimal")).collect()
 }
 
 /// A record of steps: how often, the task, the start input, position reached, and four inputs that are high (0: none).

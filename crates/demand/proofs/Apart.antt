@@ -113,6 +113,10 @@ module _ {image b : List ℕ} {x : Inputs} where
   pub comes-to : StepOf image b x → Comes image b x
   comes-to s = by-way _ _ (s .way _ _ .1 (refl, refl)) refl refl
 
+  -- a buffer that is a state is one afterwards, however the step ended
+  pub state-stays : StepOf image b x → isState b ≡ true → isState (stepped image b x .buffer) ≡ true
+  state-stays s = s .held
+
 -- ---- the whole, of an image of bytes and a load
 
 module _ (d : Demand) (image : List ℕ) (n : ℕ) (b : List ℕ) where

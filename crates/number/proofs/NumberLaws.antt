@@ -1,19 +1,20 @@
--- A number that was written is read back, with the place behind it; and where a number is read, its bytes stand there, so that only
--- shortest forms are read. Assumes nothing.
+-- A number that was written is read back, with the place behind it; where a number is read, its bytes stand there, so that only
+-- shortest forms are read; and the numbers that can be read are those below the limit. Assumes nothing.
 use mathlib.Core.Path.{_≡_, refl, sym, ap, _∙_}
-use Prim.Native.Nat.{ℕ, _+_, _-_, _*_, _/_, _%_, _<_, _≤_}
+use mathlib.Core.Logic.{_↔_}
+use Prim.Native.Nat.{ℕ, zero, suc, _+_, _-_, _*_, _/_, _%_, _<_, _≤_}
 use native.Mathlib.Omega.{arith}
-use mathlib.Core.List.{List}
+use mathlib.Core.List.{List, [], _∷_}
 use lib.ListN.{length, getD}
-use Rattle.number.specs.Number.{numberBytes, numberAt}
+use Rattle.number.specs.Number.{numberLimit, numberBytes, numberAt, Readable}
 use Rattle.number.specs.declared.Number.{Number}
 use Rattle.number.proofs.Choice.{by}
-use Rattle.number.proofs.Stands.{Has, head, tail, none, cons}
+use Rattle.number.proofs.Stands.{Has, head, tail, none, cons, itself}
 use Rattle.number.proofs.Numbers as numbers
 use Rattle.number.proofs.Numbers.{one, two, short-one, cut, more, zero-high, big-high, good-high}
 
 -- a list that has the bytes of v at index at
-module _ (s : List ℕ) (at v : ℕ) (small : v < 16384) (has : Has s at (numberBytes v)) (room : at + length (numberBytes v) ≤ length s) where
+module _ (s : List ℕ) (at v : ℕ) (small : v < numberLimit) (has : Has s at (numberBytes v)) (room : at + length (numberBytes v) ≤ length s) where
   back-one : v < 128 → numberAt s at ≡ Number.Value v (at + length (numberBytes v))
   back-one h =
       let e = one v h in
@@ -39,7 +40,7 @@ module _ (s : List ℕ) (at v : ℕ) (small : v < 16384) (has : Has s at (number
 -- the bytes of v stand at index at of s, with n behind them
 pub record There (s : List ℕ) (at v n : ℕ) : Type 0 where
   pub has : Has s at (numberBytes v)
-  pub small : v < 16384
+  pub small : v < numberLimit
   pub next : n ≡ at + length (numberBytes v)
   pub room : n ≤ length s
 
@@ -77,3 +78,35 @@ module _ (s : List ℕ) (at v n : ℕ) (byte : getD s at 0 < 256) (read : number
       (λ z. clash-long (numberAt s at) read (sym (zero-high at (getD s at 0) (getD s (at + 1) 0) (omega arith) ∙ m))))
       (λ k. clash (numberAt s at) read (sym (cut s at (getD s at 0) refl h l k)))))
       (λ h. clash (numberAt s at) read (sym (numbers.none s at h)))
+
+bytes-one : (a : ℕ) → a < 256 → (k : ℕ) → getD (a ∷ []) k 0 < 256
+bytes-one a h zero = h
+bytes-one a h (suc k) = omega arith
+
+bytes-two : (a b : ℕ) → a < 256 → b < 256 → (k : ℕ) → getD (a ∷ b ∷ []) k 0 < 256
+bytes-two a b h g zero = h
+bytes-two a b h g (suc k) = bytes-one b g k
+
+-- the bytes of a number below the limit are bytes
+number-bytes : (v : ℕ) → v < numberLimit → (k : ℕ) → getD (numberBytes v) k 0 < 256
+number-bytes v small k =
+    by v 128
+    (λ h. rw (one v h) (bytes-one v (omega arith) k))
+    (λ h. rw (two v h) (bytes-two (128 + v % 128) (v / 128) (omega arith) (omega arith) k))
+
+-- no number that is read is above 16,383, and each up to there can be read
+pub readable-exactly : (v : ℕ) → Readable v ↔ (v < numberLimit)
+readable-exactly v = (below, within)
+  where
+    below : Readable v → v < numberLimit
+    below r = number-only (r .image) (r .at) v (r .next) (r .bytes (r .at)) (r .read) .small
+
+    within : v < numberLimit → Readable v
+    within h =
+        record {
+          image = numberBytes v;
+          bytes = number-bytes v h;
+          at = 0;
+          next = 0 + length (numberBytes v);
+          read = number-back (numberBytes v) 0 v h (itself (numberBytes v)) (omega arith);
+        }

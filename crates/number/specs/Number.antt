@@ -1,6 +1,7 @@
 -- Numbers as they stand in an image (document 01, "The image"): seven bits to a byte, the low ones first, and a top bit that says
 -- that another byte follows. Assumes nothing.
-use Prim.Native.Nat.{ℕ, _+_, _-_, _*_, _/_, _%_}
+use mathlib.Core.Path.{_≡_}
+use Prim.Native.Nat.{ℕ, _+_, _-_, _*_, _/_, _%_, _<_}
 use mathlib.Core.Bool.{cond}
 use mathlib.Core.List.{List, [], _∷_}
 use lib.ListN.{length, getD}
@@ -27,3 +28,11 @@ firstByte s at b = cond (ltb b 128) (Value b (at + 1)) (cond (ltb (at + 1) (leng
 -- the number at a place of an image, with the place behind it
 unfoldable pub numberAt : List ℕ → ℕ → Number
 numberAt s at = cond (ltb at (length s)) (firstByte s at (getD s at 0)) EndsEarly
+
+-- v is read somewhere in some bytes
+pub record Readable (v : ℕ) : Type 0 where
+  pub image : List ℕ
+  pub bytes : (k : ℕ) → getD image k 0 < 256
+  pub at : ℕ
+  pub next : ℕ
+  pub read : numberAt image at ≡ Value v next

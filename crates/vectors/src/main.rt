@@ -83,16 +83,19 @@ fn bytes_rows() -> usize
     i
 }
 
-// Numbers of one and two bytes, and bytes that are none.
-fn number_rows() -> [Number; 8]
-    ensures { λ r. ⌜ r ≡ Number.Value 1500 2 ∷ Number.NotShortest ∷ Number.Value 127 1 ∷ Number.Value 128 2 ∷ Number.Value 16383 2 ∷ Number.NotShortest ∷ Number.EndsEarly ∷ Number.EndsEarly ∷ [] ⌝ }
+// Document 01's case K; the least and the greatest number of one byte and of two; then bytes that are none: a second byte 0, a third byte
+// asked for, and too few.
+fn number_rows() -> [Number; 10]
+    ensures { λ r. ⌜ r ≡ Number.Value 1500 2 ∷ Number.NotShortest ∷ Number.Value 0 1 ∷ Number.Value 127 1 ∷ Number.Value 128 2 ∷ Number.Value 16383 2 ∷ Number.NotShortest ∷ Number.NotShortest ∷ Number.EndsEarly ∷ Number.EndsEarly ∷ [] ⌝ }
 {
     [
         number_row(b"\xdc\x0b"),
         number_row(b"\x80\x00"),
+        number_row(b"\x00"),
         number_row(b"\x7f"),
         number_row(b"\x80\x01"),
         number_row(b"\xff\x7f"),
+        number_row(b"\xff\x00"),
         number_row(b"\x80\x80\x01"),
         number_row(b"\x80"),
         number_row(b""),

@@ -11,6 +11,7 @@ use borrow.Author.Tests.{ltb-false, le-ltb}
 use Rattle.drive.specs.Types.{slotB, slotC}
 use Rattle.drive.proofs.Laws.{board-small}
 use Rattle.outcome.specs.Outcome.{done}
+use Rattle.number.specs.Number.{numberLimit}
 use Rattle.image.specs.Scan.{scan, firstRefusal}
 use Rattle.writer.specs.Writer.{given, HaveForms, firstNumbers, imageOf, overlaid, roomOutcome, writtenWith, fitted, written, outAfter}
 use Rattle.outcome.specs.declared.Outcome.the-variants.{Done}
@@ -40,7 +41,7 @@ module _ (numbers : List ℕ) (ok : done (scan 0 (given numbers) 6 .outcome) ≡
       let c = board-small slotC _ _ (a .boardC) in
       let s = a .start in
       let k = a .count .1 in
-      below-six (λ (j : ℕ). getD numbers j 0 < 16384) (omega arith) (omega arith) (omega arith) (omega arith) (omega arith) (omega arith)
+      below-six (λ (j : ℕ). getD numbers j 0 < numberLimit) (omega arith) (omega arith) (omega arith) (omega arith) (omega arith) (omega arith)
 
   -- the scan is where the bytes of the numbers end
   pub placed : (k : ℕ) → k ≤ 6 → place 0 (given numbers) k ≡ length (firstNumbers numbers k)

@@ -52,6 +52,18 @@ slice-aggregate-number-row-8 c = search needs
 number-row-requires-8 : tie.Need-number-row-requires-8
 number-row-requires-8 c κs = search needs
 
+slice-aggregate-number-row-9 : tie.Need-slice-aggregate-number-row-9
+slice-aggregate-number-row-9 c = search needs
+
+number-row-requires-9 : tie.Need-number-row-requires-9
+number-row-requires-9 c κs = search needs
+
+slice-aggregate-number-row-10 : tie.Need-slice-aggregate-number-row-10
+slice-aggregate-number-row-10 c = search needs
+
+number-row-requires-10 : tie.Need-number-row-requires-10
+number-row-requires-10 c κs = search needs
+
 returns : tie.Need-returns
 unfolding numberAt firstByte secondByte
 returns c = cc
@@ -76,4 +88,8 @@ number-rows-spec =
     number-row-requires-7
     slice-aggregate-number-row-8
     number-row-requires-8
+    slice-aggregate-number-row-9
+    number-row-requires-9
+    slice-aggregate-number-row-10
+    number-row-requires-10
     returns)
