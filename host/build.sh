@@ -1,6 +1,6 @@
 #!/bin/sh
 # Builds the host programs with plain cc and rustc into target/host: example, bias-verdict, makefeed, diff, fuzz, bench,
-# trace, numbers, verdicts, and the reference as an archive of its own. A missing compiler is a failure.
+# trace, read_numbers, verdicts, and the reference as an archive of its own. A missing compiler is a failure.
 # Usage: host/build.sh                proves the library and makes its archive first (rt staticlib bias)
 #        host/build.sh LIBRARY        with an archive that is there
 #        host/build.sh --stand-in     the reference under the library's names, to try the programs without a library
@@ -41,7 +41,7 @@ fi
 rust --crate-type rlib --crate-name reference host/reference/lib.rs -o "$out/libreference.rlib"
 rust --crate-type staticlib --crate-name reference_c host/reference/lib.rs -o "$out/libreference.a"
 rust host/reference/trace.rs --extern reference="$out/libreference.rlib" -o "$out/trace"
-rust host/reference/numbers.rs --extern reference="$out/libreference.rlib" -o "$out/numbers"
+rust host/reference/read_numbers.rs --extern reference="$out/libreference.rlib" -o "$out/read_numbers"
 rust host/verdicts.rs --extern reference="$out/libreference.rlib" -o "$out/verdicts"
 rust host/diff.rs --extern reference="$out/libreference.rlib" -C link-arg="$library" -o "$out/diff"
 c -O2 host/makefeed.c "$library" $system -o "$out/makefeed"

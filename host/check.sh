@@ -35,7 +35,7 @@ refused() {
     grep 'refused by 12 at block 0, task BIAS, depth 0' "$out/bad.out"
 }
 numbers() {
-    sed -n 's/^ *number_row(b"\(.*\)"),$/\1/p' crates/vectors/src/main.rt | sed 's/\\x//g' | "$out/numbers" > "$out/numbers.out"
+    sed -n 's/^ *number_row(b"\(.*\)"),$/\1/p' crates/vectors/src/main.rt | sed 's/\\x//g' | "$out/read_numbers" > "$out/numbers.out"
     grep '^number ' crates/vectors/stdout | cmp - "$out/numbers.out"
 }
 traced() { "$out/trace" < "$manual/stdin" > "$out/trace.out" && cmp "$out/trace.out" "$manual/stdout"; }

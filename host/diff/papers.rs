@@ -13,7 +13,7 @@ use reference::Verdict;
 /// Name, image in hexadecimal, and number, place, task, depth.
 type Row = (&'static str, &'static str, [u64; 4]);
 
-const CASES: [Row; 15] = [
+const CASES: [Row; 12] = [
     ("A", "010200000001 5500000000000000", [0, 0, 0, 0]),
     ("B", "010200000001 5000000000000000", [12, 0, 0, 0]),
     ("C", "010200000101 5500000000000000", [3, 4, 0, 0]),
@@ -26,9 +26,18 @@ const CASES: [Row; 15] = [
     ("I, accepted", "010200000002 720C010000000000 5500000000000000", [0, 0, 0, 0]),
     ("K, not shortest", "0102000000 8000 5500000000000000", [2, 5, 0, 0]),
     ("start FF 00", "01020000 FF00 01 5500000000000000", [2, 4, 0, 0]),
-    ("start 127", "01020000 7F 01 5500000000000000", [3, 4, 0, 0]),
-    ("start 128", "01020000 8001 01 5500000000000000", [3, 4, 0, 0]),
-    ("start 16383", "01020000 FF7F 01 5500000000000000", [3, 4, 0, 0]),
+];
+
+/// Start and count as an image has them, the count, and number, place, task, depth: each start is at an end of a length.
+/// A start is refused with a count that equals it and accepted with one more, as far as counts go.
+const STARTS: [(&str, usize, [u64; 4]); 7] = [
+    ("00 01", 1, [0; 4]),
+    ("7F 7F", 127, [3, 4, 0, 0]),
+    ("7F 8001", 128, [0; 4]),
+    ("8001 8001", 128, [3, 4, 0, 0]),
+    ("8001 8101", 129, [0; 4]),
+    ("FF7F DC0B", 1500, [3, 4, 0, 0]),
+    ("FF7F FF7F", 16383, [3, 6, 0, 0]),
 ];
 
 fn case(image: Vec<u8>, actions: Vec<Action>) -> Case {
@@ -50,6 +59,9 @@ pub fn check(tally: &mut Tally) -> Result<(), String> {
     for (name, image, wanted) in CASES {
         expect(name, bytes_of(image), wanted, tally)?;
     }
+    for (numbers, count, wanted) in STARTS {
+        expect(&format!("start and count {numbers}"), jumps(numbers, count), wanted, tally)?;
+    }
     expect("K, 1500 blocks", longest(), [0; 4], tally)?;
     expect("8 nested calls", nested(8), [0; 4], tally)?;
     expect("9 nested calls", nested(9), [10, 8, 0, 8], tally)?;
@@ -61,8 +73,13 @@ pub fn check(tally: &mut Tally) -> Result<(), String> {
 
 /// DC 0B is 1500: that many jumps.
 fn longest() -> Vec<u8> {
-    let mut image = bytes_of("0102000000 DC0B");
-    for _ in 0..MOST_BLOCKS {
+    jumps("00 DC0B", MOST_BLOCKS)
+}
+
+/// That many jumps to block 0 behind a start and a count.
+fn jumps(numbers: &str, count: usize) -> Vec<u8> {
+    let mut image = bytes_of(&format!("01020000 {numbers}"));
+    for _ in 0..count {
         image.extend(bytes_of("5500000000000000"));
     }
     image
