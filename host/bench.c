@@ -1,6 +1,8 @@
 /* bench.c - times, stack and size of the library beside the reference, in one run: ns a step by group of commands, us a
  * load, ns a write, stack of each function, bytes of each archive. Buffers are warm; each figure is the best of several
  * rounds. Usage: bench [--rounds N] [LIBRARY_ARCHIVE REFERENCE_ARCHIVE]
+ *        bench --rows          the names of the steps and loads that are timed
+ *        bench --once ROW      does the calls of that row once, by the library, and prints how many; for host/count.sh
  */
 #define _GNU_SOURCE
 #include <pthread.h>
@@ -22,7 +24,7 @@
 #define GOAL_LOAD_RATIO 3.0
 #define GOAL_STACK 16384u
 
-enum { DEFAULT_ROUNDS = 5, STEPS_A_ROUND = 20000, WRITES_A_ROUND = 2000, MOST_ROW = 12, SIDES = 2 };
+enum { DEFAULT_ROUNDS = 5, STEPS_A_ROUND = 20000, STEPS_ONCE = 610, WRITES_A_ROUND = 2000, MOST_ROW = 12, SIDES = 2 };
 
 typedef struct {
     const char *name;
@@ -48,6 +50,10 @@ static uint8_t marks[BIAS_MARKS_LENGTH];
 static uint8_t state[BIAS_STATE_LENGTH];
 static uint8_t inputs[BIAS_INPUTS_LENGTH];
 static int rounds = DEFAULT_ROUNDS;
+
+/* What is asked for: times, the rows' names, or one row's calls once. */
+static enum { TIMES, ROWS, ONCE } asked = TIMES;
+static const char *wanted_row;
 
 static double now(void)
 {
@@ -93,6 +99,8 @@ static void make_image(uint32_t type)
 
 static void print_head(const char *what, const char *unit)
 {
+    if (asked != TIMES)
+        return;
     printf("\n%-44s %12s %12s %8s   (%s)\n", what, sides[0].name, sides[1].name, "ratio", unit);
 }
 
@@ -182,12 +190,44 @@ static double time_steps(const side *s, const uint8_t *begin, uint32_t task)
     return best;
 }
 
+static void step_once(const uint8_t *begin, uint32_t task)
+{
+    memcpy(state, begin, sizeof state);
+    for (int step = 0; step < STEPS_ONCE; step++)
+        answers += bias_step(image, image_len, state, sizeof state, task, inputs, sizeof inputs, 0, 0).number;
+    printf("%d\n", STEPS_ONCE);
+}
+
+static void load_once(void)
+{
+    answers += bias_load(image, image_len, marks, sizeof marks, state, sizeof state).number;
+    printf("1\n");
+}
+
+/* Whether the row is timed. Its name is printed where names are asked for. */
+static int is_timed(const char *name)
+{
+    if (asked == ROWS)
+        printf("%s\n", name);
+    return asked == TIMES;
+}
+
+/* Whether the row is the one whose calls are done once. */
+static int is_wanted(const char *name)
+{
+    return asked == ONCE && strcmp(name, wanted_row) == 0;
+}
+
 /* The slowest group, and all groups together, for the goals. */
 static double slowest_step, all_steps[SIDES];
 
 static void bench_steps(const char *name, const uint8_t *begin, uint32_t task)
 {
     double figures[SIDES];
+    if (is_wanted(name))
+        step_once(begin, task);
+    if (!is_timed(name))
+        return;
     for (int at = 0; at < SIDES; at++)
         figures[at] = time_steps(&sides[at], begin, task);
     print_row(name, figures);
@@ -231,7 +271,8 @@ static void bench_all_steps(void)
     begin[BIAS_STATE_LENGTH - 1] = 0;
     image_len--;
     bench_steps("refused by 17, another length", begin, BIAS_TASK_BIAS);
-    print_row("all of these together", all_steps);
+    if (asked == TIMES)
+        print_row("all of these together", all_steps);
 }
 
 /* ---- loads ---- */
@@ -354,6 +395,10 @@ static void bench_load(const char *name, void (*make)(void))
     make();
     make_image(BIAS_TYPE_637);
     load_begin(state);
+    if (is_wanted(name))
+        load_once();
+    if (!is_timed(name))
+        return;
     for (int at = 0; at < SIDES; at++)
         figures[at] = time_load(&sides[at]);
     print_row(name, figures);
@@ -524,17 +569,26 @@ static void print_goals(void)
 int main(int argc, char **argv)
 {
     int at = 1;
-    if (argc > 2 && strcmp(argv[1], "--rounds") == 0) {
+    if (argc == 2 && strcmp(argv[1], "--rows") == 0) {
+        asked = ROWS;
+        at = 2;
+    } else if (argc == 3 && strcmp(argv[1], "--once") == 0) {
+        asked = ONCE;
+        wanted_row = argv[2];
+        at = 3;
+    } else if (argc > 2 && strcmp(argv[1], "--rounds") == 0) {
         rounds = atoi(argv[2]);
         at = 3;
     }
     if (rounds < 1 || (argc != at && argc != at + 2)) {
-        fprintf(stderr, "usage: bench [--rounds N] [LIBRARY_ARCHIVE REFERENCE_ARCHIVE]\n");
+        fprintf(stderr, "usage: bench [--rounds N] [LIBRARY_ARCHIVE REFERENCE_ARCHIVE] | --rows | --once ROW\n");
         return 2;
     }
     inputs[11] = 1;
     bench_all_steps();
     bench_all_loads();
+    if (asked != TIMES)
+        return answers == UINT32_MAX ? 2 : 0;
     print_head("a write", "ns");
     bench_writes(14, "14 blocks");
     bench_writes(BIAS_MOST_BLOCKS, "1,500 blocks");

@@ -38,6 +38,11 @@ numbers() {
     sed -n 's/^ *number_row(b"\(.*\)"),$/\1/p' crates/vectors/src/main.rt | sed 's/\\x//g' | "$out/read_numbers" > "$out/numbers.out"
     grep '^number ' crates/vectors/stdout | cmp - "$out/numbers.out"
 }
+judged() { "$out/judge_images" < crates/images/stdin > "$out/images.out" && cmp "$out/images.out" crates/images/stdout; }
+several() {
+    "$out/bad_places" > "$out/bad_places.out" \
+        && tail -n "$(wc -l < "$out/bad_places.out")" crates/images/stdin | cmp - "$out/bad_places.out"
+}
 traced() { "$out/trace" < "$manual/stdin" > "$out/trace.out" && cmp "$out/trace.out" "$manual/stdout"; }
 
 # What a verdict program prints and how it ends: says STATUS LINE COMMAND..; an empty LINE is for nothing. Messages go to $out/err.
@@ -103,6 +108,8 @@ try "the example's trace of the feed program" example
 try "the example refuses a bad image" refused
 try "the vectors' numbers on the reference" numbers
 try "the manual's examples on the reference" traced
+try "the test images on the reference" judged
+try "the test images with several bad places" several
 try "bias-verdict on a named file" named_file
 try "bias-verdict on standard input" standard_input
 try "bias-verdict --explain" explained

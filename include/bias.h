@@ -155,7 +155,8 @@ typedef struct {
  *
  * The first of these is told: 13, 16, the header's numbers by 1, 2, 3, the length by 1 or 4, each block upwards by 5, 6,
  * 7, 8; then what the program can reach, with every condition taken both ways: 7 for a 51 that would end another task, at
- * the least such block, and else 9 to 12 at the least bad place. A refused load leaves the state buffer as it was. */
+ * the least such block, and else 9 to 12 at the least bad place: the least block, in it the least task, then the least
+ * depth. A refused load leaves the state buffer as it was. */
 bias_verdict bias_load(const uint8_t *image, size_t image_len,
                        uint8_t *marks, size_t marks_len,
                        uint8_t *state, size_t state_len);

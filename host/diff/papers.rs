@@ -1,5 +1,5 @@
-//! Document 01's own examples, A to L and the chains of calls, with the answers that it prints; starts at the ends of each
-//! length of a number; and images cut at every length. Done on the library and on the reference alike.
+//! Document 01's own examples, A to L and the chains of calls, with the answers that it prints; two of change request 2;
+//! starts at the ends of each length of a number; and images cut at every length. Done on the library and on the reference alike.
 
 use crate::case::{Action, Case};
 use crate::program;
@@ -13,7 +13,7 @@ use reference::Verdict;
 /// Name, image in hexadecimal, and number, place, task, depth.
 type Row = (&'static str, &'static str, [u64; 4]);
 
-const CASES: [Row; 12] = [
+const CASES: [Row; 14] = [
     ("A", "010200000001 5500000000000000", [0, 0, 0, 0]),
     ("B", "010200000001 5000000000000000", [12, 0, 0, 0]),
     ("C", "010200000101 5500000000000000", [3, 4, 0, 0]),
@@ -26,6 +26,12 @@ const CASES: [Row; 12] = [
     ("I, accepted", "010200000002 720C010000000000 5500000000000000", [0, 0, 0, 0]),
     ("K, not shortest", "0102000000 8000 5500000000000000", [2, 5, 0, 0]),
     ("start FF 00", "01020000 FF00 01 5500000000000000", [2, 4, 0, 0]),
+    ("a lower block in a later task", "010200000003 5401000000000000 2000000000000000 5000000000000000", [9, 1, 1, 0]),
+    (
+        "one block in two tasks",
+        "010200000004 5403000000000000 5203000000000000 5502000000000000 5000000000000000",
+        [12, 3, 0, 1],
+    ),
 ];
 
 /// Start and count as an image has them, the count, and number, place, task, depth: each start is at an end of a length.
@@ -50,7 +56,7 @@ fn expect(name: &str, image: Vec<u8>, wanted: [u64; 4], tally: &mut Tally) -> Re
         reference::load(&image, &mut vec![0; MARKS_LENGTH], &mut vec![0; STATE_LENGTH]);
     let got = [number as u64, place, task as u64, depth as u64];
     if got != wanted {
-        return Err(format!("case {name}: the reference says {got:?}, document 01 {wanted:?}"));
+        return Err(format!("case {name}: the reference says {got:?}, the papers {wanted:?}"));
     }
     case(image, Vec::new()).run(tally).map_err(|difference| format!("case {name}: {}", difference.what))
 }

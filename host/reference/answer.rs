@@ -25,8 +25,8 @@ impl Verdict {
     }
 }
 
-/// Document 01, "Walks": a place is task, block and depth; compared in that order.
-#[derive(Clone, Copy, Debug, PartialEq, Eq, PartialOrd, Ord)]
+/// Document 01, "Walks": a place is task, block and depth.
+#[derive(Clone, Copy, Debug, PartialEq, Eq)]
 pub struct Place {
     pub task: usize,
     pub block: usize,

@@ -36,25 +36,39 @@ struct Search<'a> {
     blocks: &'a [u8],
     marks: &'a mut [u8],
     open: Vec<Place>,
-    least_foreign: Option<usize>,
-    least_bad: Option<(Place, u32)>,
+    found: Found,
 }
 
-/// What all walks say of a program whose blocks passed 5 to 8: 7 at the least foreign 51, else the least bad place, "by
-/// task, block, depth". Only the first 40,500 marks are touched.
+/// What walks reach that is refused: the blocks of foreign 51s, and the bad places with their numbers; in no order.
+#[derive(Default)]
+pub struct Found {
+    pub foreign: Vec<usize>,
+    pub bad: Vec<(Place, u32)>,
+}
+
+/// What all walks say of a program whose blocks passed 5 to 8: 7 at the least foreign 51, else the least bad place.
+/// Change request 2: "Among bad places the least now counts by block, then task, then depth."
 pub fn judge(header: &Header, blocks: &[u8], marks: &mut [u8]) -> Verdict {
-    let marks = &mut marks[..MARKS_LENGTH];
-    marks.fill(0);
-    let mut search = Search { header, blocks, marks, open: Vec::new(), least_foreign: None, least_bad: None };
-    search.reach(Place { task: BIAS, block: header.start, depth: 0 });
-    while let Some(place) = search.open.pop() {
-        search.visit(place);
-    }
-    match (search.least_foreign, search.least_bad) {
+    let found = search(header, blocks, marks);
+    let foreign = found.foreign.into_iter().min();
+    let bad = found.bad.into_iter().min_by_key(|(place, _)| (place.block, place.task, place.depth));
+    match (foreign, bad) {
         (Some(block), _) => Verdict::at(BAD_OPERAND, block),
         (None, Some((place, number))) => Verdict::at_place(number, place),
         (None, None) => Verdict::at(SUCCESS, 0),
     }
+}
+
+/// Everything refused that walks reach. Only the first 40,500 marks are touched.
+pub fn search(header: &Header, blocks: &[u8], marks: &mut [u8]) -> Found {
+    let marks = &mut marks[..MARKS_LENGTH];
+    marks.fill(0);
+    let mut search = Search { header, blocks, marks, open: Vec::new(), found: Found::default() };
+    search.reach(Place { task: BIAS, block: header.start, depth: 0 });
+    while let Some(place) = search.open.pop() {
+        search.visit(place);
+    }
+    search.found
 }
 
 impl Search<'_> {
@@ -71,16 +85,12 @@ impl Search<'_> {
     fn visit(&mut self, place: Place) {
         let block = block(self.blocks, place.block);
         if foreign(block, place.task) {
-            self.least_foreign = Some(self.least_foreign.map_or(place.block, |least| least.min(place.block)));
+            self.found.foreign.push(place.block);
             return;
         }
         match bad(self.header, block, place) {
             SUCCESS => self.go_on(block, place),
-            number => {
-                if self.least_bad.is_none_or(|(least, _)| place < least) {
-                    self.least_bad = Some((place, number));
-                }
-            }
+            number => self.found.bad.push((place, number)),
         }
     }
 

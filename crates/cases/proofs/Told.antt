@@ -5,7 +5,7 @@ use lib.IntN.{negsuc}
 use Rattle.state.specs.State.{startAxis}
 use Rattle.machine.specs.declared.Motion.the-variants.{None, MoveTo}
 use Rattle.cases.specs.Table.{Name, Answer, Row, stand, accepted, table}
-use Rattle.cases.specs.Table.Name.{A, B, C, D, E, F, G, H, I, J, K, L, chainOf, heldStart, startMark}
+use Rattle.cases.specs.Table.Name.{A, B, C, D, E, F, G, H, I, J, K, L, chainOf, blockBeforeTask, taskBeforeDepth, heldStart, startMark}
 use Rattle.cases.specs.Table.Answer.{refusal, value, noNumber, standing, whole, motions}
 
 record Told : Type 0 where
@@ -21,6 +21,7 @@ pub named : map (λ (r : Row). told (r .name) (r .answer)) table
     ∷ told J (standing (stand 0 1000 526) (stand 1 0 0)) ∷ told J (standing (stand 0 1000 1184) (stand 1 0 0))
     ∷ told K (value 1500) ∷ told K (noNumber 2) ∷ told K (noNumber 1) ∷ told K (refusal 2 4 0 0)
     ∷ told L (whole (negsuc 2)) ∷ told L (whole (negsuc 2)) ∷ told (chainOf 8) accepted ∷ told (chainOf 9) (refusal 10 16 0 8)
+    ∷ told blockBeforeTask (refusal 9 1 1 0) ∷ told taskBeforeDepth (refusal 12 3 0 1)
     ∷ told heldStart (motions (None ∷ None ∷ None ∷ MoveTo startAxis ∷ [])) ∷ told startMark (motions (None ∷ MoveTo startAxis ∷ None ∷ None ∷ [])) ∷ []
 unfolding table
 named = refl

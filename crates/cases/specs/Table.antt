@@ -1,5 +1,5 @@
--- Document 01's cases as one table of questions and answers ("Examples and faults to shut out"). The questions are put to the definitions that
--- stand in the contracts. Assumes nothing.
+-- Document 01's cases as one table of questions and answers ("Examples and faults to shut out"), and the change requests'. The questions are put to
+-- the definitions that stand in the contracts. Assumes nothing.
 use Prim.Native.Nat.{ℕ}
 use mathlib.Core.List.{List, [], _∷_, map}
 use lib.ListN.{replicate}
@@ -46,6 +46,8 @@ pub data Name : Type 0 where
   K : Name
   L : Name
   chainOf : ℕ → Name
+  blockBeforeTask : Name
+  taskBeforeDepth : Name
   heldStart : Name
   startMark : Name
 
@@ -184,6 +186,10 @@ table =
     row (chainOf 8) (verdict (chain 8)) accepted ∷
     -- of 9: 10, at the ninth call: block 16, depth 8
     row (chainOf 9) (verdict (chain 9)) (refusal 10 16 0 8) ∷
+    -- change request 2, 54 01, 20, 50: the PLC's 9 at block 1 comes before the 12 of BIAS at block 2
+    row blockBeforeTask (verdict (image (toward (hex 5 4) 1 ∷ plain (hex 2 0) ∷ plain (hex 5 0) ∷ []))) (refusal 9 1 1 0) ∷
+    -- change request 2, 54 03, 52 03, 55 02, 50: at block 3 the 12 of BIAS at depth 1 comes before the PLC's at depth 0
+    row taskBeforeDepth (verdict (image (toward (hex 5 4) 3 ∷ toward (hex 5 2) 3 ∷ toward (hex 5 5) 2 ∷ plain (hex 5 0) ∷ []))) (refusal 12 3 0 1) ∷
     -- faults: a start input that is high at load is no slope; one that is low and then high is
     row heldStart (requested mover (1 ∷ 1 ∷ 0 ∷ 1 ∷ [])) (motions (None ∷ None ∷ None ∷ MoveTo startAxis ∷ [])) ∷
     -- the start mark of 0E starts a move without a slope, which clears it

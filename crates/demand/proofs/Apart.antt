@@ -12,7 +12,13 @@ use Rattle.number.proofs.Choice.{clash}
 use Rattle.image.specs.Scan.{headerOf, blocksOf}
 use Rattle.point.specs.Fault.{mostDepth}
 use Rattle.flow.specs.Flow.{taskCount}
-use Rattle.walk.specs.Says.{NoForeign}
+use Rattle.point.specs.declared.Point.{Point}
+use Rattle.walk.specs.Program.{faultAt}
+use Rattle.walk.specs.Says.{BadAt, NoForeign, Says, Judges}
+use Rattle.walk.specs.Verdict.{verdictNumber}
+use Rattle.walk.specs.declared.Verdict.{Verdict}
+use Rattle.walk.specs.declared.Verdict.the-variants.{Bad}
+use Rattle.walk.proofs.Order.{block-first, then-task, then-depth}
 use Rattle.state.specs.State.{runs, taskAt}
 use Rattle.layout.specs.Decoded.{decoded}
 use Rattle.layout.specs.Encoded.{encoded}
@@ -29,6 +35,7 @@ use Rattle.machine.specs.declared.Cause.the-variants.{ZeroDivisor, BadContent}
 use Rattle.machine.specs.declared.Answer.{Answer}
 use Rattle.machine.specs.declared.Answer.the-variants.{Done, NoTask, Inputs as BadInputs, NotRunning, Differs, Halted}
 use Rattle.machine.proofs.Apart.{threadFor, both-run, alike-is, permitted-fits}
+use Rattle.border.specs.Border.{verdictFor}
 use Rattle.border.specs.declared.BiasAnswer.{BiasAnswer}
 use Rattle.border.specs.declared.BiasVerdict.{BiasVerdict}
 use Rattle.bias.specs.Load.{load}
@@ -117,6 +124,17 @@ module _ {image b : List ℕ} {x : Inputs} where
   pub state-stays : StepOf image b x → isState b ≡ true → isState (stepped image b x .buffer) ≡ true
   state-stays s = s .held
 
+-- ---- the place that is named when walks refuse: a bad one, with its number, and the first that a reader of the listing comes to
+
+pub record Topmost (image : List ℕ) (v : BiasVerdict) : Type 0 where
+  pub place : Point
+  pub bad : BadAt (headerOf image .header) (blocksOf image) place
+  pub named : v ≡ verdictFor (Bad (faultAt (headerOf image .header) (blocksOf image) place) place)
+  -- no bad place is in a block above it; in its block none is of an earlier task, and of its task none is less deep
+  pub above : (q : Point) → BadAt (headerOf image .header) (blocksOf image) q → place .block ≤ q .block
+  pub earlier : (q : Point) → BadAt (headerOf image .header) (blocksOf image) q → place .block ≡ q .block → place .task ≤ q .task
+  pub shallower : (q : Point) → BadAt (headerOf image .header) (blocksOf image) q → place .block ≡ q .block → place .task ≡ q .task → place .depth ≤ q .depth
+
 -- ---- the whole, of an image of bytes and a load
 
 module _ (d : Demand) (image : List ℕ) (n : ℕ) (b : List ℕ) where
@@ -163,3 +181,30 @@ module _ (d : Demand) (image : List ℕ) (n : ℕ) (b : List ℕ) where
       → ((load image n b .verdict .number ≡ 0 → ⊥) ↔ (SomeBad image ⊎ SomeForeign image))
       × (NoForeign (headerOf image .header) (blocksOf image) → (load image n b .verdict .number ≡ 0 → ⊥) ↔ SomeBad image)
   refused-for w = (d .exactly .byForm image n b w, d .exactly .byPlace image n b w)
+
+  -- ---- the place that a refusal by 9 to 12 names
+
+  module _ (w : WellFormed image n b) (own : NoForeign (headerOf image .header) (blocksOf image)) where
+    judged-topmost : {v : Verdict} → Judges image n v → (verdictNumber v ≡ 0 → ⊥) → Topmost image (verdictFor v)
+    judged-topmost (Judges.marks short) r = absurd (let m = w .marks in omega arith)
+    judged-topmost (Judges.header room f) r = clash (sym (w .header) ∙ f)
+    judged-topmost (Judges.block room f c l all bad) r = absurd (bad (w .blocks c l))
+    judged-topmost (Judges.walks room f all v (Says.accepted g h)) r = absurd (r refl)
+    judged-topmost (Judges.walks room f all v (Says.foreign p g h)) r = absurd (own p g)
+    judged-topmost (Judges.walks room f all v (Says.bad g p q least)) r =
+        record {
+          place = p;
+          bad = q;
+          named = refl;
+          above = λ o k. block-first p o (least o k);
+          earlier = λ o k. then-task p o (least o k);
+          shallower = λ o k. then-depth p o (least o k);
+        }
+
+    loads-topmost : {v : BiasVerdict} → Loads image n b v → (v .number ≡ 0 → ⊥) → Topmost image v
+    loads-topmost (Loads.marks short) r = absurd (let m = w .marks in omega arith)
+    loads-topmost (Loads.buffer room wrong) r = absurd (wrong (w .buffer))
+    loads-topmost (Loads.judged room right v j) r = judged-topmost j r
+
+    pub topmost : (load image n b .verdict .number ≡ 0 → ⊥) → Topmost image (load image n b .verdict)
+    topmost = loads-topmost answer-some

@@ -1,6 +1,6 @@
 // Judges test images: a line of standard input is an image in capital hexadecimal digits, and its verdict is a line of standard output; behind that
-// of an accepted image stands a line of its blocks, how many bytes and a sum of them. What it prints is held to the file stdout, whose verdicts come
-// from a second reading of the papers, and whose lines of blocks a script computed from them and the bytes behind the six numbers of each image.
+// of an accepted image stands a line of its blocks, how many bytes and a sum of them. What it prints is held to the file stdout, whose lines come
+// from a second reading of the papers (host/reference/judge_images.rs prints them).
 use libc::STDIN_FILENO;
 use libc::STDOUT_FILENO;
 use walk::Verdict;

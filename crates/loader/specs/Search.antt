@@ -16,7 +16,7 @@ use Rattle.walk.specs.Verdict.{reached}
 
 -- marks to a page, and pages
 abbrev pub pageLength : ℕ
-pageLength = 256
+pageLength = 128
 
 abbrev pub pageCount : ℕ
 pageCount = (marksLength + pageLength - 1) / pageLength

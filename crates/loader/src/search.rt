@@ -17,7 +17,7 @@ ghost use Rattle.loader.specs.After.{After};
 ghost use Rattle.loader.specs.Search.{Ready, Paged, board, touched, visited, Going, Searched, Swept, Fresh, lowered};
 
 // Marks to a page, and pages.
-const PAGE_LENGTH: usize = 256;
+const PAGE_LENGTH: usize = 128;
 
 const PAGE_COUNT: usize = (MARKS_LENGTH + PAGE_LENGTH - 1) / PAGE_LENGTH;
 
@@ -158,10 +158,10 @@ fn point_at(i: usize) -> Point
     requires { ⌜ i < marksLength ⌝ }
     ensures { λ r. ⌜ r ≡ pointAt i ⌝ }
 {
-    let line = i / program::DEPTHS;
+    let pair = i / program::DEPTHS;
     Point {
-        task: (line / program::BLOCKS) as u8,
-        block: (line % program::BLOCKS) as u16,
+        task: (pair % program::TASKS) as u8,
+        block: (pair / program::TASKS) as u16,
         depth: (i % program::DEPTHS) as u8,
     }
 }

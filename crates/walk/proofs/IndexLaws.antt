@@ -4,13 +4,12 @@ use Prim.Native.Nat.{ℕ, _+_, _*_, _/_, _%_, _<_, _≤_}
 use mathlib.Core.Path.{_≡_, sym, _∙_}
 use mathlib.Core.Bool.{true, false}
 use native.Mathlib.Omega.{arith}
-use lib.Dec.{eqb, ltb}
-use mathlib.Core.Logic.{⊎-elim}
-use borrow.Author.Tests.{lt-ltb, le-ltb, ltb-true, ltb-false, eqb-true, eqb-false}
-use Rattle.image.specs.Rows.{mostBlocks}
+use lib.Dec.{ltb}
+use borrow.Author.Tests.{lt-ltb, le-ltb, ltb-true, ltb-false}
+use Rattle.flow.specs.Flow.{taskCount}
 use Rattle.point.specs.declared.Point.{Point}
-use Rattle.number.proofs.Choice.{both}
-use Rattle.walk.proofs.Choice.{test, or-is, neither, not-both}
+use Rattle.walk.proofs.Choice.{test}
+use Rattle.walk.proofs.Order.{by-true, by-false}
 use Rattle.walk.specs.Index.{depths, marksLength, Inside, indexOf, pointAt, before}
 
 -- the number gives the point back, and the point the number
@@ -18,12 +17,11 @@ pub point-back : (p : Point) → Inside p → pointAt (indexOf p) ≡ p
 unfolding indexOf pointAt
 point-back p i =
     let t = i .task in
-    let b = i .block in
     let d = i .depth in
-    let e : ((p .task * mostBlocks + p .block) * depths + p .depth) % depths ≡ p .depth = omega arith in
-    let f : ((p .task * mostBlocks + p .block) * depths + p .depth) / depths ≡ p .task * mostBlocks + p .block = omega arith in
-    let g : (p .task * mostBlocks + p .block) / mostBlocks ≡ p .task = omega arith in
-    let k : (p .task * mostBlocks + p .block) % mostBlocks ≡ p .block = omega arith in
+    let e : ((p .block * taskCount + p .task) * depths + p .depth) % depths ≡ p .depth = omega arith in
+    let f : ((p .block * taskCount + p .task) * depths + p .depth) / depths ≡ p .block * taskCount + p .task = omega arith in
+    let g : (p .block * taskCount + p .task) / taskCount ≡ p .block = omega arith in
+    let k : (p .block * taskCount + p .task) % taskCount ≡ p .task = omega arith in
     rw (e, f, g, k)
 
 pub index-back : (i : ℕ) → indexOf (pointAt i) ≡ i
@@ -44,33 +42,18 @@ module _ (p q : Point) (i : Inside p) (j : Inside q) where
   less : before p q ≡ true → indexOf p < indexOf q
   unfolding indexOf
   less e =
-      let b = i .block in
+      let t = i .task in
       let d = i .depth in
-      ⊎-elim (λ t. let l = ltb-true (p .task) (q .task) t in omega arith)
-      (λ t. let s = both (eqb (p .task) (q .task)) _ t in
-      let w = eqb-true (p .task) (q .task) (s .0) in
-      ⊎-elim (λ k. let l = ltb-true (p .block) (q .block) k in omega arith)
-      (λ k. let r = both (eqb (p .block) (q .block)) _ k in
-      let v = eqb-true (p .block) (q .block) (r .0) in
-      let l = ltb-true (p .depth) (q .depth) (r .1) in
-      omega arith)
-      (or-is (ltb (p .block) (q .block)) _ (s .1)))
-      (or-is (ltb (p .task) (q .task)) _ e)
+      by-true (p .block) (q .block) _ e (λ l. omega arith)
+      (λ b s. by-true (p .task) (q .task) _ s (λ l. omega arith) (λ k r. let l = ltb-true (p .depth) (q .depth) r in omega arith))
 
   more : before p q ≡ false → indexOf q ≤ indexOf p
   unfolding indexOf
   more e =
-      let b = j .block in
+      let t = j .task in
       let d = j .depth in
-      let s = neither (ltb (p .task) (q .task)) _ e in
-      let g = ltb-false (p .task) (q .task) (s .0) in
-      ⊎-elim (λ t. let n = eqb-false (p .task) (q .task) t in omega arith)
-      (λ t. let r = neither (ltb (p .block) (q .block)) _ t in
-      let k = ltb-false (p .block) (q .block) (r .0) in
-      ⊎-elim (λ u. let n = eqb-false (p .block) (q .block) u in omega arith)
-      (λ u. let m = ltb-false (p .depth) (q .depth) u in omega arith)
-      (not-both (eqb (p .block) (q .block)) _ (r .1)))
-      (not-both (eqb (p .task) (q .task)) _ (s .1))
+      by-false (p .block) (q .block) _ e (λ l. omega arith)
+      (λ b s. by-false (p .task) (q .task) _ s (λ l. omega arith) (λ k r. let l = ltb-false (p .depth) (q .depth) r in omega arith))
 
   pub in-order : before p q ≡ ltb (indexOf p) (indexOf q)
   in-order = test (before p q) (λ e. e ∙ sym (lt-ltb _ _ (less e))) (λ e. e ∙ sym (le-ltb _ _ (more e)))

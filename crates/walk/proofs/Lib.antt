@@ -1,6 +1,7 @@
 pub mod Choice
 pub mod GraphLaws
 pub mod Least
+pub mod Order
 pub mod IndexLaws
 pub mod Within
 pub mod Moves

@@ -1,4 +1,4 @@
--- The number of a point in the loader's marks: one mark for each task, block and depth. Only the laws of proofs/IndexLaws.antt are used of it:
+-- The number of a point in the loader's marks: one mark for each block, task and depth. Only the laws of proofs/IndexLaws.antt are used of it:
 -- it gives the point back, it is below the marks' length, and its order is the report order. Assumes nothing.
 use Prim.Native.Nat.{ℕ, _+_, _*_, _/_, _%_, _<_, _≤_}
 use mathlib.Core.Bool.{Bool, _&&_, _||_}
@@ -14,7 +14,7 @@ depths = mostDepth + 1
 
 -- the marks' length: 13 asks for it
 abbrev pub marksLength : ℕ
-marksLength = taskCount * mostBlocks * depths
+marksLength = mostBlocks * taskCount * depths
 
 -- the points that have a mark
 pub record Inside (p : Point) : Type 0 where
@@ -23,12 +23,15 @@ pub record Inside (p : Point) : Type 0 where
   pub depth : p .depth ≤ mostDepth
 
 unfoldable pub indexOf : Point → ℕ
-indexOf p = (p .task * mostBlocks + p .block) * depths + p .depth
+indexOf p = (p .block * taskCount + p .task) * depths + p .depth
 
 unfoldable pub pointAt : ℕ → Point
-pointAt i = point (i / depths / mostBlocks) (i / depths % mostBlocks) (i % depths)
+pointAt i = point (i / depths % taskCount) (i / depths / taskCount) (i % depths)
 
--- the report order: by task, block, depth
+-- by one number, and where it is the same by the rest
+abbrev pub byNumber : ℕ → ℕ → Bool → Bool
+byNumber a b rest = ltb a b || (eqb a b && rest)
+
+-- the report order: by block, then task, then depth (change request 2)
 abbrev pub before : Point → Point → Bool
-before p q =
-    ltb (p .task) (q .task) || (eqb (p .task) (q .task) && (ltb (p .block) (q .block) || (eqb (p .block) (q .block) && ltb (p .depth) (q .depth))))
+before p q = byNumber (p .block) (q .block) (byNumber (p .task) (q .task) (ltb (p .depth) (q .depth)))
