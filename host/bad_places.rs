@@ -1,16 +1,20 @@
-//! Prints test images in which walks reach two or three bad places, or foreign 51s, in different lines of the file, tasks
-//! and depths; crates/images/stdin ends with them. Change request 2 reports the least bad place by block, then task, then
+//! Prints test images in which walks reach two or three bad places, or foreign 51s, in one line of the file or several, of
+//! one task or several, at several depths; crates/images/stdin ends with them. Change request 2 reports the least bad place by block, then task, then
 //! depth: the run fails if another order of the three would report the same place in every image.
 
 use reference::answer::Place;
 use reference::drive::Drive;
-use reference::image::{self, Block, Header};
+use reference::hex::digits_of;
+use reference::image::{self, Block, Header, Wanted};
 use reference::number::*;
 use reference::walk;
 use std::process::ExitCode;
 
+/// A 637, without boards.
+const KIND: u32 = 2;
+
 /// What a walk is to reach: `line` counts the lines with faults from the top of the file.
-#[derive(Clone, Copy, PartialEq)]
+#[derive(Clone, Copy)]
 struct Spot {
     line: usize,
     task: usize,
@@ -22,24 +26,27 @@ fn spot(line: usize, task: usize, depth: usize) -> Spot {
     Spot { line, task, depth, foreign: false }
 }
 
-/// For each task a command that is forbidden to it alone: 57, 54, 90.
-const FORBIDDEN_CODES: [u8; TASKS] = [0x57, 0x54, 0x90];
-/// Commands that are bad at a depth or in a task wherever they stand, as soon as what they name is below the count.
+/// Tried in this order: 52 is bad at the greatest depth, 53 at depth 0, 20 outside BIAS, each of the rest in one task.
 const BAD_CODES: [u8; 6] = [0x52, 0x53, 0x20, 0x57, 0x54, 0x90];
+/// For each task a command that is forbidden to it alone.
+const FORBIDDEN_CODES: [u8; TASKS] = [0x57, 0x54, 0x90];
 
-/// The last command of the file: 12, and 9 in the task that it is forbidden to.
+/// The last command of the file is bad everywhere by 12. That of images with three spots is bad by 9 in one of its tasks,
+/// so that 9 before 12 is met as well.
 fn last_code(spots: &[Spot]) -> u8 {
-    if spots.len() > 2 { FORBIDDEN_CODES[spots[spots.len() - 1].task] } else { 0x50 }
+    if spots.len() == 3 { FORBIDDEN_CODES[spots[2].task] } else { 0x50 }
 }
 
 /// A command that is bad at all spots of a line, or a 51 that ends another task.
-fn faulty(spots: &[Spot], header: &Header) -> Option<Block> {
+fn faulty(spots: &[Spot]) -> Option<Block> {
     let first = spots.first()?;
     if first.foreign {
         return Some([0x51, 1 + (first.task as u8 + 1) % TASKS as u8, 0, 0, 0, 0, 0, 0]);
     }
+    // so long that nothing is past its end
+    let long = Header { drive: Drive { kind: KIND, slot_b: 0, slot_c: 0 }, start: 0, count: MOST_BLOCKS };
     let at = |s: &Spot| Place { task: s.task, block: s.line, depth: s.depth };
-    let bad = |code: u8| spots.iter().all(|s| walk::bad(header, &to(code, 0), at(s)) != SUCCESS);
+    let bad = |code: u8| spots.iter().all(|s| walk::bad(&long, &to(code, 0), at(s)) != SUCCESS);
     BAD_CODES.into_iter().find(|code| bad(*code)).map(|code| to(code, 0))
 }
 
@@ -71,42 +78,55 @@ fn way(spots: &[Spot], task: usize, first: usize, lines: &[usize]) -> Vec<Block>
     blocks
 }
 
-/// The faults from the top of the file on, then the program: starts of the PLC and of mathematics, and each task's way.
-fn laid_out(spots: &[Spot], faults: &[Block], lines: &[usize]) -> Vec<Block> {
-    let mut blocks = faults.to_vec();
+/// The program behind the lines above it: starts of the PLC and of mathematics, and each task's way.
+fn with_program(above: &[Block], spots: &[Spot], lines: &[usize]) -> Vec<Block> {
+    let mut blocks = above.to_vec();
     blocks.extend([to(0x54, 0), to(0x90, 0)]);
     for task in 0..TASKS {
         let first = blocks.len();
         if task != BIAS {
-            blocks[faults.len() + task - 1] = to(blocks[faults.len() + task - 1][0], first);
+            let start = above.len() + task - 1;
+            blocks[start] = to(blocks[start][0], first);
         }
         blocks.extend(way(spots, task, first, lines));
     }
     blocks
 }
 
-/// An image with these spots. Where no command is bad at every spot of the last line, that line stands at the end of the
-/// file; no image where another line would have to.
-fn image(spots: &[Spot]) -> Option<Vec<u8>> {
-    let long = Header { drive: Drive { kind: 2, slot_b: 0, slot_c: 0 }, start: 0, count: MOST_BLOCKS };
-    let mut lines: Vec<usize> = (0..=spots[spots.len() - 1].line).collect();
-    let on = |line: &usize| spots.iter().copied().filter(|s| s.line == *line).collect::<Vec<Spot>>();
-    let faults: Vec<Block> = lines.iter().map_while(|line| faulty(&on(line), &long)).collect();
-    let mut blocks = laid_out(spots, &faults, &lines);
-    if faults.len() + 1 < lines.len() {
-        return None;
-    }
-    if faults.len() < lines.len() {
-        lines[faults.len()] = blocks.len();
-        blocks = laid_out(spots, &faults, &lines);
-        blocks.push(to(last_code(spots), 0));
-    }
-    let mut bytes = vec![1, 2, 0, 0, faults.len() as u8, blocks.len() as u8];
-    bytes.extend(blocks.concat());
-    Some(bytes)
+/// An image, and the places that it is made for.
+struct Made {
+    image: Vec<u8>,
+    places: Vec<Place>,
 }
 
-/// Two spots and three, of all tasks; the ends of a file's lines and of the depths are met.
+/// An image with these spots: some lines that nothing reaches, the faults, the program. Where no command is bad at every
+/// spot of the last line, that line stands at the end of the file; no image where another line would have to.
+fn made(spots: &[Spot], unreached: usize) -> Option<Made> {
+    let count = spots[spots.len() - 1].line + 1;
+    let on = |line: usize| spots.iter().copied().filter(|s| s.line == line).collect::<Vec<Spot>>();
+    let mut above = vec![to(0x50, 0); unreached];
+    above.extend((0..count).map_while(|line| faulty(&on(line))));
+    let mut lines: Vec<usize> = (unreached..unreached + count).collect();
+    let missing = unreached + count - above.len();
+    if missing > 1 {
+        return None;
+    }
+    let mut blocks = with_program(&above, spots, &lines);
+    if missing == 1 {
+        lines[count - 1] = blocks.len();
+        blocks = with_program(&above, spots, &lines);
+        blocks.push(to(last_code(spots), 0));
+    }
+    let (start, count) = (above.len() as u32, blocks.len() as u32);
+    let wanted = Wanted { format: FORMAT, kind: KIND, slot_b: 0, slot_c: 0, start, count };
+    let mut image = vec![0; 8 + BLOCK_LENGTH * blocks.len()];
+    let written = image::write(&wanted, &blocks.concat(), &mut image);
+    image.truncate(written.place as usize);
+    let places = spots.iter().map(|s| Place { task: s.task, block: lines[s.line], depth: s.depth }).collect();
+    Some(Made { image, places })
+}
+
+/// Two spots and three: in one line and in several, of one task and of several, at depths 0, 1 and the greatest.
 fn all_spots() -> Vec<Vec<Spot>> {
     let mut all = Vec::new();
     let shallow: Vec<(usize, usize)> = (0..TASKS).flat_map(|task| [(task, 0), (task, 1)]).collect();
@@ -149,6 +169,15 @@ fn all_spots() -> Vec<Vec<Spot>> {
     all
 }
 
+/// All images: faults from the top of the file on, and then on both sides of where a block's number takes a second byte.
+fn all_made() -> Vec<Made> {
+    let mut all: Vec<Made> = all_spots().iter().filter_map(|spots| made(spots, 0)).collect();
+    for [above, below] in [[BIAS, PLC], [MATHEMATICS, BIAS]] {
+        all.extend(made(&[spot(0, above, 0), spot(1, below, 0)], 255));
+    }
+    all
+}
+
 type Key = fn(&Place) -> [usize; 3];
 
 /// The asked order, and the others of block, task and depth.
@@ -166,29 +195,37 @@ fn found(image: &[u8]) -> walk::Found {
     walk::search(&header, blocks, &mut vec![0; MARKS_LENGTH])
 }
 
+/// Whether walks reach what the image is made for, and nothing else that is refused.
+fn is_right(made: &Made) -> bool {
+    let found = found(&made.image);
+    let bad: Vec<Place> = found.bad.iter().map(|(place, _)| *place).collect();
+    let meant = |block: &usize| made.places.iter().any(|place| place.block == *block && !bad.contains(place));
+    bad.len() + found.foreign.len() == made.places.len()
+        && bad.iter().all(|place| made.places.contains(place))
+        && found.foreign.iter().all(meant)
+}
+
 /// Whether another order would report another place.
-fn tells(image: &[u8], other: Key) -> bool {
-    let found = found(image);
+fn tells(made: &Made, other: Key) -> bool {
+    let found = found(&made.image);
     let least = |key: Key| found.bad.iter().map(|(place, _)| place).min_by_key(|place| key(place));
     found.foreign.is_empty() && least(ASKED) != least(other)
 }
 
 fn main() -> ExitCode {
-    let mut images = Vec::new();
-    for spots in all_spots() {
-        let Some(image) = image(&spots) else {
-            continue;
-        };
-        let found = found(&image);
-        assert_eq!(found.bad.len() + found.foreign.len(), spots.len(), "an image has the faults it is made for");
-        println!("{}", image.iter().map(|byte| format!("{byte:02X}")).collect::<String>());
-        images.push(image);
+    let all = all_made();
+    let mut good = true;
+    for made in &all {
+        println!("{}", digits_of(&made.image));
+        if !is_right(made) {
+            eprintln!("not the places that it is made for: {}", digits_of(&made.image));
+            good = false;
+        }
     }
-    let mut told = true;
     for (name, other) in OTHERS {
-        let count = images.iter().filter(|image| tells(image, other)).count();
-        eprintln!("by {name}: {count} of {} images tell", images.len());
-        told &= count > 0;
+        let count = all.iter().filter(|made| tells(made, other)).count();
+        eprintln!("by {name}: {count} of {} images tell", all.len());
+        good &= count > 0;
     }
-    if told { ExitCode::SUCCESS } else { ExitCode::FAILURE }
+    if good { ExitCode::SUCCESS } else { ExitCode::FAILURE }
 }

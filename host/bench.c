@@ -24,7 +24,8 @@
 #define GOAL_LOAD_RATIO 3.0
 #define GOAL_STACK 16384u
 
-enum { DEFAULT_ROUNDS = 5, STEPS_A_ROUND = 20000, STEPS_ONCE = 610, WRITES_A_ROUND = 2000, MOST_ROW = 12, SIDES = 2 };
+enum { DEFAULT_ROUNDS = 5, STEPS_A_ROUND = 20000, WRITES_A_ROUND = 2000, MOST_ROW = 12, SIDES = 2 };
+enum { CIRCLE = 60, STEPS_ONCE = 10 * (CIRCLE + 1) }; /* blocks before a circle's jump back, and ten rounds of most circles */
 
 typedef struct {
     const char *name;
@@ -52,8 +53,10 @@ static uint8_t inputs[BIAS_INPUTS_LENGTH];
 static int rounds = DEFAULT_ROUNDS;
 
 /* What is asked for: times, the rows' names, or one row's calls once. */
-static enum { TIMES, ROWS, ONCE } asked = TIMES;
+typedef enum { TIMES, ROWS, ONCE } purpose;
+static purpose asked = TIMES;
 static const char *wanted_row;
+static int row_found;
 
 static double now(void)
 {
@@ -151,8 +154,7 @@ static const group groups[] = {
 /* The group's blocks, repeated, with a jump back at the end; a jump 55 goes to the block behind it. */
 static void make_circle(const group *g)
 {
-    const uint32_t length = 60;
-    for (count = 0; count < length; count++) {
+    for (count = 0; count < CIRCLE; count++) {
         memcpy(blocks[count], g->row[count % g->rows], sizeof(block));
         if (blocks[count][0] == 0x55)
             put_jump(count, 0x55, count + 1);
@@ -164,9 +166,8 @@ static void make_circle(const group *g)
 /* A circle of a call to a return, or of returns to the start, or of starts of the PLC. */
 static void make_control(uint8_t code)
 {
-    const uint32_t length = 60;
-    for (count = 0; count < length; count++)
-        put_jump(count, code, code == 0x51 ? 0 : length + 1);
+    for (count = 0; count < CIRCLE; count++)
+        put_jump(count, code, code == 0x51 ? 0 : CIRCLE + 1);
     put_jump(count++, 0x55, 0);
     put(count++, code == 0x52 ? 0x53 : 0x51, 0, 0, 0);
     make_image(BIAS_TYPE_637);
@@ -204,18 +205,18 @@ static void load_once(void)
     printf("1\n");
 }
 
-/* Whether the row is timed. Its name is printed where names are asked for. */
-static int is_timed(const char *name)
+/* What to do with a row now: TIMES to time it, ONCE to do its calls once, ROWS for nothing more. Prints its name where
+ * names are asked for. */
+static purpose begin_row(const char *name)
 {
     if (asked == ROWS)
         printf("%s\n", name);
-    return asked == TIMES;
-}
-
-/* Whether the row is the one whose calls are done once. */
-static int is_wanted(const char *name)
-{
-    return asked == ONCE && strcmp(name, wanted_row) == 0;
+    if (asked != ONCE)
+        return asked;
+    if (strcmp(name, wanted_row) != 0)
+        return ROWS;
+    row_found = 1;
+    return ONCE;
 }
 
 /* The slowest group, and all groups together, for the goals. */
@@ -224,9 +225,10 @@ static double slowest_step, all_steps[SIDES];
 static void bench_steps(const char *name, const uint8_t *begin, uint32_t task)
 {
     double figures[SIDES];
-    if (is_wanted(name))
+    const purpose now_asked = begin_row(name);
+    if (now_asked == ONCE)
         step_once(begin, task);
-    if (!is_timed(name))
+    if (now_asked != TIMES)
         return;
     for (int at = 0; at < SIDES; at++)
         figures[at] = time_steps(&sides[at], begin, task);
@@ -395,9 +397,10 @@ static void bench_load(const char *name, void (*make)(void))
     make();
     make_image(BIAS_TYPE_637);
     load_begin(state);
-    if (is_wanted(name))
+    const purpose now_asked = begin_row(name);
+    if (now_asked == ONCE)
         load_once();
-    if (!is_timed(name))
+    if (now_asked != TIMES)
         return;
     for (int at = 0; at < SIDES; at++)
         figures[at] = time_load(&sides[at]);
@@ -566,29 +569,46 @@ static void print_goals(void)
     print_goal("at most 16 KiB of stack", deepest_stack <= GOAL_STACK);
 }
 
-int main(int argc, char **argv)
+static int wrong_usage(void)
 {
-    int at = 1;
-    if (argc == 2 && strcmp(argv[1], "--rows") == 0) {
-        asked = ROWS;
-        at = 2;
-    } else if (argc == 3 && strcmp(argv[1], "--once") == 0) {
-        asked = ONCE;
-        wanted_row = argv[2];
-        at = 3;
-    } else if (argc > 2 && strcmp(argv[1], "--rounds") == 0) {
-        rounds = atoi(argv[2]);
-        at = 3;
-    }
-    if (rounds < 1 || (argc != at && argc != at + 2)) {
-        fprintf(stderr, "usage: bench [--rounds N] [LIBRARY_ARCHIVE REFERENCE_ARCHIVE] | --rows | --once ROW\n");
-        return 2;
-    }
-    inputs[11] = 1;
+    fprintf(stderr, "usage: bench [--rounds N] [LIBRARY_ARCHIVE REFERENCE_ARCHIVE] | --rows | --once ROW\n");
+    return 2;
+}
+
+/* The rows' names, or the calls of one row. */
+static int do_rows(void)
+{
     bench_all_steps();
     bench_all_loads();
-    if (asked != TIMES)
-        return answers == UINT32_MAX ? 2 : 0;
+    if (asked == ONCE && !row_found) {
+        fprintf(stderr, "bench: no row '%s'\n", wanted_row);
+        return 2;
+    }
+    return answers == UINT32_MAX ? 2 : 0;
+}
+
+int main(int argc, char **argv)
+{
+    const char *option = argc > 1 && argv[1][0] == '-' ? argv[1] : "";
+    int at = 1;
+    inputs[11] = 1;
+    if (strcmp(option, "--rows") == 0) {
+        asked = ROWS;
+        return argc == 2 ? do_rows() : wrong_usage();
+    }
+    if (strcmp(option, "--once") == 0) {
+        asked = ONCE;
+        wanted_row = argv[2];
+        return argc == 3 ? do_rows() : wrong_usage();
+    }
+    if (strcmp(option, "--rounds") == 0) {
+        rounds = argc > 2 ? atoi(argv[2]) : 0;
+        at = 3;
+    }
+    if (rounds < 1 || (argc != at && argc != at + 2))
+        return wrong_usage();
+    bench_all_steps();
+    bench_all_loads();
     print_head("a write", "ns");
     bench_writes(14, "14 blocks");
     bench_writes(BIAS_MOST_BLOCKS, "1,500 blocks");

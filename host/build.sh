@@ -1,6 +1,7 @@
 #!/bin/sh
 # Builds the host programs with plain cc and rustc into target/host: example, bias-verdict, makefeed, diff, fuzz, bench,
-# trace, read_numbers, judge_images, bad_places, verdicts, and the reference as an archive of its own. A missing compiler is a failure.
+# trace, read_numbers, judge_images, bad_places, verdicts, and the reference as an archive of its own. A missing
+# compiler is a failure.
 # Usage: host/build.sh                proves the library and makes its archive first (rt staticlib bias)
 #        host/build.sh LIBRARY        with an archive that is there
 #        host/build.sh --stand-in     the reference under the library's names, to try the programs without a library

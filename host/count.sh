@@ -1,12 +1,19 @@
 #!/bin/sh
-# Instructions that a step and a load of the library take, for each row of host/bench: counted by callgrind, so they do
-# not vary from run to run. Needs host/build.sh to have run, and valgrind. Usage: host/count.sh [BENCH]
+# Instructions that a step and a load of the library take, for each row of host/bench: counted by callgrind, so that they
+# are the same in every run of the same archive. Needs host/build.sh to have run, and valgrind. Usage: host/count.sh [BENCH]
 set -eu
 bench=${1:-$(dirname "$0")/../target/host/bench}
 command -v valgrind >/dev/null || { echo "host/count.sh: no valgrind" >&2; exit 1; }
-"$bench" --rows | while read -r row; do
+said=$(mktemp)
+trap 'rm -f "$said"' EXIT
+rows=$("$bench" --rows)
+while read -r row; do
     calls=$("$bench" --once "$row")
-    counted=$(valgrind --tool=callgrind --callgrind-out-file=/dev/null --toggle-collect=bias_step --toggle-collect=bias_load \
-        "$bench" --once "$row" 2>&1 | sed -n 's/.*Collected : //p')
+    valgrind --tool=callgrind --callgrind-out-file=/dev/null --toggle-collect=bias_step --toggle-collect=bias_load \
+        "$bench" --once "$row" > "$said" 2>&1 || { cat "$said" >&2; exit 1; }
+    counted=$(sed -n 's/.*Collected : //p' "$said")
+    [ "${counted:-0}" -gt 0 ] || { echo "host/count.sh: nothing counted for '$row'" >&2; exit 1; }
     printf '%-44s %12d\n' "$row" "$((counted / calls))"
-done
+done <<END
+$rows
+END

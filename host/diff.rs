@@ -46,7 +46,7 @@ struct Options {
 fn usage() {
     println!("usage: diff [--seed S] [--steps N | --hours H] [--case K] [--random]");
     println!("Compares the library with the reference until N steps were done (default {DEFAULT_STEPS}), or for H hours.");
-    println!("--case K does the one case of that number; --random leaves document 01's own examples out.");
+    println!("--case K does the one case of that number; --random leaves the papers' own examples out.");
     println!("The default seed is {DEFAULT_SEED}.");
 }
 

@@ -1,5 +1,6 @@
-//! Document 01's own examples, A to L and the chains of calls, with the answers that it prints; two of change request 2;
-//! starts at the ends of each length of a number; and images cut at every length. Done on the library and on the reference alike.
+//! The papers' own examples, A to L and the chains of calls of document 01 with the answers that it prints and those of
+//! change request 2; starts at the ends of each length of a number; and images cut at every length. Done on the library
+//! and on the reference alike.
 
 use crate::case::{Action, Case};
 use crate::program;
@@ -26,7 +27,7 @@ const CASES: [Row; 14] = [
     ("I, accepted", "010200000002 720C010000000000 5500000000000000", [0, 0, 0, 0]),
     ("K, not shortest", "0102000000 8000 5500000000000000", [2, 5, 0, 0]),
     ("start FF 00", "01020000 FF00 01 5500000000000000", [2, 4, 0, 0]),
-    ("a lower block in a later task", "010200000003 5401000000000000 2000000000000000 5000000000000000", [9, 1, 1, 0]),
+    ("above, in a later task", "010200000003 5401000000000000 2000000000000000 5000000000000000", [9, 1, 1, 0]),
     (
         "one block in two tasks",
         "010200000004 5403000000000000 5203000000000000 5502000000000000 5000000000000000",

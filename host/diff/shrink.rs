@@ -3,6 +3,7 @@
 use crate::case::{Action, Case};
 use crate::tally::Tally;
 use reference::command::row;
+use reference::hex::digits_of;
 use reference::image::{self, Block, Header, Wanted};
 use reference::number::*;
 use reference::state::STATE_LENGTH;
@@ -282,8 +283,7 @@ fn written(header: &Header, blocks: &[u8]) -> Vec<u8> {
 
 /// Prints a case so that a person can do it by hand.
 pub fn print(case: &Case) {
-    let hex = |bytes: &[u8]| bytes.iter().map(|byte| format!("{byte:02X}")).collect::<String>();
-    println!("image, {} bytes: {}", case.image.len(), hex(&case.image));
+    println!("image, {} bytes: {}", case.image.len(), digits_of(&case.image));
     if let Ok((header, blocks)) = image::read(&case.image) {
         println!("{header:?}");
         for number in 0..header.count {
@@ -295,7 +295,7 @@ pub fn print(case: &Case) {
         print!("  step {number}: task {} start {} reached {}", action.task, action.start, action.reached);
         print_rest(action);
         if let Some(lent) = &action.lent {
-            print!(" lent {}", hex(lent));
+            print!(" lent {}", digits_of(lent));
         }
         println!();
     }

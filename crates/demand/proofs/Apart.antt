@@ -17,7 +17,7 @@ use Rattle.walk.specs.Program.{faultAt}
 use Rattle.walk.specs.Says.{BadAt, NoForeign, Says, Judges}
 use Rattle.walk.specs.Verdict.{verdictNumber}
 use Rattle.walk.specs.declared.Verdict.{Verdict}
-use Rattle.walk.specs.declared.Verdict.the-variants.{Bad}
+use Rattle.walk.specs.declared.Verdict.the-variants as verdict
 use Rattle.walk.proofs.Order.{block-first, then-task, then-depth}
 use Rattle.state.specs.State.{runs, taskAt}
 use Rattle.layout.specs.Decoded.{decoded}
@@ -126,14 +126,17 @@ module _ {image b : List ℕ} {x : Inputs} where
 
 -- ---- the place that is named when walks refuse: a bad one, with its number, and the first that a reader of the listing comes to
 
+abbrev pub Bad : List ℕ → Point → Type 0
+Bad image = BadAt (headerOf image .header) (blocksOf image)
+
 pub record Topmost (image : List ℕ) (v : BiasVerdict) : Type 0 where
   pub place : Point
-  pub bad : BadAt (headerOf image .header) (blocksOf image) place
-  pub named : v ≡ verdictFor (Bad (faultAt (headerOf image .header) (blocksOf image) place) place)
+  pub bad : Bad image place
+  pub named : v ≡ verdictFor (verdict.Bad (faultAt (headerOf image .header) (blocksOf image) place) place)
   -- no bad place is in a block above it; in its block none is of an earlier task, and of its task none is less deep
-  pub above : (q : Point) → BadAt (headerOf image .header) (blocksOf image) q → place .block ≤ q .block
-  pub earlier : (q : Point) → BadAt (headerOf image .header) (blocksOf image) q → place .block ≡ q .block → place .task ≤ q .task
-  pub shallower : (q : Point) → BadAt (headerOf image .header) (blocksOf image) q → place .block ≡ q .block → place .task ≡ q .task → place .depth ≤ q .depth
+  pub noneAbove : (q : Point) → Bad image q → place .block ≤ q .block
+  pub noneEarlier : (q : Point) → Bad image q → place .block ≡ q .block → place .task ≤ q .task
+  pub noneShallower : (q : Point) → Bad image q → place .block ≡ q .block → place .task ≡ q .task → place .depth ≤ q .depth
 
 -- ---- the whole, of an image of bytes and a load
 
@@ -196,9 +199,9 @@ module _ (d : Demand) (image : List ℕ) (n : ℕ) (b : List ℕ) where
           place = p;
           bad = q;
           named = refl;
-          above = λ o k. block-first p o (least o k);
-          earlier = λ o k. then-task p o (least o k);
-          shallower = λ o k. then-depth p o (least o k);
+          noneAbove = λ o k. block-first p o (least o k);
+          noneEarlier = λ o k. then-task p o (least o k);
+          noneShallower = λ o k. then-depth p o (least o k);
         }
 
     loads-topmost : {v : BiasVerdict} → Loads image n b v → (v .number ≡ 0 → ⊥) → Topmost image v

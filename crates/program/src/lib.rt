@@ -12,7 +12,7 @@ ghost use Rattle.walk.specs.Successors.{goes, successors, indices};
 ghost use Rattle.program.specs.Numbers.{numbers};
 
 // The blocks of an image at most, the tasks, and the depths that a task may have: the factors of a point's number.
-const BLOCKS: usize = reader::MOST_BLOCKS as usize;
+pub const BLOCKS: usize = reader::MOST_BLOCKS as usize;
 
 pub const TASKS: usize = flow::TASK_COUNT as usize;
 

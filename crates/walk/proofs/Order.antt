@@ -22,7 +22,7 @@ module _ {P : Type 0} (a b : ℕ) (rest : Bool) where
       let l = ltb-false a b (s .0) in
       by b a f (λ m. g (omega arith) (⊎-elim (λ n. absurd (let d = eqb-false a b n in omega arith)) (λ r. r) (not-both (eqb a b) rest (s .1))))
 
--- no point before p: none in a block above it, in its block none of an earlier task, and there none less deep
+-- q is not before p: its block is not above p's; in p's block its task is not earlier; and of p's task it is not less deep
 module _ (p q : Point) (e : before q p ≡ false) where
   pub block-first : p .block ≤ q .block
   block-first = by-false (q .block) (p .block) _ e (λ l. omega arith) (λ b r. omega arith)
