@@ -25,7 +25,8 @@
 #define GOAL_STACK 16384u
 
 enum { DEFAULT_ROUNDS = 5, STEPS_A_ROUND = 20000, WRITES_A_ROUND = 2000, MOST_ROW = 12, SIDES = 2 };
-enum { CIRCLE = 60, STEPS_ONCE = 10 * (CIRCLE + 1) }; /* blocks before a circle's jump back, and ten rounds of most circles */
+/* Blocks before a circle's jump back; ten rounds of most circles. */
+enum { CIRCLE = 60, STEPS_ONCE = 10 * (CIRCLE + 1) };
 
 typedef struct {
     const char *name;
