@@ -1,6 +1,6 @@
 //! Prints test images in which walks reach two or three bad places, or foreign 51s, in one line of the file or several, of
-//! one task or several, at several depths; crates/images/stdin ends with them. Change request 2 reports the least bad place by block, then task, then
-//! depth: the run fails if another order of the three would report the same place in every image.
+//! one task or several, at several depths; crates/images/stdin ends with them. Change request 2 reports the least bad place
+//! by block, then task, then depth: the run fails if another order of the three would report the same place in every image.
 
 use reference::answer::Place;
 use reference::drive::Drive;

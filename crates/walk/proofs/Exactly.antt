@@ -27,6 +27,31 @@ use Rattle.walk.proofs.IndexLaws.{point-back, index-back, in-order}
 use Rattle.walk.proofs.History.{inside, next-few, reached-within, reached-number, number-reached, number-inside}
 
 module _ (h : Header) (bs : List ℕ) (most : h .count ≤ mostBlocks) (begins : h .start < h .count) where
+  -- ---- an image has one verdict
+
+  same-point : (p q : Point) → Reaches h bs p → Reaches h bs q → before p q ≡ false → before q p ≡ false → p ≡ q
+  same-point p q r s a b =
+      let i = inside h bs most begins p (reached-within h bs most begins p r) in
+      let j = inside h bs most begins q (reached-within h bs most begins q s) in
+      let c = ltb-false (indexOf p) (indexOf q) (sym (in-order p q i j) ∙ a) in
+      let d = ltb-false (indexOf q) (indexOf p) (sym (in-order q p j i) ∙ b) in
+      let e : indexOf p ≡ indexOf q = omega arith in
+      sym (point-back p i) ∙ ap pointAt e ∙ point-back q j
+
+  pub one-verdict : (v w : Verdict) → Says h bs v → Says h bs w → v ≡ w
+  one-verdict _ _ (Says.accepted f b) (Says.accepted g d) = refl
+  one-verdict _ _ (Says.accepted f b) (Says.foreign p k l) = absurd (f p k)
+  one-verdict _ _ (Says.accepted f b) (Says.bad g p k l) = absurd (b p k)
+  one-verdict _ _ (Says.foreign p k l) (Says.accepted f b) = absurd (f p k)
+  one-verdict _ _ (Says.foreign p k l) (Says.foreign q m n) = ap verdict.Foreign (let a = l q m in let b = n p k in omega arith)
+  one-verdict _ _ (Says.foreign p k l) (Says.bad g q m n) = absurd (g p k)
+  one-verdict _ _ (Says.bad g p k l) (Says.accepted f b) = absurd (b p k)
+  one-verdict _ _ (Says.bad g p k l) (Says.foreign q m n) = absurd (g q m)
+  one-verdict _ _ (Says.bad g p k l) (Says.bad f q m n) =
+      ap (λ (o : Point). verdict.Bad (faultAt h bs o) o) (same-point p q (k .0) (m .0) (n p k) (l q m))
+
+  -- ---- the computed verdict is that one
+
   abbrev foreignTest : ℕ → Bool
   foreignTest i = isForeign (faultAt h bs (pointAt i))
 
@@ -137,29 +162,6 @@ module _ (h : Header) (bs : List ℕ) (most : h .count ≤ mostBlocks) (begins :
   pub verdict-says : Says h bs (walksVerdict h bs)
   unfolding walksVerdict
   verdict-says = says (reached h bs) exact
-
-  -- ---- an image has one verdict
-
-  same-point : (p q : Point) → Reaches h bs p → Reaches h bs q → before p q ≡ false → before q p ≡ false → p ≡ q
-  same-point p q r s a b =
-      let i = inside h bs most begins p (reached-within h bs most begins p r) in
-      let j = inside h bs most begins q (reached-within h bs most begins q s) in
-      let c = ltb-false (indexOf p) (indexOf q) (sym (in-order p q i j) ∙ a) in
-      let d = ltb-false (indexOf q) (indexOf p) (sym (in-order q p j i) ∙ b) in
-      let e : indexOf p ≡ indexOf q = omega arith in
-      sym (point-back p i) ∙ ap pointAt e ∙ point-back q j
-
-  pub one-verdict : (v w : Verdict) → Says h bs v → Says h bs w → v ≡ w
-  one-verdict _ _ (Says.accepted f b) (Says.accepted g d) = refl
-  one-verdict _ _ (Says.accepted f b) (Says.foreign p k l) = absurd (f p k)
-  one-verdict _ _ (Says.accepted f b) (Says.bad g p k l) = absurd (b p k)
-  one-verdict _ _ (Says.foreign p k l) (Says.accepted f b) = absurd (f p k)
-  one-verdict _ _ (Says.foreign p k l) (Says.foreign q m n) = ap verdict.Foreign (let a = l q m in let b = n p k in omega arith)
-  one-verdict _ _ (Says.foreign p k l) (Says.bad g q m n) = absurd (g p k)
-  one-verdict _ _ (Says.bad g p k l) (Says.accepted f b) = absurd (b p k)
-  one-verdict _ _ (Says.bad g p k l) (Says.foreign q m n) = absurd (g q m)
-  one-verdict _ _ (Says.bad g p k l) (Says.bad f q m n) =
-      ap (λ (o : Point). verdict.Bad (faultAt h bs o) o) (same-point p q (k .0) (m .0) (n p k) (l q m))
 
   -- a verdict says what walks do exactly when it is the computed one
   pub walks-exactly : (v : Verdict) → Says h bs v ↔ (v ≡ walksVerdict h bs)

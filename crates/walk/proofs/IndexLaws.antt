@@ -12,7 +12,11 @@ use Rattle.walk.proofs.Choice.{test}
 use Rattle.walk.proofs.Order.{by-true, by-false}
 use Rattle.walk.specs.Index.{depths, marksLength, Inside, indexOf, pointAt, before}
 
--- the number gives the point back, and the point the number
+-- the point gives the number back, and the number the point
+pub index-back : (i : ℕ) → indexOf (pointAt i) ≡ i
+unfolding indexOf pointAt
+index-back i = omega arith
+
 pub point-back : (p : Point) → Inside p → pointAt (indexOf p) ≡ p
 unfolding indexOf pointAt
 point-back p i =
@@ -23,10 +27,6 @@ point-back p i =
     let g : (p .block * taskCount + p .task) / taskCount ≡ p .block = omega arith in
     let k : (p .block * taskCount + p .task) % taskCount ≡ p .task = omega arith in
     rw (e, f, g, k)
-
-pub index-back : (i : ℕ) → indexOf (pointAt i) ≡ i
-unfolding indexOf pointAt
-index-back i = omega arith
 
 -- it is below the marks' length, and what is below has a point
 pub below-marks : (p : Point) → Inside p → indexOf p < marksLength
