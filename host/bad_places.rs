@@ -1,6 +1,8 @@
 //! Prints test images in which walks reach two or three bad places, or foreign 51s, in one line of the file or several, of
-//! one task or several, at several depths; crates/images/stdin ends with them. Change request 2 reports the least bad place
-//! by block, then task, then depth: the run fails if another order of the three would report the same place in every image.
+//! one task or several, at several depths; then those in which they reach one at the greatest depth; crates/images/stdin
+//! ends with them. Change request 2 reports the least bad place by block, then task, then depth: the run fails if another
+//! order of the three would report the same place in every image, or if 7, 9, 10 or 12 is not met at the greatest depth
+//! of every task.
 
 use reference::answer::Place;
 use reference::drive::Drive;
@@ -19,11 +21,24 @@ struct Spot {
     line: usize,
     task: usize,
     depth: usize,
-    foreign: bool,
+    fault: Fault,
+}
+
+/// What is wrong at a spot: whatever its line can have (9, 10 or 11, else 12), or one fault alone.
+#[derive(Clone, Copy)]
+enum Fault {
+    Any,
+    Foreign,
+    Forbidden,
+    PastEnd,
 }
 
 fn spot(line: usize, task: usize, depth: usize) -> Spot {
-    Spot { line, task, depth, foreign: false }
+    Spot { line, task, depth, fault: Fault::Any }
+}
+
+fn foreign(line: usize, task: usize, depth: usize) -> Spot {
+    Spot { fault: Fault::Foreign, ..spot(line, task, depth) }
 }
 
 /// Tried in this order: 52 is bad at the greatest depth, 53 at depth 0, 20 outside BIAS, each of the rest in one task.
@@ -37,12 +52,18 @@ fn last_code(spots: &[Spot]) -> u8 {
     if spots.len() == 3 { FORBIDDEN_CODES[spots[2].task] } else { 0x50 }
 }
 
-/// A command that is bad at all spots of a line, or a 51 that ends another task.
+/// A command that is bad at all spots of a line, or a 51 that ends another task; none where only the file's end is bad.
 fn faulty(spots: &[Spot]) -> Option<Block> {
     let first = spots.first()?;
-    if first.foreign {
-        return Some([0x51, 1 + (first.task as u8 + 1) % TASKS as u8, 0, 0, 0, 0, 0, 0]);
+    match first.fault {
+        Fault::Foreign => Some([0x51, 1 + (first.task as u8 + 1) % TASKS as u8, 0, 0, 0, 0, 0, 0]),
+        Fault::Forbidden => Some(to(FORBIDDEN_CODES[first.task], 0)),
+        Fault::PastEnd => None,
+        Fault::Any => bad_at_all(spots),
     }
+}
+
+fn bad_at_all(spots: &[Spot]) -> Option<Block> {
     // so long that nothing is past its end
     let long = Header { drive: Drive { kind: KIND, slot_b: 0, slot_c: 0 }, start: 0, count: MOST_BLOCKS };
     let at = |s: &Spot| Place { task: s.task, block: s.line, depth: s.depth };
@@ -148,9 +169,9 @@ fn all_spots() -> Vec<Vec<Spot>> {
                     all.push(vec![spot(0, a, d), spot(1, b, e)]);
                 }
             }
-            all.push(vec![spot(0, a, 0), Spot { foreign: true, ..spot(1, b, 0) }]);
+            all.push(vec![spot(0, a, 0), foreign(1, b, 0)]);
             if a != b {
-                all.push(vec![Spot { foreign: true, ..spot(0, a, 1) }, Spot { foreign: true, ..spot(1, b, 0) }]);
+                all.push(vec![foreign(0, a, 1), foreign(1, b, 0)]);
             }
         }
     }
@@ -169,12 +190,21 @@ fn all_spots() -> Vec<Vec<Spot>> {
     all
 }
 
-/// All images: faults from the top of the file on, and then on both sides of where a block's number takes a second byte.
+/// One spot at the greatest depth: 7, 9, 10, 12 in each task.
+fn deepest_spots() -> Vec<Vec<Spot>> {
+    let faults = [Fault::Foreign, Fault::Forbidden, Fault::Any, Fault::PastEnd];
+    let all = (0..TASKS).flat_map(|task| faults.map(|fault| Spot { fault, ..spot(0, task, MOST_DEPTH) }));
+    all.map(|spot| vec![spot]).collect()
+}
+
+/// All images: faults from the top of the file on; then on both sides of where a block's number takes a second byte; then at
+/// the greatest depth.
 fn all_made() -> Vec<Made> {
     let mut all: Vec<Made> = all_spots().iter().filter_map(|spots| made(spots, 0)).collect();
     for [above, below] in [[BIAS, PLC], [MATHEMATICS, BIAS]] {
         all.extend(made(&[spot(0, above, 0), spot(1, below, 0)], 255));
     }
+    all.extend(deepest_spots().iter().filter_map(|spots| made(spots, 0)));
     all
 }
 
@@ -212,6 +242,16 @@ fn tells(made: &Made, other: Key) -> bool {
     found.foreign.is_empty() && least(ASKED) != least(other)
 }
 
+/// Whether walks meet a number at the greatest depth of a task; a 7 where that is all that an image is made for.
+fn met_deepest(all: &[Made], number: u32, task: usize) -> bool {
+    let deepest = |place: &Place| place.task == task && place.depth == MOST_DEPTH;
+    all.iter().any(|made| {
+        let found = found(&made.image);
+        let bad = found.bad.iter().any(|(place, met)| *met == number && deepest(place));
+        bad || number == BAD_OPERAND && !found.foreign.is_empty() && made.places.iter().all(deepest)
+    })
+}
+
 fn main() -> ExitCode {
     let all = all_made();
     let mut good = true;
@@ -226,6 +266,12 @@ fn main() -> ExitCode {
         let count = all.iter().filter(|made| tells(made, other)).count();
         eprintln!("by {name}: {count} of {} images tell", all.len());
         good &= count > 0;
+    }
+    for number in [BAD_OPERAND, FORBIDDEN, TOO_DEEP, PAST_END] {
+        for task in (0..TASKS).filter(|task| !met_deepest(&all, number, *task)) {
+            eprintln!("{number} is not met at the greatest depth of task {task}");
+            good = false;
+        }
     }
     if good { ExitCode::SUCCESS } else { ExitCode::FAILURE }
 }

@@ -39,7 +39,7 @@ numbers() {
     grep '^number ' crates/vectors/stdout | cmp - "$out/numbers.out"
 }
 judged() { "$out/judge_images" < crates/images/stdin > "$out/images.out" && cmp "$out/images.out" crates/images/stdout; }
-several() { "$out/bad_places" > "$out/bad_places.out" && tail -n 178 crates/images/stdin | cmp - "$out/bad_places.out"; }
+several() { "$out/bad_places" > "$out/bad_places.out" && tail -n 190 crates/images/stdin | cmp - "$out/bad_places.out"; }
 traced() { "$out/trace" < "$manual/stdin" > "$out/trace.out" && cmp "$out/trace.out" "$manual/stdout"; }
 
 # What a verdict program prints and how it ends: says STATUS LINE COMMAND..; an empty LINE is for nothing. Messages go to $out/err.

@@ -14,8 +14,8 @@ enum { TASKS = 3, TEXT_ROOM = 96, CHANGES_ROOM = 512, DEFAULT_CYCLES = 3000, EXI
 /* Where a trace finds the rest of the state (docs/STATE.md). Firmware has no need of these: they may move. */
 enum {
     AT_HEADER = 1536, AT_POSITION = 1544, AT_SPEED = 1548, AT_ACCELERATION = 1550, AT_DECELERATION = 1552,
-    AT_START_MARK = 1554, AT_TASKS = 1560, TASK_LENGTH = 28, IN_TASK_DEPTH = 1, IN_TASK_BLOCK = 2, IN_TASK_TIME = 20,
-    STATUS_RUNNING = 1
+    AT_START_MARK = 1554, AT_TASKS = 1560, IN_TASK_DEPTH = 1, IN_TASK_BLOCK = 2, IN_TASK_STACK = 4,
+    IN_TASK_TIME = IN_TASK_STACK + 2 * BIAS_MOST_DEPTH, TASK_LENGTH = IN_TASK_TIME + 8, STATUS_RUNNING = 1
 };
 
 /* A motor turn has 16384 increments (the manual's high resolver resolution). */

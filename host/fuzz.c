@@ -191,13 +191,14 @@ static int same_verdicts(bias_verdict a, bias_verdict b)
 static void check_load(bias_verdict verdict)
 {
     check(verdict.number <= BIAS_MARKS_SHORT || verdict.number == BIAS_NO_STATE, "load: no such number");
+    check((verdict.number == BIAS_MARKS_SHORT) == (marks.length < BIAS_MARKS_LENGTH), "load: 13 by another length");
     if (verdict.number == BIAS_SUCCESS)
         check(verdict.place == 0 && verdict.task == 0 && verdict.depth == 0, "load: success with a place");
     else
         check(memcmp(state_region.bytes, state.bytes, state.length) == 0, "load: refused, and the state was written");
     if (marks.length > BIAS_MARKS_LENGTH)
         check(memcmp(marks_region.bytes + BIAS_MARKS_LENGTH, marks.bytes + BIAS_MARKS_LENGTH,
-                     marks.length - BIAS_MARKS_LENGTH) == 0, "load: marks past 40,500 were written");
+                     marks.length - BIAS_MARKS_LENGTH) == 0, "load: marks past BIAS_MARKS_LENGTH were written");
     check(verdict.number < BIAS_FORBIDDEN || verdict.number > BIAS_PAST_END
           || (verdict.task < TASKS && verdict.depth <= BIAS_MOST_DEPTH), "load: no such place");
 }

@@ -160,7 +160,7 @@ const char *listing_refusal(uint32_t number)
         "an operand is out of range, or the 51 would end another task than its own",
         "a byte that the command does not use is not 0",
         "the command is not allowed in this task",
-        "a call inside 8 calls",
+        "a call inside 5 calls",
         "a return that can be reached without a call",
         "the program can run past its last block here",
         "the marks buffer is too short",

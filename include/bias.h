@@ -21,11 +21,14 @@
  *     the program that was judged: 17 is no checksum.
  *   - Nobody but the library writes a state buffer. 16 refuses what is no state; it is no checksum either. A copy of the
  *     buffer, byte for byte, is the same state.
+ *   - A state buffer belongs to the release of the library that loaded it, and does not tell which: after an upgrade
+ *     load anew, which begins the program from its start. 16 refuses many buffers of another release, but not all; one
+ *     that passes may be read as another state. A program that an earlier release loaded may be refused.
  *
  * WHAT YOU LEND
  *   image   the program's bytes; only read. One of more than 12,008 bytes is always refused
- *   marks   BIAS_MARKS_LENGTH (40,500) bytes or more, during bias_load only; its content needs no clearing, and is
- *           anything afterwards; the library leaves bytes behind the first 40,500 alone
+ *   marks   BIAS_MARKS_LENGTH (27,000) bytes or more, during bias_load only; its content needs no clearing, and is
+ *           anything afterwards; the library leaves bytes behind the first 27,000 alone
  *   state   BIAS_STATE_LENGTH (2,048) bytes exactly, one buffer for each program that runs
  *   inputs  BIAS_INPUTS_LENGTH (256) bytes exactly, during bias_step only; only read
  * Besides, a step uses about 8 KiB of stack and a load or a write under 1 KiB, as measured on x86-64 (docs/BENCH.md).
@@ -51,18 +54,18 @@ extern "C" {
 #endif
 
 /* Lengths of lent buffers, in bytes. */
-#define BIAS_MARKS_LENGTH 40500u
+#define BIAS_MARKS_LENGTH 27000u
 #define BIAS_STATE_LENGTH 2048u
 #define BIAS_INPUTS_LENGTH 256u
 
 /* Limits of a program. */
 #define BIAS_BLOCK_LENGTH 8u        /* a command code and seven operand bytes */
 #define BIAS_MOST_BLOCKS 1500u
-#define BIAS_MOST_DEPTH 8u          /* calls (52) that a task may be inside of */
+#define BIAS_MOST_DEPTH 5u          /* calls (52) that a task may be inside of */
 #define BIAS_MOST_IMAGE_LENGTH 12008u /* header of 4 + 2 + 2 bytes, 1500 blocks; room enough for any bias_write */
 #define BIAS_FORMAT 1u
 
-/* What firmware may read in a state buffer; the bytes behind them may move with a later format. */
+/* What firmware may read in a state buffer; the bytes behind them may move with any release. */
 #define BIAS_STATE_VARIABLES 0u     /* 256 variables, four bytes each, low byte first, signed */
 #define BIAS_STATE_FLAGS 1024u      /* 256 flags, a byte each, 0 or 1 */
 #define BIAS_STATE_OUTPUTS 1280u    /* 256 output levels, a byte for each pin number, 0 or 1 */
@@ -114,11 +117,11 @@ enum {
     BIAS_BAD_OPERAND = 7,             /* another operand out of range, or a 51 that would end another task: block */
     BIAS_UNUSED_NOT_ZERO = 8,         /* a byte that the command does not use is not 0: block */
     BIAS_FORBIDDEN = 9,               /* a command not allowed in the task that can reach it: block, task, depth */
-    BIAS_TOO_DEEP = 10,               /* a call at depth 8: block, task, depth */
+    BIAS_TOO_DEEP = 10,               /* a call at depth 5: block, task, depth */
     BIAS_NO_CALL = 11,                /* a return that some way reaches without a call: block, task, depth */
     BIAS_PAST_END = 12,               /* the program can run past its end: block, task, depth */
     /* lent lengths */
-    BIAS_MARKS_SHORT = 13,            /* bias_load: marks under 40,500 bytes: their length */
+    BIAS_MARKS_SHORT = 13,            /* bias_load: marks under 27,000 bytes: their length */
     BIAS_ROOM_SHORT = 14,             /* bias_write: no room for the image: the length needed */
     BIAS_BAD_INPUTS = 15,             /* bias_step: no such task: its number; or not 256 inputs: their length */
     BIAS_NO_STATE = 16,               /* the state has another length than 2,048, or, in bias_step, is no state: none */

@@ -157,7 +157,7 @@ impl Case {
         same("load, task", ours.task, theirs.task)?;
         same("load, depth", ours.depth, theirs.depth)?;
         same_bytes("state after the load", library.seen(), &state)?;
-        held("marks past 40,500 were written", marks.seen().iter().skip(MARKS_LENGTH).all(|byte| *byte == self.fill))?;
+        held("marks past MARKS_LENGTH were written", marks.seen().iter().skip(MARKS_LENGTH).all(|byte| *byte == self.fill))?;
         held("wrote outside marks", marks.intact())?;
         held("wrote outside the state", library.intact())?;
         Ok(Sides { image, library, reference: Player { state } })

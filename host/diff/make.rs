@@ -5,7 +5,9 @@ use crate::program;
 use crate::random::Random;
 use reference::image;
 use reference::number::*;
-use reference::state::{State, RUNNING, STATE_LENGTH};
+use reference::state::{
+    record, State, BLOCK, DEPTH, PATH, RECORD_LENGTH, RUNNING, STATE_LENGTH, STATUS, TIME, TURNS, UNUSED,
+};
 
 /// A case. Its steps are drawn while the reference does them, so that most are for tasks that run.
 pub fn case(random: &mut Random) -> Case {
@@ -127,10 +129,10 @@ impl Drawing<'_> {
         let task = (task as usize).min(TASKS - 1);
         let start = State::of(&mut self.player.state).map_or(0, |state| state.start(task));
         let block = if self.random.chance(70) { start as usize } else { self.random.below(self.count) };
-        let record = RECORDS + RECORD_LENGTH * task;
-        bytes.extend((record..record + RECORD_LENGTH).map(|at| (at, 0)));
-        bytes.push((record, RUNNING));
-        put(&mut bytes, record + 2, 2, block as u32);
+        let at = record(task);
+        bytes.extend((at..at + RECORD_LENGTH).map(|at| (at, 0)));
+        bytes.push((at + STATUS, RUNNING));
+        put(&mut bytes, at + BLOCK, 2, block as u32);
         bytes
     }
 
@@ -151,10 +153,8 @@ impl Drawing<'_> {
 /// Where the fields of a state stand (docs/STATE.md), and how many bytes each has.
 const FIELDS: [(usize, usize); 16] = [
     (1536, 1), (1537, 1), (1538, 1), (1539, 1), (1540, 2), (1542, 2), (1544, 4), (1548, 2), (1550, 2), (1552, 2),
-    (1554, 1), (1555, 1), (1556, 2), (1558, 2), (1644, 1), (2047, 1),
+    (1554, 1), (1555, 1), (1556, 2), (1558, 2), (UNUSED, 1), (STATE_LENGTH - 1, 1),
 ];
-const RECORDS: usize = 1560;
-const RECORD_LENGTH: usize = 28;
 
 /// What somebody else might write: one to three fields, mostly near the ends of their ranges.
 fn pokes(random: &mut Random, count: usize) -> Vec<(usize, u8)> {
@@ -195,36 +195,42 @@ fn field_value(random: &mut Random, count: usize) -> u32 {
 
 /// Status, depth, block and return entries of a task.
 fn poke_task(random: &mut Random, count: usize, bytes: &mut Vec<(usize, u8)>) {
-    let record = RECORDS + RECORD_LENGTH * random.below(TASKS);
+    let at = record(random.below(TASKS));
     let inside = random.below(count) as u32;
     let block = if random.chance(85) { inside } else { field_value(random, count) };
     match random.below(5) {
-        0 => bytes.push((record, random.pick(&[0, 1, 1, 2, 3, 4, 255]))),
+        0 => bytes.push((at + STATUS, random.pick(&[0, 1, 1, 2, 3, 4, 255]))),
         1..=2 => {
-            bytes.push((record, 1));
-            put(bytes, record + 2, 2, block);
+            bytes.push((at + STATUS, RUNNING));
+            put(bytes, at + BLOCK, 2, block);
         }
         3 => {
-            let depth = random.pick(&[0, 1, 2, 3, 4, 5, 6, 7, 8, 8, 9, 255]);
-            bytes.push((record + 1, depth));
-            for entry in 0..(depth as usize).min(MOST_DEPTH) {
-                put(bytes, record + 4 + 2 * entry, 2, block);
-            }
-            for entry in (depth as usize).min(MOST_DEPTH)..MOST_DEPTH {
-                put(bytes, record + 4 + 2 * entry, 2, 0);
+            let depth = depth_value(random);
+            bytes.push((at + DEPTH, depth as u8));
+            for entry in 0..MOST_DEPTH {
+                put(bytes, at + PATH + 2 * entry, 2, if entry < depth { block } else { 0 });
             }
         }
-        _ => put(bytes, record + 4 + 2 * random.below(MOST_DEPTH), 2, block),
+        _ => put(bytes, at + PATH + 2 * random.below(MOST_DEPTH), 2, block),
+    }
+}
+
+/// A depth that is permitted, often the greatest, or one that is not, often the least such.
+fn depth_value(random: &mut Random) -> usize {
+    match random.below(6) {
+        0 => MOST_DEPTH,
+        1 => random.pick(&[MOST_DEPTH + 1, MOST_DEPTH + 1, 255]),
+        _ => random.below(MOST_DEPTH),
     }
 }
 
 /// A pending wait near its end, by either cycle length, or out of range.
 fn poke_wait(random: &mut Random, bytes: &mut Vec<(usize, u8)>) {
-    let record = RECORDS + RECORD_LENGTH * if random.chance(80) { BIAS } else { random.below(TASKS) };
+    let at = record(if random.chance(80) { BIAS } else { random.below(TASKS) });
     let time = random.pick(&[0, 1, 2, 3, 1000, 1899, 844, 65535, 65536, MOST_WAIT, MOST_WAIT + 1, u32::MAX]);
     let cycle = random.pick(&[1899, 844]);
     let due = (1000 * time as u64).div_ceil(cycle) as u32;
     let turns = random.pick(&[0, 1, due.wrapping_sub(2), due.wrapping_sub(1), due, due.wrapping_add(1), u32::MAX]);
-    put(bytes, record + 20, 4, time);
-    put(bytes, record + 24, 4, turns);
+    put(bytes, at + TIME, 4, time);
+    put(bytes, at + TURNS, 4, turns);
 }

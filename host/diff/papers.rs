@@ -1,6 +1,6 @@
-//! The papers' own examples, A to L and the chains of calls of document 01 with the answers that it prints and those of
-//! change request 2; starts at the ends of each length of a number; and images cut at every length. Done on the library
-//! and on the reference alike.
+//! The papers' own examples: A to L and the chains of calls of document 01 with its answers, or those of change request 6
+//! where it changes them; those of change requests 2 and 6; starts at the ends of each length of a number; and images cut
+//! at every length. Done on the library and on the reference alike.
 
 use crate::case::{Action, Case};
 use crate::program;
@@ -8,7 +8,7 @@ use crate::random::Random;
 use crate::tally::Tally;
 use reference::hex::bytes_of;
 use reference::number::*;
-use reference::state::{State, STATE_LENGTH};
+use reference::state::{record, State, DEPTH, PATH, STATE_LENGTH};
 use reference::Verdict;
 
 /// Name, image in hexadecimal, and number, place, task, depth.
@@ -18,7 +18,7 @@ const CASES: [Row; 14] = [
     ("A", "010200000001 5500000000000000", [0, 0, 0, 0]),
     ("B", "010200000001 5000000000000000", [12, 0, 0, 0]),
     ("C", "010200000101 5500000000000000", [3, 4, 0, 0]),
-    ("D", "010200000002 5200000000000000 5300000000000000", [10, 0, 0, 8]),
+    ("D", "010200000002 5200000000000000 5300000000000000", [10, 0, 0, 5]),
     ("E", "010200000204 5000000000000000 5300000000000000 5200000000000000 5500000000000000", [11, 1, 0, 0]),
     ("F", "010200000003 2010270000000000 5400000000000000 5500000000000000", [9, 0, 1, 0]),
     ("G", "010200000002 1F0100FA00000000 5500000000000000", [0, 0, 0, 0]),
@@ -47,6 +47,12 @@ const STARTS: [(&str, usize, [u64; 4]); 7] = [
     ("FF7F FF7F", 16383, [3, 6, 0, 0]),
 ];
 
+/// Bytes of marks, and number and place of case A's load with them (change request 6). Too many are fine.
+const MARKS: [(usize, [u64; 2]); 4] = [(26_999, [13, 26_999]), (27_000, [0, 0]), (27_001, [0, 0]), (40_500, [0, 0])];
+
+/// Depth of BIAS, which of its return entries is block 1 (the others 0), and the number of its step (change request 6).
+const DEPTHS: [(u8, usize, u32); 5] = [(5, 4, 0), (6, 4, 16), (255, 4, 16), (4, 3, 0), (4, 4, 16)];
+
 fn case(image: Vec<u8>, actions: Vec<Action>) -> Case {
     Case { image, marks_len: MARKS_LENGTH, state_len: STATE_LENGTH, fill: 0x5A, actions }
 }
@@ -70,8 +76,10 @@ pub fn check(tally: &mut Tally) -> Result<(), String> {
         expect(&format!("start and count {numbers}"), jumps(numbers, count), wanted, tally)?;
     }
     expect("K, 1500 blocks", longest(), [0; 4], tally)?;
-    expect("8 nested calls", nested(8), [0; 4], tally)?;
-    expect("9 nested calls", nested(9), [10, 8, 0, 8], tally)?;
+    expect("5 nested calls", nested(5), [0; 4], tally)?;
+    expect("6 nested calls", nested(6), [10, 5, 0, 5], tally)?;
+    marks_needed(tally)?;
+    depths(tally)?;
     wait_ends("J, type 2", "02", 527, tally)?;
     wait_ends("J, type 4", "04", 1185, tally)?;
     quotient(tally)?;
@@ -100,6 +108,42 @@ fn nested(calls: u8) -> Vec<u8> {
     }
     image.extend([0x55, calls, 0, 0, 0, 0, 0, 0]);
     image
+}
+
+/// 13 asks for 27,000 bytes.
+fn marks_needed(tally: &mut Tally) -> Result<(), String> {
+    for (marks_len, wanted) in MARKS {
+        let image = bytes_of(CASES[0].1);
+        let verdict = reference::load(&image, &mut vec![0; marks_len], &mut vec![0; STATE_LENGTH]);
+        if [verdict.number as u64, verdict.place] != wanted {
+            return Err(format!("{marks_len} bytes of marks: the reference says {}, {}", verdict.number, verdict.place));
+        }
+        let lent = Case { marks_len, ..case(image, Vec::new()) };
+        lent.run(tally).map_err(|difference| format!("{marks_len} bytes of marks: {}", difference.what))?;
+    }
+    Ok(())
+}
+
+/// A state may be 5 deep; its return entries past the depth are 0.
+fn depths(tally: &mut Tally) -> Result<(), String> {
+    let image = bytes_of("010200000002 5000000000000000 5500000000000000");
+    let given = reference::engine::Given { inputs: &[0; INPUTS_LENGTH], start: 0, reached: 0 };
+    for (depth, entry, wanted) in DEPTHS {
+        let pokes = vec![(record(BIAS) + DEPTH, depth), (record(BIAS) + PATH + 2 * entry, 1)];
+        let mut state = vec![0; STATE_LENGTH];
+        reference::load(&image, &mut vec![0; MARKS_LENGTH], &mut state);
+        for (at, byte) in &pokes {
+            state[*at] = *byte;
+        }
+        let got = reference::step(&image, &mut state, 0, given).number;
+        if got != wanted {
+            return Err(format!("a state of depth {depth}, entry {entry}: the reference says {got}"));
+        }
+        let step = Action { pokes, ..Action::plain(0) };
+        let both = case(image.clone(), vec![step]).run(tally);
+        both.map_err(|difference| format!("a state of depth {depth}, entry {entry}: {}", difference.what))?;
+    }
+    Ok(())
 }
 
 /// A wait of 1000 ms passes at this k and not before.

@@ -6,14 +6,10 @@ use reference::command::row;
 use reference::hex::digits_of;
 use reference::image::{self, Block, Header, Wanted};
 use reference::number::*;
-use reference::state::STATE_LENGTH;
+use reference::state::{record, BLOCK, STARTS, STATE_LENGTH, TIME};
 
 /// How many cases a search for a smaller one may try.
 const TRIES: usize = 60_000;
-
-/// Where start blocks and task records stand in a state (docs/STATE.md).
-const STARTS: usize = 1556;
-const RECORDS: usize = 1560;
 
 struct Shrinking {
     best: Case,
@@ -234,7 +230,7 @@ fn without_blocks(case: &Case, at: usize, stretch: usize) -> Option<Case> {
 /// Whether a state's byte is the low one of a block number: start blocks, then a task's block and return entries.
 fn is_block_field(at: usize) -> bool {
     let within = |first: usize, behind: usize| (first..behind).contains(&at) && (at - first) % 2 == 0;
-    within(STARTS, RECORDS) || (0..TASKS).any(|task| within(RECORDS + 28 * task + 2, RECORDS + 28 * task + 20))
+    within(STARTS, record(BIAS)) || (0..TASKS).any(|task| within(record(task) + BLOCK, record(task) + TIME))
 }
 
 fn move_pokes(pokes: &mut [(usize, u8)], moved: &dyn Fn(usize) -> usize) {

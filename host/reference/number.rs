@@ -8,9 +8,9 @@ pub const MOST_BLOCKS: usize = 1500;
 pub const BLOCK_LENGTH: usize = 8;
 /// "BIAS, PLC, mathematics".
 pub const TASKS: usize = 3;
-/// "depth (0 to 8)": the longest return path.
-pub const MOST_DEPTH: usize = 8;
-/// A mark for each place: task, block, depth. 40,500 of them (13).
+/// Change request 6, "Make 5 the limit": the longest return path, and the greatest depth of a place.
+pub const MOST_DEPTH: usize = 5;
+/// A mark for each place: task, block, depth. "the marks need 27,000 bytes" (13).
 pub const MARKS_LENGTH: usize = TASKS * MOST_BLOCKS * (MOST_DEPTH + 1);
 /// "256 input levels, one byte for each pin number".
 pub const INPUTS_LENGTH: usize = 256;

@@ -20,18 +20,18 @@ const ACCELERATION: usize = 1550;
 const DECELERATION: usize = 1552;
 const START_MARK: usize = 1554;
 const START_LEVEL: usize = 1555;
-const STARTS: usize = 1556;
+pub const STARTS: usize = 1556;
 const RECORDS: usize = 1560;
-const RECORD_LENGTH: usize = 28;
-const UNUSED: usize = RECORDS + TASKS * RECORD_LENGTH;
+pub const UNUSED: usize = RECORDS + TASKS * RECORD_LENGTH;
 
-/// Where things stand in a task's record.
-const STATUS: usize = 0;
-const DEPTH: usize = 1;
-const BLOCK: usize = 2;
-const PATH: usize = 4;
-const TIME: usize = 20;
-const TURNS: usize = 24;
+/// Where things stand in a task's record, and its length; the return path has two bytes for each depth.
+pub const STATUS: usize = 0;
+pub const DEPTH: usize = 1;
+pub const BLOCK: usize = 2;
+pub const PATH: usize = 4;
+pub const TIME: usize = PATH + 2 * MOST_DEPTH;
+pub const TURNS: usize = TIME + 4;
+pub const RECORD_LENGTH: usize = TURNS + 4;
 
 /// A task's status.
 pub const NEVER_STARTED: u8 = 0;
@@ -69,7 +69,8 @@ fn long(bytes: &[u8; STATE_LENGTH], at: usize) -> u32 {
     u32::from_le_bytes([bytes[at], bytes[at + 1], bytes[at + 2], bytes[at + 3]])
 }
 
-fn record(task: usize) -> usize {
+/// Where a task's record stands.
+pub fn record(task: usize) -> usize {
     RECORDS + task * RECORD_LENGTH
 }
 
@@ -105,8 +106,8 @@ fn values_good(bytes: &[u8; STATE_LENGTH], header: &Header) -> bool {
         && (word(bytes, STARTS + 2) as usize) < header.count
 }
 
-/// "pointer, start or return block not below the count, depth above 8, ... task status out of range", return entries
-/// past the depth not 0; the same for every task, whatever its status (ruling 16).
+/// "pointer, start or return block not below the count, depth above" the limit, "... task status out of range", return
+/// entries past the depth not 0; the same for every task, whatever its status (ruling 16).
 fn task_good(bytes: &[u8; STATE_LENGTH], header: &Header, task: usize) -> bool {
     let at = record(task);
     let depth = bytes[at + DEPTH] as usize;

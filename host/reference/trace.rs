@@ -6,17 +6,12 @@ use reference::engine::Given;
 use reference::hex::bytes_of;
 use reference::image;
 use reference::number::*;
-use reference::state::{State, RUNNING, STATE_LENGTH};
+use reference::state::{self, State, RUNNING, STATE_LENGTH};
 use std::fmt::Write as _;
 use std::io::{self, BufRead, Write as _};
 
 /// Bytes of a record.
 const RECORD_LENGTH: usize = 8;
-
-/// Where a task's status and block stand (docs/STATE.md), for a buffer that is no state too.
-const TASK_RECORDS: usize = 1560;
-const TASK_RECORD_LENGTH: usize = 28;
-const BLOCK: usize = 2;
 
 /// One step of an example, to be done `times` times.
 struct Step {
@@ -90,19 +85,20 @@ fn traced(image: &[u8], state: &mut [u8], step: &Step, out: &mut String) {
     let _ = writeln!(out, "task {}{head} : {changes} : {} : {}", step.task, request(&answer), place(&answer));
 }
 
-/// The block that the task's record names if its status says that it runs; bytes past the image's blocks are shown as 0.
-fn fetched(image: &[u8], state: &[u8], task: u32) -> String {
+/// The block that the task's record names if its status says that it runs, in a buffer that is no state too; bytes past
+/// the image's blocks are shown as 0.
+fn fetched(image: &[u8], bytes: &[u8], task: u32) -> String {
     let task = task as usize;
-    let record = TASK_RECORDS + TASK_RECORD_LENGTH * task;
-    if task >= TASKS || state[record] != RUNNING {
+    let record = state::record(task);
+    if task >= TASKS || bytes[record + state::STATUS] != RUNNING {
         return String::new();
     }
     let Ok((_, blocks)) = image::read(image) else {
         return String::new();
     };
-    let at = u16::from_le_bytes([state[record + BLOCK], state[record + BLOCK + 1]]) as usize;
-    let bytes = blocks.iter().skip(BLOCK_LENGTH * at).chain(&[0; BLOCK_LENGTH]).take(BLOCK_LENGTH);
-    let digits: Vec<String> = bytes.map(|byte| format!("{byte:02X}")).collect();
+    let at = u16::from_le_bytes([bytes[record + state::BLOCK], bytes[record + state::BLOCK + 1]]) as usize;
+    let block = blocks.iter().skip(BLOCK_LENGTH * at).chain(&[0; BLOCK_LENGTH]).take(BLOCK_LENGTH);
+    let digits: Vec<String> = block.map(|byte| format!("{byte:02X}")).collect();
     format!(" block {at} code {}", digits.join(" "))
 }
 

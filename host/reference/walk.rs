@@ -11,8 +11,8 @@ pub fn foreign(block: &Block, task: usize) -> bool {
     block[0] == 0x51 && block[1] != 0 && block[1] as usize != task + 1
 }
 
-/// 0, or what a place breaks: "9 command forbidden to the task; 10 52 at depth 8; 11 53 at depth 0; 12 a block it may
-/// continue with is past the end". The block has passed 5 to 8 and is no foreign 51.
+/// 0, or what a place breaks: "9 command forbidden to the task"; "10 is a call at depth 5" (change request 6); "11 53 at
+/// depth 0; 12 a block it may continue with is past the end". The block has passed 5 to 8 and is no foreign 51.
 pub fn bad(header: &Header, block: &Block, place: Place) -> u32 {
     let Some(row) = row(block[0]) else {
         return BAD_CODE;
@@ -59,7 +59,7 @@ pub fn judge(header: &Header, blocks: &[u8], marks: &mut [u8]) -> Verdict {
     }
 }
 
-/// Everything refused that walks reach. Only the first 40,500 marks are touched.
+/// Everything refused that walks reach. Only the first `MARKS_LENGTH` marks are touched.
 pub fn search(header: &Header, blocks: &[u8], marks: &mut [u8]) -> Found {
     let marks = &mut marks[..MARKS_LENGTH];
     marks.fill(0);

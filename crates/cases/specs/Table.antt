@@ -46,6 +46,7 @@ pub data Name : Type 0 where
   K : Name
   L : Name
   chainOf : ℕ → Name
+  marksOf : ℕ → Name
   blockBeforeTask : Name
   taskBeforeDepth : Name
   heldStart : Name
@@ -56,6 +57,8 @@ pub data Name : Type 0 where
 pub data Question : Type 0 where
   -- the verdict on an image, with marks of exactly the length that 13 asks for
   verdict : List ℕ → Question
+  -- the verdict on case A with so many bytes of marks
+  lent : ℕ → Question
   -- the number at place 0 of these bytes
   number : List ℕ → Question
   -- where BIAS stands before and after its step k of an image, the first being step 0
@@ -119,6 +122,7 @@ motionsOf = map (λ (o : Out). o .motion)
 
 abbrev pub ask : Question → Answer
 ask (verdict bytes) = answerOf (verdictOf bytes marksLength)
+ask (lent n) = answerOf (verdictOf (image (blockA ∷ [])) n)
 ask (number bytes) = valueOf (numberAt bytes 0)
 ask (passes bytes k) = standings bytes (stateAfter bytes (loaded bytes) (replicate k (biasStep 0)))
 ask (divided a b) = whole (resultOf (command (hex 8 5) 0 1 0 0 b) a b)
@@ -154,8 +158,8 @@ table =
     row B (verdict (image (plain (hex 5 0) ∷ []))) (refusal 12 0 0 0) ∷
     -- C: A with start 1: 3 at byte 4
     row C (verdict (imageAt 1 (blockA ∷ []))) (refusal 3 4 0 0) ∷
-    -- D: 52, 53, operands 00: 10 at block 0, depth 8
-    row D (verdict (image (plain (hex 5 2) ∷ plain (hex 5 3) ∷ []))) (refusal 10 0 0 8) ∷
+    -- D: 52, 53, operands 00: 10 at block 0, at the greatest depth, which is 5 (change request 6)
+    row D (verdict (image (plain (hex 5 2) ∷ plain (hex 5 3) ∷ []))) (refusal 10 0 0 5) ∷
     -- E: 50, 53, 52, 55, operands 00, start 2: 11 at block 1, depth 0
     row E (verdict (imageAt 2 (plain (hex 5 0) ∷ plain (hex 5 3) ∷ plain (hex 5 2) ∷ plain (hex 5 5) ∷ []))) (refusal 11 1 0 0) ∷
     -- F: 20 10 27 00 00 00 00 00, then 54, 55 with operands 00: 9 at task 1, block 0
@@ -182,10 +186,14 @@ table =
     -- L: -7 by 2 is -3
     row L (divided (negsuc 6) (pos 2)) (whole (negsuc 2)) ∷
     row L (dividedBy (negsuc 6) (pos 2)) (whole (negsuc 2)) ∷
-    -- a chain of 8 nested calls: accepted
-    row (chainOf 8) (verdict (chain 8)) accepted ∷
-    -- of 9: 10, at the ninth call: block 16, depth 8
-    row (chainOf 9) (verdict (chain 9)) (refusal 10 16 0 8) ∷
+    -- change request 6, a chain of 5 nested calls: accepted
+    row (chainOf 5) (verdict (chain 5)) accepted ∷
+    -- of 6: 10, at the sixth call: block 10, depth 5
+    row (chainOf 6) (verdict (chain 6)) (refusal 10 10 0 5) ∷
+    -- change request 6, one byte of marks under 27,000: 13, which tells their length
+    row (marksOf 26999) (lent 26999) (refusal 13 26999 0 0) ∷
+    -- 27,000 are enough
+    row (marksOf 27000) (lent 27000) accepted ∷
     -- change request 2, 54 01, 20, 50: the PLC's 9 at block 1 comes before the 12 of BIAS at block 2
     row blockBeforeTask (verdict (image (toward (hex 5 4) 1 ∷ plain (hex 2 0) ∷ plain (hex 5 0) ∷ []))) (refusal 9 1 1 0) ∷
     -- change request 2, 54 03, 52 03, 55 02, 50: at block 3 the 12 of BIAS at depth 1 comes before the PLC's at depth 0

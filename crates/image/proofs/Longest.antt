@@ -14,7 +14,7 @@ use Rattle.outcome.specs.Outcome.{done}
 use Rattle.number.specs.Number.{secondByte, firstByte, numberAt}
 use Rattle.number.specs.declared.Number.{Number}
 use Rattle.number.specs.declared.Number as number
-use Rattle.image.specs.Scan.{Source, fromImage, scan, headerOf, rowCount}
+use Rattle.image.specs.Scan.{Source, fromImage, scan, headerOf, rowCount, blockLength}
 use Rattle.image.specs.Longest.{greatest, sizeUpTo, longestHeader, longestImage}
 use Rattle.image.specs.declared.Header.{Header}
 use Rattle.image.proofs.Accepted.{place, value, Accepted, accepted-header}
@@ -85,7 +85,7 @@ module _ (n : ℕ) (source : Source) (sized : (row at : ℕ) → Sized at (sourc
       omega arith
 
   -- with the blocks behind them
-  pub image-end : place n source rowCount + 8 * scan n source rowCount .header .count ≤ longestImage
+  pub image-end : place n source rowCount + blockLength * scan n source rowCount .header .count ≤ longestImage
   image-end =
       let p = header-end in
       let k = a .count .1 in

@@ -10,7 +10,7 @@ use lib.Seq.{take-all}
 use lib.Dec.{ltb}
 use borrow.Author.Tests.{ltb-false, le-ltb}
 use Rattle.outcome.specs.Outcome.{done}
-use Rattle.image.specs.Scan.{fromImage, scan, firstRefusal, lengthOutcome, readWith, closed, headerOf, blocksOf}
+use Rattle.image.specs.Scan.{fromImage, scan, firstRefusal, lengthOutcome, readWith, closed, headerOf, blocksOf, blockLength}
 use Rattle.outcome.specs.declared.Outcome.the-variants.{Done, EndsEarly, NotShortest, OutOfRange, LeftOver, NoRoom}
 use Rattle.outcome.specs.declared.Outcome.{Outcome}
 use Rattle.image.specs.declared.reader.Scan.{Scan}
@@ -40,25 +40,25 @@ is-done (LeftOver p) e = clash (sym e)
 is-done (NoRoom p) e = clash (sym e)
 
 -- the length is right
-pub length-right : (at count n : ℕ) → done (lengthOutcome at count n) ≡ true → n ≡ at + 8 * count
+pub length-right : (at count n : ℕ) → done (lengthOutcome at count n) ≡ true → n ≡ at + blockLength * count
 unfolding lengthOutcome
 length-right at count n h =
-    let a = other-way done (ltb n (at + 8 * count)) refl h in
-    let b = other-way done (ltb (at + 8 * count) n) refl (sym (ap done (a .1)) ∙ h) in
-    let low = ltb-false n (at + 8 * count) (a .0) in
-    let high = ltb-false (at + 8 * count) n (b .0) in
+    let a = other-way done (ltb n (at + blockLength * count)) refl h in
+    let b = other-way done (ltb (at + blockLength * count) n) refl (sym (ap done (a .1)) ∙ h) in
+    let low = ltb-false n (at + blockLength * count) (a .0) in
+    let high = ltb-false (at + blockLength * count) n (b .0) in
     omega arith
 
-pub length-passes : (at count n : ℕ) → n ≡ at + 8 * count → lengthOutcome at count n ≡ Done
+pub length-passes : (at count n : ℕ) → n ≡ at + blockLength * count → lengthOutcome at count n ≡ Done
 unfolding lengthOutcome
-length-passes at count n e = rw (le-ltb n (at + 8 * count) (omega arith), le-ltb (at + 8 * count) n (omega arith))
+length-passes at count n e = rw (le-ltb n (at + blockLength * count) (omega arith), le-ltb (at + blockLength * count) n (omega arith))
 
 pub record Closed (s : Scan) (n : ℕ) : Type 0 where
   pub scanned : done (s .outcome) ≡ true
-  pub long : n ≡ s .at + 8 * s .header .count
+  pub long : n ≡ s .at + blockLength * s .header .count
   pub is : closed s n ≡ record { outcome = Done; header = s .header; at = s .at }
 
-pub closed-is : (s : Scan) (n : ℕ) → done (s .outcome) ≡ true → n ≡ s .at + 8 * s .header .count → closed s n ≡ record { outcome = Done; header = s .header; at = s .at }
+pub closed-is : (s : Scan) (n : ℕ) → done (s .outcome) ≡ true → n ≡ s .at + blockLength * s .header .count → closed s n ≡ record { outcome = Done; header = s .header; at = s .at }
 unfolding closed readWith
 closed-is s n d e = rw (both-pass (s .outcome) (lengthOutcome (s .at) (s .header .count) n) d, length-passes (s .at) (s .header .count) n e)
 

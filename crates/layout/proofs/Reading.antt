@@ -100,7 +100,7 @@ module _ (l : List ℕ) where
       let four : List ℕ = k .status ∷ k .depth ∷ b in
       let r1 = right two (b ++ (s ++ (t ++ u))) 2 refl x in
       let r2 = right four (s ++ (t ++ u)) 4 refl x in
-      let r3 = moved (at + stackAt + 16) (at + timeAt) (omega arith) (right s (t ++ u) 16 (length-stack (k .stack)) r2) in
+      let r3 = moved (at + stackAt + 2 * mostDepth) (at + timeAt) (omega arith) (right s (t ++ u) (2 * mostDepth) (length-stack (k .stack)) r2) in
       let block = number 2 (k .block) (f .block) (left b (s ++ (t ++ u)) r1) in
       let stack = stack-back (k .stack) (at + stackAt) (f .long) (f .entry) (left s (t ++ u) r2) in
       let time = number 4 (k .time) (f .time) (left t u r3) in

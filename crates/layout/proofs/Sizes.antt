@@ -1,5 +1,5 @@
 -- How many bytes each stretch has, and all of them; and that a buffer of zeros into which the stretches are put is the state's. Assumes nothing.
-use Prim.Native.Nat.{ℕ, _+_}
+use Prim.Native.Nat.{ℕ, _+_, _*_}
 use native.Mathlib.Omega.{arith}
 use mathlib.Core.Path.{_≡_, refl, sym, ap, _∙_}
 use mathlib.Core.List.{List, _++_, append-assoc}
@@ -7,6 +7,7 @@ use lib.IntN.{ℤ, pos}
 use lib.ListN.{length, getD, replicate, length-append, length-replicate}
 use Rattle.flow.specs.Flow.{bias, plc, mathematics}
 use Rattle.le.specs.LittleEndian.{leBytes}
+use Rattle.point.specs.Fault.{mostDepth}
 use Rattle.places.specs.Places.{signedBytes, puts}
 use Rattle.places.proofs.Runs.{length-runs, next, into-zeros}
 use Rattle.state.specs.State.{taskAt}
@@ -19,11 +20,11 @@ pub length-variables : (l : List ℤ) → length (variableBytes l) ≡ 1024
 unfolding variableBytes
 length-variables l = length-runs (λ (k : ℕ). signedBytes (getD l k (pos 0))) 4 (λ k. refl) 256
 
-pub length-stack : (l : List ℕ) → length (stackBytes l) ≡ 16
+pub length-stack : (l : List ℕ) → length (stackBytes l) ≡ 2 * mostDepth
 unfolding stackBytes
-length-stack l = length-runs (λ (i : ℕ). leBytes 2 (getD l i 0)) 2 (λ i. refl) 8
+length-stack l = length-runs (λ (i : ℕ). leBytes 2 (getD l i 0)) 2 (λ i. refl) mostDepth
 
-pub length-task : (k : Task) → length (taskBytes k) ≡ 28
+pub length-task : (k : Task) → length (taskBytes k) ≡ taskLength
 length-task k = simp (length-append, length-stack)
 
 -- bytes put right behind a task's record

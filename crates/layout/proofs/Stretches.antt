@@ -46,14 +46,14 @@ record Lengths (v f o h a s b p m : List ℕ) : Type 0 where
 module _ (l v f o h a s b p m u : List ℕ) (n : Lengths v f o h a s b p m) where
   apart : Has l 0 (v ++ (f ++ (o ++ (h ++ (a ++ (s ++ (b ++ (p ++ (m ++ u))))))))) → Parts l v f o h a s b p m u
   apart r0 =
-      let r1 = right v (f ++ (o ++ (h ++ (a ++ (s ++ (b ++ (p ++ (m ++ u)))))))) 1024 (n .variables) r0 in
-      let r2 = right f (o ++ (h ++ (a ++ (s ++ (b ++ (p ++ (m ++ u))))))) 256 (n .flags) r1 in
-      let r3 = right o (h ++ (a ++ (s ++ (b ++ (p ++ (m ++ u)))))) 256 (n .outputs) r2 in
-      let r4 = right h (a ++ (s ++ (b ++ (p ++ (m ++ u))))) 8 (n .header) r3 in
-      let r5 = right a (s ++ (b ++ (p ++ (m ++ u)))) 12 (n .axis) r4 in
-      let r6 = right s (b ++ (p ++ (m ++ u))) 4 (n .starts) r5 in
-      let r7 = right b (p ++ (m ++ u)) 28 (n .bias) r6 in
-      let r8 = right p (m ++ u) 28 (n .plc) r7 in
+      let r1 = right v (f ++ (o ++ (h ++ (a ++ (s ++ (b ++ (p ++ (m ++ u)))))))) (4 * cells) (n .variables) r0 in
+      let r2 = right f (o ++ (h ++ (a ++ (s ++ (b ++ (p ++ (m ++ u))))))) cells (n .flags) r1 in
+      let r3 = right o (h ++ (a ++ (s ++ (b ++ (p ++ (m ++ u)))))) cells (n .outputs) r2 in
+      let r4 = right h (a ++ (s ++ (b ++ (p ++ (m ++ u))))) headerLength (n .header) r3 in
+      let r5 = right a (s ++ (b ++ (p ++ (m ++ u)))) axisLength (n .axis) r4 in
+      let r6 = right s (b ++ (p ++ (m ++ u))) startsLength (n .starts) r5 in
+      let r7 = right b (p ++ (m ++ u)) taskLength (n .bias) r6 in
+      let r8 = right p (m ++ u) taskLength (n .plc) r7 in
       record {
         variables = left v (f ++ (o ++ (h ++ (a ++ (s ++ (b ++ (p ++ (m ++ u)))))))) r0;
         flags = left f (o ++ (h ++ (a ++ (s ++ (b ++ (p ++ (m ++ u))))))) r1;
@@ -64,20 +64,20 @@ module _ (l v f o h a s b p m u : List ℕ) (n : Lengths v f o h a s b p m) wher
         bias = left b (p ++ (m ++ u)) r6;
         plc = left p (m ++ u) r7;
         mathematics = left m u r8;
-        unused = right m u 28 (n .mathematics) r8;
+        unused = right m u taskLength (n .mathematics) r8;
       }
 
   together : Parts l v f o h a s b p m u → Has l 0 (v ++ (f ++ (o ++ (h ++ (a ++ (s ++ (b ++ (p ++ (m ++ u)))))))))
   together x =
-      let r8 = join m u 28 (n .mathematics) (x .mathematics) (x .unused) in
-      let r7 = join p (m ++ u) 28 (n .plc) (x .plc) r8 in
-      let r6 = join b (p ++ (m ++ u)) 28 (n .bias) (x .bias) r7 in
-      let r5 = join s (b ++ (p ++ (m ++ u))) 4 (n .starts) (x .starts) r6 in
-      let r4 = join a (s ++ (b ++ (p ++ (m ++ u)))) 12 (n .axis) (x .axis) r5 in
-      let r3 = join h (a ++ (s ++ (b ++ (p ++ (m ++ u))))) 8 (n .header) (x .header) r4 in
-      let r2 = join o (h ++ (a ++ (s ++ (b ++ (p ++ (m ++ u)))))) 256 (n .outputs) (x .outputs) r3 in
-      let r1 = join f (o ++ (h ++ (a ++ (s ++ (b ++ (p ++ (m ++ u))))))) 256 (n .flags) (x .flags) r2 in
-      join v (f ++ (o ++ (h ++ (a ++ (s ++ (b ++ (p ++ (m ++ u)))))))) 1024 (n .variables) (x .variables) r1
+      let r8 = join m u taskLength (n .mathematics) (x .mathematics) (x .unused) in
+      let r7 = join p (m ++ u) taskLength (n .plc) (x .plc) r8 in
+      let r6 = join b (p ++ (m ++ u)) taskLength (n .bias) (x .bias) r7 in
+      let r5 = join s (b ++ (p ++ (m ++ u))) startsLength (n .starts) (x .starts) r6 in
+      let r4 = join a (s ++ (b ++ (p ++ (m ++ u)))) axisLength (n .axis) (x .axis) r5 in
+      let r3 = join h (a ++ (s ++ (b ++ (p ++ (m ++ u))))) headerLength (n .header) (x .header) r4 in
+      let r2 = join o (h ++ (a ++ (s ++ (b ++ (p ++ (m ++ u)))))) cells (n .outputs) (x .outputs) r3 in
+      let r1 = join f (o ++ (h ++ (a ++ (s ++ (b ++ (p ++ (m ++ u))))))) cells (n .flags) (x .flags) r2 in
+      join v (f ++ (o ++ (h ++ (a ++ (s ++ (b ++ (p ++ (m ++ u)))))))) (4 * cells) (n .variables) (x .variables) r1
 
 module _ (l : List ℕ) (s : State) (flags : length (s .values .flags) ≡ cells) (outputs : length (s .values .outputs) ≡ cells) where
   lengths : Lengths (variableBytes (s .values .variables)) (s .values .flags) (s .values .outputs) (headerBytes (s .header)) (axisBytes (s .values)) (startBytes s)

@@ -76,7 +76,7 @@ module _ (b : List ℕ) (bytes : Bytes b) where
   task-has at start =
       let k : Task = taskIn b at start in
       let r3 = join (leBytes 4 (k .time)) (leBytes 4 (k .turns)) 4 refl (of-number 4 b (at + timeAt) bytes) (of-number 4 b (at + timeAt + 4) bytes) in
-      let r2 = join (stackBytes (k .stack)) _ 16 (length-stack (k .stack)) (stack-has (at + stackAt)) (moved (at + timeAt) (at + stackAt + 16) (omega arith) r3) in
+      let r2 = join (stackBytes (k .stack)) _ (2 * mostDepth) (length-stack (k .stack)) (stack-has (at + stackAt)) (moved (at + timeAt) (at + stackAt + 2 * mostDepth) (omega arith) r3) in
       let r1 = join (leBytes 2 (k .block)) _ 2 refl (of-number 2 b (at + 2) bytes) (moved (at + stackAt) (at + 2 + 2) (omega arith) r2) in
       cons refl (cons refl (moved (at + 2) (at + 1 + 1) (omega arith) r1))
 

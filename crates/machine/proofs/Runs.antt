@@ -61,7 +61,7 @@ module _ (image : List ℕ) where
     reach = λ _. record { path = []; walk = Walk.begin };
     home = λ _. record { path = []; walk = Walk.begin };
     backs = λ _ i l. absurd (omega arith);
-    eight = refl;
+    long = refl;
     wait = λ _. refl;
   }
 

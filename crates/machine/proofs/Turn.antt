@@ -134,7 +134,7 @@ module _ (image : List ℕ) where
     turned (Jump a) m w = went a a refl (next _ (jump-in (pointOf t k) (flowOf c) a m))
     turned (Call a) m w =
         let d = leb-false mostDepth (k .depth) (sym (call-deep (pointOf t k) (flowOf c) a m) ∙ passing image ok (pointOf t k) here .shallow) in
-        let e = b .sound t l .eight in
+        let e = b .sound t l .long in
         put-here (callTo a k) (thread a (p .start) 0 0 ((p .block + 1) ∷ p .returns))
         (call-sound h bs t k (b .sound t l) r a (next _ (call-in (pointOf t k) (flowOf c) a m)) (next _ (behind-in (pointOf t k) (flowOf c) a m)) d)
         (call-same k p (b .same t l) r a (omega arith)) started

@@ -14,9 +14,9 @@ use Rattle.flow.specs.declared.Flow.the-variants.{Next, Wait, Jump, Branch, Cal
 use Rattle.fault.specs.declared.Fault.{Fault}
 use Rattle.fault.specs.declared.Fault.the-variants.{Fine, Foreign, Forbidden, TooDeep, NoCall, PastEnd}
 
--- the limit on depth: the most calls that a task may be inside of
+-- the limit on depth (document 01, "depth (0 to 8)"; change request 6, "Make 5 the limit"): the most calls that a task may be inside of
 abbrev pub mostDepth : ℕ
-mostDepth = 8
+mostDepth = 5
 
 -- a point of a walk
 abbrev pub point : ℕ → ℕ → ℕ → Point

@@ -10,7 +10,7 @@ ghost use Rattle.flow.specs.Flow.{continues};
 ghost use Rattle.point.specs.Fault.{tooDeep, noCall, anyPast, flowFault, faultOf};
 
 // The limit on depth: the most calls that a task may be inside of.
-pub const MOST_DEPTH: u8 = 8;
+pub const MOST_DEPTH: u8 = 5;
 
 // A point of a walk (document 01: place): a task at a block, inside this many calls.
 pub struct Point {

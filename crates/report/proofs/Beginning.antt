@@ -11,7 +11,7 @@ use lib.Dec.{eqb, ltb}
 use borrow.Author.Tests.{lt-ltb, le-ltb}
 use Rattle.outcome.specs.Outcome.{done}
 use Rattle.number.specs.Number.{numberAt, firstByte, secondByte}
-use Rattle.image.specs.Scan.{fromImage, taken, more, scan, mostHeaderBytes, firstRefusal, lengthOutcome, readWith, closed, headerOf, blocksOf}
+use Rattle.image.specs.Scan.{fromImage, taken, more, scan, mostHeaderBytes, firstRefusal, lengthOutcome, readWith, closed, headerOf, blocksOf, blockLength}
 use Rattle.outcome.specs.declared.Outcome.the-variants.{LeftOver}
 use Rattle.number.specs.declared.Number.{Number}
 use Rattle.number.specs.declared.Number.the-variants.{Value}
@@ -63,14 +63,14 @@ module _ (a b : List ℕ) (long-a : longestImage < length a) (long-b : longestIm
       same-more k (scan (length a) (fromImage a) k) (omega arith) ∙ ap (λ (s : Scan). more (length b) (fromImage b) k s) e
 
   -- the six numbers of a, where the scan let them pass, leave room for no byte more
-  within : done (scan (length a) (fromImage a) 6 .outcome) ≡ true → scan (length a) (fromImage a) 6 .at + 8 * scan (length a) (fromImage a) 6 .header .count ≤ longestImage
+  within : done (scan (length a) (fromImage a) 6 .outcome) ≡ true → scan (length a) (fromImage a) 6 .at + blockLength * scan (length a) (fromImage a) 6 .header .count ≤ longestImage
   within h = image-end (length a) (fromImage a) (image-sized a) (accepted-header (length a) (fromImage a) h)
 
-  left-over : (at count n : ℕ) → at + 8 * count ≤ longestImage → longestImage < n → lengthOutcome at count n ≡ LeftOver (at + 8 * count)
+  left-over : (at count n : ℕ) → at + blockLength * count ≤ longestImage → longestImage < n → lengthOutcome at count n ≡ LeftOver (at + blockLength * count)
   unfolding lengthOutcome
-  left-over at count n h l = rw (le-ltb n (at + 8 * count) (omega arith), lt-ltb (at + 8 * count) n (omega arith))
+  left-over at count n h l = rw (le-ltb n (at + blockLength * count) (omega arith), lt-ltb (at + blockLength * count) n (omega arith))
 
-  same-length : (s : Scan) → (done (s .outcome) ≡ true → s .at + 8 * s .header .count ≤ longestImage) → closed s (length a) ≡ closed s (length b)
+  same-length : (s : Scan) → (done (s .outcome) ≡ true → s .at + blockLength * s .header .count ≤ longestImage) → closed s (length a) ≡ closed s (length b)
   unfolding closed firstRefusal
   same-length s h = ap (readWith s) (go (done (s .outcome)) refl)
     where

@@ -2,8 +2,9 @@
 use machine::Outcome;
 use state::Task;
 ghost use mathlib.Core.Path.{_≡_};
-ghost use Prim.Native.Nat.{_+_, _-_, _<_};
+ghost use Prim.Native.Nat.{_+_, _-_, _<_, _≤_};
 ghost use lib.ListN.{set};
+ghost use Rattle.point.specs.Fault.{mostDepth};
 ghost use Rattle.machine.specs.Deep.{Deep};
 ghost use Rattle.machine.specs.Engine.{goTo, stayWith, callTo, returnFrom, startAnew, restarted, stopped, tasksAfter};
 
@@ -31,7 +32,7 @@ fn stay_with(time: u32, turns: u32, mut k: Task) -> Task
 // A call: the block behind it goes on the call stack.
 fn call_to(a: u16, mut k: Task) -> Task
     requires { ⌜ k .block < 65535 ⌝ }
-    requires { ⌜ k .depth < 8 ⌝ }
+    requires { ⌜ k .depth < mostDepth ⌝ }
     ensures { λ r. ⌜ r ≡ callTo a k ⌝ }
 {
     let depth = k.depth;
@@ -47,7 +48,7 @@ fn call_to(a: u16, mut k: Task) -> Task
 // A return: the last block comes off the stack, and its entry is cleared.
 fn return_from(mut k: Task) -> Task
     requires { ⌜ 0 < k .depth ⌝ }
-    requires { ⌜ k .depth < 9 ⌝ }
+    requires { ⌜ k .depth ≤ mostDepth ⌝ }
     ensures { λ r. ⌜ r ≡ returnFrom k ⌝ }
 {
     let last = k.depth - 1;

@@ -1,6 +1,6 @@
 -- The theorem on buffers is not empty: the program of cases/specs/Example.antt is loaded with 0 into every buffer of the length asked for, so it holds of the
 -- steps there. Beside it 13 and 16, which no image brings about. Assumes nothing.
-use Prim.Native.Nat.{ℕ, zero, suc}
+use Prim.Native.Nat.{ℕ, zero, suc, _-_}
 use native.Mathlib.Omega.{arith}
 use mathlib.Core.Path.{_≡_, refl, ap, _∙_}
 use mathlib.Core.Bool.{Bool, true, _&&_}
@@ -48,8 +48,8 @@ module _ (b : List ℕ) where
     holds = every-run program marksLength b bytes loads steps
 
   -- 13: one byte of marks is missing
-  pub marks-missing : load program 40499 b .verdict ≡ numbered 13 40499
-  marks-missing = ap (λ (l : Load). l .verdict) (marks-short program 40499 b (omega arith))
+  pub marks-missing : load program (marksLength - 1) b .verdict ≡ numbered 13 (marksLength - 1)
+  marks-missing = ap (λ (l : Load). l .verdict) (marks-short program (marksLength - 1) b (omega arith))
 
   -- 16: the buffer has another length
   pub buffer-wrong : (length b ≡ bufferLength → ⊥) → load program marksLength b .verdict ≡ numbered 16 0

@@ -12,7 +12,7 @@ use Rattle.drive.specs.Types.{slotB, slotC}
 use Rattle.drive.proofs.Laws.{board-small}
 use Rattle.outcome.specs.Outcome.{done}
 use Rattle.number.specs.Number.{numberLimit}
-use Rattle.image.specs.Scan.{scan, firstRefusal}
+use Rattle.image.specs.Scan.{scan, firstRefusal, blockLength}
 use Rattle.writer.specs.Writer.{given, HaveForms, firstNumbers, imageOf, overlaid, roomOutcome, writtenWith, fitted, written, outAfter}
 use Rattle.outcome.specs.declared.Outcome.the-variants.{Done}
 use Rattle.outcome.specs.declared.Outcome.{Outcome}
@@ -56,25 +56,25 @@ module _ (numbers : List ℕ) (ok : done (scan 0 (given numbers) 6 .outcome) ≡
 -- blocks and room that fit
 pub record Fits (s : Scan) (b room : ℕ) : Type 0 where
   pub judged : done (s .outcome) ≡ true
-  pub long : b ≡ 8 * s .header .count
+  pub long : b ≡ blockLength * s .header .count
   pub fits : s .at + b ≤ room
   pub is : fitted s b room ≡ record { outcome = Done; length = s .at + b }
 
-pub room-right : (at count b room : ℕ) → done (roomOutcome at count b room) ≡ true → (b ≡ 8 * count) × (at + b ≤ room)
+pub room-right : (at count b room : ℕ) → done (roomOutcome at count b room) ≡ true → (b ≡ blockLength * count) × (at + b ≤ room)
 unfolding roomOutcome
 room-right at count b room h =
-    let x = other-way done (ltb b (8 * count)) refl h in
-    let y = other-way done (ltb (8 * count) b) refl (sym (ap done (x .1)) ∙ h) in
+    let x = other-way done (ltb b (blockLength * count)) refl h in
+    let y = other-way done (ltb (blockLength * count) b) refl (sym (ap done (x .1)) ∙ h) in
     let z = other-way done (ltb room (at + b)) refl (sym (ap done (y .1)) ∙ sym (ap done (x .1)) ∙ h) in
-    let low = ltb-false b (8 * count) (x .0) in
-    let high = ltb-false (8 * count) b (y .0) in
+    let low = ltb-false b (blockLength * count) (x .0) in
+    let high = ltb-false (blockLength * count) b (y .0) in
     (omega arith, ltb-false room (at + b) (z .0))
 
-room-passes : (at count b room : ℕ) → b ≡ 8 * count → at + b ≤ room → roomOutcome at count b room ≡ Done
+room-passes : (at count b room : ℕ) → b ≡ blockLength * count → at + b ≤ room → roomOutcome at count b room ≡ Done
 unfolding roomOutcome
-room-passes at count b room e h = rw (le-ltb b (8 * count) (omega arith), le-ltb (8 * count) b (omega arith), le-ltb room (at + b) h)
+room-passes at count b room e h = rw (le-ltb b (blockLength * count) (omega arith), le-ltb (blockLength * count) b (omega arith), le-ltb room (at + b) h)
 
-pub fitted-is : (s : Scan) (b room : ℕ) → done (s .outcome) ≡ true → b ≡ 8 * s .header .count → s .at + b ≤ room → fitted s b room ≡ record { outcome = Done; length = s .at + b }
+pub fitted-is : (s : Scan) (b room : ℕ) → done (s .outcome) ≡ true → b ≡ blockLength * s .header .count → s .at + b ≤ room → fitted s b room ≡ record { outcome = Done; length = s .at + b }
 unfolding fitted writtenWith
 fitted-is s b room d e h =
     rw (both-pass (s .outcome) (roomOutcome (s .at) (s .header .count) b room) d, room-passes (s .at) (s .header .count) b room e h)

@@ -11,7 +11,7 @@ use lib.Seq.{take-append-seam, drop-append-seam}
 use borrow.Author.Count.{below-more}
 use Rattle.outcome.specs.Outcome.{done}
 use Rattle.number.specs.Number.{numberBytes, numberAt}
-use Rattle.image.specs.Scan.{Source, fromImage, taken, more, scan, closed, headerOf, blocksOf}
+use Rattle.image.specs.Scan.{Source, fromImage, taken, more, scan, closed, headerOf, blocksOf, blockLength}
 use Rattle.writer.specs.Writer.{given, numbersOf, firstNumbers, imageOf, fitted, written, overlaid, outAfter}
 use Rattle.outcome.specs.declared.Outcome.the-variants.{Done}
 use Rattle.number.specs.declared.Number.{Number}
@@ -198,7 +198,7 @@ module _ (image : List ℕ) (bytes : Bytes image) (ok : headerOf image .outcome 
   write-what-was-read out h =
       let s = scanOf image in
       let l = read-fine image fine .long in
-      let b : length (blocksOf image) ≡ 8 * s .header .count = ap length blocks-are ∙ length-drop (p 6) image ∙ omega arith in
+      let b : length (blocksOf image) ≡ blockLength * s .header .count = ap length blocks-are ∙ length-drop (p 6) image ∙ omega arith in
       let e : s .at + length (blocksOf image) ≡ length image = omega arith in
       let w : written numbers (length (blocksOf image)) (length out) ≡ record { outcome = Done; length = length image } =
       ap (λ (x : Scan). fitted x (length (blocksOf image)) (length out)) written-scan

@@ -3,16 +3,17 @@ use Prim.Native.Nat.{_-_, _≤_}
 use native.Mathlib.Omega.{arith}
 use native.Mathlib.Numerals.{add-one}
 use mathlib.Core.Path.{_≡_, refl, ap, _∙_}
+use Rattle.point.specs.Fault.{mostDepth}
 use Rattle.layout.specs.Test.{allOf, entryIs}
 use borrow.Author.Needs.{needs}
 use Rattle.buffer.proofs.stack_is.Statement.{statement}
 use Rattle.buffer.proofs.stack_is.Tie as tie
 
 abbrev Inv-loop : tie.InvT-loop
-Inv-loop count depth stack pass₀ i₀ pass i = (i ≤ 8) × (pass ≡ allOf (entryIs count depth) stack i)
+Inv-loop count depth stack pass₀ i₀ pass i = (i ≤ mostDepth) × (pass ≡ allOf (entryIs count depth) stack i)
 
 abbrev μ-loop : tie.MeasureT-loop
-μ-loop count depth stack pass₀ i₀ pass i = 8 - i
+μ-loop count depth stack pass₀ i₀ pass i = mostDepth - i
 
 loop-holds : tie.Need-loop-holds Inv-loop μ-loop
 unfolding allOf
@@ -41,7 +42,7 @@ returns : tie.Need-returns Inv-loop μ-loop
 returns c =
     let l = c .before .loop in
     let a = c .before .before .args in
-    let e : l .i ≡ 8 = omega arith in
+    let e : l .i ≡ mostDepth = omega arith in
     l .inv .1 ∙ ap (allOf (entryIs (a .count) (a .depth)) (a .stack .now)) e
 
 pub stack-is-spec : {M : Type 1} → statement M

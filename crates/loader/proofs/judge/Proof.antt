@@ -1,7 +1,10 @@
 -- `judge` meets its contract: 13, the header, then the blocks and the walks. Assumes nothing.
 use mathlib.Core.Path.{refl, sym, _∙_}
 use borrow.Author.Tests.{lt-ltb, not-true, not-false}
+use native.Mathlib.Omega.{arith}
+use lib.ListN.{length}
 use denote.Ref.{now}
+use Rattle.walk.specs.Index.{marksLength}
 use borrow.Author.Needs.{needs}
 use Rattle.walk.specs.Verdict.{verdictOf}
 use Rattle.loader.proofs.Whole.{refused-image, ready, judged-image}
@@ -10,7 +13,9 @@ use Rattle.loader.proofs.judge.Tie as tie
 
 returns : tie.Need-returns
 unfolding verdictOf
-returns c = (rw (lt-ltb _ _ (c .if1 .taken)), record { long = refl; rest = λ k i. refl })
+returns c =
+    let short = c .if1 .taken in
+    (rw (lt-ltb (length (now (c .before .before .before .args .marks))) marksLength (omega arith)), record { long = refl; rest = λ k i. refl })
 
 read-requires : tie.Need-read-requires
 read-requires c κs = search needs

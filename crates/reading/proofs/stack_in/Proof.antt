@@ -4,6 +4,7 @@ use native.Mathlib.Omega.{arith}
 use mathlib.Core.Path.{_≡_}
 use denote.Ref.{now}
 use lib.ListN.{length, take, length-set}
+use Rattle.point.specs.Fault.{mostDepth}
 use Rattle.places.specs.Places.{table, numberAt}
 use Rattle.places.proofs.Tables.{none, more, all}
 use Rattle.layout.specs.Decoded.{stackIn}
@@ -12,10 +13,10 @@ use Rattle.reading.proofs.stack_in.Statement.{statement}
 use Rattle.reading.proofs.stack_in.Tie as tie
 
 abbrev Inv-loop : tie.InvT-loop
-Inv-loop b at r₀ i₀ r i = (i ≤ 8) × ((length r ≡ 8) × (take i r ≡ table i (λ (j : ℕ). numberAt 2 b (at + 2 * j))))
+Inv-loop b at r₀ i₀ r i = (i ≤ mostDepth) × ((length r ≡ mostDepth) × (take i r ≡ table i (λ (j : ℕ). numberAt 2 b (at + 2 * j))))
 
 abbrev μ-loop : tie.MeasureT-loop
-μ-loop b at r₀ i₀ r i = 8 - i
+μ-loop b at r₀ i₀ r i = mostDepth - i
 
 loop-holds : tie.Need-loop-holds Inv-loop μ-loop
 loop-holds c = (search needs, (search needs, none _))
@@ -55,7 +56,7 @@ unfolding stackIn
 returns c =
     let l = c .before .loop in
     let a = c .before .before .args in
-    all (l .r) (l .i) 8 (λ (j : ℕ). numberAt 2 (now (a .b)) (a .at + 2 * j)) (l .inv .0) (c .loop-test .left) (l .inv .1 .0) (l .inv .1 .1)
+    all (l .r) (l .i) mostDepth (λ (j : ℕ). numberAt 2 (now (a .b)) (a .at + 2 * j)) (l .inv .0) (c .loop-test .left) (l .inv .1 .0) (l .inv .1 .1)
 
 pub stack-in-spec : {M : Type 1} → statement M
 stack-in-spec =

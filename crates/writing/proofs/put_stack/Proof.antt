@@ -3,6 +3,7 @@ use Prim.Native.Nat.{ℕ, _-_, _≤_}
 use mathlib.Core.Path.{_≡_, refl, _∙_}
 use lib.ListN.{getD}
 use Rattle.le.specs.LittleEndian.{leBytes}
+use Rattle.point.specs.Fault.{mostDepth}
 use Rattle.places.specs.Places.{puts, runs}
 use Rattle.places.proofs.Runs.{runs-none, runs-more, runs-all}
 use Rattle.layout.specs.Encoded.{stackBytes}
@@ -11,10 +12,10 @@ use Rattle.writing.proofs.put_stack.Statement.{statement}
 use Rattle.writing.proofs.put_stack.Tie as tie
 
 abbrev Inv-loop : tie.InvT-loop
-Inv-loop b₀ at stack i₀ b i = (i ≤ 8) × (b ≡ puts b₀ at (runs i (λ (j : ℕ). leBytes 2 (getD stack j 0))))
+Inv-loop b₀ at stack i₀ b i = (i ≤ mostDepth) × (b ≡ puts b₀ at (runs i (λ (j : ℕ). leBytes 2 (getD stack j 0))))
 
 abbrev μ-loop : tie.MeasureT-loop
-μ-loop b₀ at stack i₀ b i = 8 - i
+μ-loop b₀ at stack i₀ b i = mostDepth - i
 
 loop-holds : tie.Need-loop-holds Inv-loop μ-loop
 loop-holds c = (search needs, runs-none _ _ _)
@@ -57,7 +58,7 @@ unfolding stackBytes
 returns c =
     let st = c .before .before in
     let l = c .before .loop in
-    runs-all (λ (j : ℕ). leBytes 2 (getD (st .args .stack .now) j 0)) (st .args .b .now) (st .args .at) (l .i) 8 (l .b) (l .inv .0) (c .loop-test .left) (l .inv .1)
+    runs-all (λ (j : ℕ). leBytes 2 (getD (st .args .stack .now) j 0)) (st .args .b .now) (st .args .at) (l .i) mostDepth (l .b) (l .inv .0) (c .loop-test .left) (l .inv .1)
 
 pub put-stack-spec : {M : Type 1} → statement M
 put-stack-spec =

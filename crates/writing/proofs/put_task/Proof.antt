@@ -1,7 +1,8 @@
 -- `writing::put_task` meets its contract: one number put behind the other. Assumes nothing.
-use Prim.Native.Nat.{_+_}
+use Prim.Native.Nat.{_+_, _*_}
 use native.Mathlib.Omega.{arith}
 use mathlib.Core.Path.{refl}
+use Rattle.point.specs.Fault.{mostDepth}
 use Rattle.places.proofs.Runs.{next}
 use Rattle.layout.specs.Layout.{stackAt, timeAt}
 use Rattle.layout.proofs.Sizes.{length-stack}
@@ -55,7 +56,7 @@ returns c =
     let st = k0 .before .before in
     let at = st .args .at in
     let n4 = next _ _ _ (at + timeAt) 4 _ _ _ (k4 .put-long .ensures) refl refl (c .put-long2 .ensures) in
-    let n3 = next _ _ _ (at + stackAt) 16 _ _ _ (k3 .put-stack .ensures) (length-stack (st .args .t3 .stack)) (omega arith) n4 in
+    let n3 = next _ _ _ (at + stackAt) (2 * mostDepth) _ _ _ (k3 .put-stack .ensures) (length-stack (st .args .t3 .stack)) (omega arith) n4 in
     let n2 = next _ _ _ (at + 2) 2 _ _ _ (k2 .put-word .ensures) refl (omega arith) n3 in
     let n1 = next _ _ _ (at + 1) 1 _ _ _ (k1 .put-byte2 .ensures) refl (omega arith) n2 in
     next _ _ _ at 1 _ _ _ (k0 .put-byte .ensures) refl refl n1
