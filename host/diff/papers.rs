@@ -47,8 +47,8 @@ const STARTS: [(&str, usize, [u64; 4]); 7] = [
     ("FF7F FF7F", 16383, [3, 6, 0, 0]),
 ];
 
-/// Bytes of marks, and number and place of case A's load with them (change request 6). Too many are fine.
-const MARKS: [(usize, [u64; 2]); 4] = [(26_999, [13, 26_999]), (27_000, [0, 0]), (27_001, [0, 0]), (40_500, [0, 0])];
+/// Bytes of marks, and number, place, task, depth of case A's load with them (change request 6). Too many are fine.
+const MARKS: [(usize, [u64; 4]); 3] = [(26_999, [13, 26_999, 0, 0]), (27_000, [0; 4]), (40_500, [0; 4])];
 
 /// Depth of BIAS, which of its return entries is block 1 (the others 0), and the number of its step (change request 6).
 const DEPTHS: [(u8, usize, u32); 5] = [(5, 4, 0), (6, 4, 16), (255, 4, 16), (4, 3, 0), (4, 4, 16)];
@@ -59,13 +59,25 @@ fn case(image: Vec<u8>, actions: Vec<Action>) -> Case {
 
 /// The case on both sides, and the load's answer as the paper has it.
 fn expect(name: &str, image: Vec<u8>, wanted: [u64; 4], tally: &mut Tally) -> Result<(), String> {
+    expect_with(MARKS_LENGTH, name, image, wanted, tally)
+}
+
+/// The same with so many bytes of marks.
+fn expect_with(
+    marks_len: usize,
+    name: &str,
+    image: Vec<u8>,
+    wanted: [u64; 4],
+    tally: &mut Tally,
+) -> Result<(), String> {
     let Verdict { place, number, task, depth } =
-        reference::load(&image, &mut vec![0; MARKS_LENGTH], &mut vec![0; STATE_LENGTH]);
+        reference::load(&image, &mut vec![0; marks_len], &mut vec![0; STATE_LENGTH]);
     let got = [number as u64, place, task as u64, depth as u64];
     if got != wanted {
         return Err(format!("case {name}: the reference says {got:?}, the papers {wanted:?}"));
     }
-    case(image, Vec::new()).run(tally).map_err(|difference| format!("case {name}: {}", difference.what))
+    let both = Case { marks_len, ..case(image, Vec::new()) };
+    both.run(tally).map_err(|difference| format!("case {name}: {}", difference.what))
 }
 
 pub fn check(tally: &mut Tally) -> Result<(), String> {
@@ -78,7 +90,9 @@ pub fn check(tally: &mut Tally) -> Result<(), String> {
     expect("K, 1500 blocks", longest(), [0; 4], tally)?;
     expect("5 nested calls", nested(5), [0; 4], tally)?;
     expect("6 nested calls", nested(6), [10, 5, 0, 5], tally)?;
-    marks_needed(tally)?;
+    for (marks_len, wanted) in MARKS {
+        expect_with(marks_len, &format!("A, {marks_len} bytes of marks"), bytes_of(CASES[0].1), wanted, tally)?;
+    }
     depths(tally)?;
     wait_ends("J, type 2", "02", 527, tally)?;
     wait_ends("J, type 4", "04", 1185, tally)?;
@@ -108,20 +122,6 @@ fn nested(calls: u8) -> Vec<u8> {
     }
     image.extend([0x55, calls, 0, 0, 0, 0, 0, 0]);
     image
-}
-
-/// 13 asks for 27,000 bytes.
-fn marks_needed(tally: &mut Tally) -> Result<(), String> {
-    for (marks_len, wanted) in MARKS {
-        let image = bytes_of(CASES[0].1);
-        let verdict = reference::load(&image, &mut vec![0; marks_len], &mut vec![0; STATE_LENGTH]);
-        if [verdict.number as u64, verdict.place] != wanted {
-            return Err(format!("{marks_len} bytes of marks: the reference says {}, {}", verdict.number, verdict.place));
-        }
-        let lent = Case { marks_len, ..case(image, Vec::new()) };
-        lent.run(tally).map_err(|difference| format!("{marks_len} bytes of marks: {}", difference.what))?;
-    }
-    Ok(())
 }
 
 /// A state may be 5 deep; its return entries past the depth are 0.

@@ -28,13 +28,13 @@ use Rattle.machine.specs.Effect as effect
 use Rattle.machine.specs.Engine as engine
 use Rattle.machine.specs.Run.{outs, stateAfter}
 use Rattle.walk.proofs.Fast.{closureFast, walksFast, blocksFast, readFast, verdictFast, fast-is}
-use Rattle.cases.specs.Images.{image, blockA}
+use Rattle.cases.specs.Images.{caseA}
 use Rattle.cases.specs.Table.{Question, Answer, answerOf, standings, ask, Row, table}
 
 -- the answer by the fast twin
 abbrev quick : Question → Answer
 quick (Question.verdict bytes) = answerOf (verdictFast bytes marksLength)
-quick (Question.lent n) = answerOf (verdictFast (image (blockA ∷ [])) n)
+quick (Question.lent n) = answerOf (verdictFast caseA n)
 quick (Question.number bytes) = ask (Question.number bytes)
 quick (Question.passes bytes k) = ask (Question.passes bytes k)
 quick (Question.divided a b) = ask (Question.divided a b)
@@ -43,7 +43,7 @@ quick (Question.requested bytes starts) = ask (Question.requested bytes starts)
 
 quick-is : (q : Question) → quick q ≡ ask q
 quick-is (Question.verdict bytes) = ap answerOf (fast-is bytes marksLength)
-quick-is (Question.lent n) = ap answerOf (fast-is (image (blockA ∷ [])) n)
+quick-is (Question.lent n) = ap answerOf (fast-is caseA n)
 quick-is (Question.number bytes) = refl
 quick-is (Question.passes bytes k) = refl
 quick-is (Question.divided a b) = refl

@@ -45,6 +45,9 @@ image = imageAt 0
 abbrev pub blockA : List ℕ
 blockA = plain (hex 5 5)
 
+abbrev pub caseA : List ℕ
+caseA = image (blockA ∷ [])
+
 -- n nested calls, from block b on: a program is a call of the next one, which stands two blocks on, and its last block; the innermost is its
 -- last block alone. The last block of a sub-program is 53.
 abbrev pub calls : ℕ → ℕ → List ℕ → List (List ℕ)

@@ -27,7 +27,7 @@ use Rattle.machine.specs.Run.{outs, stateAfter}
 use Rattle.machine.specs.Theorem.{loaded}
 use Rattle.machine.specs.declared.Motion.{Motion}
 use Rattle.machine.specs.declared.Motion.the-variants.{None, MoveTo}
-use Rattle.cases.specs.Images.{block, plain, toward, header, image, imageFor, imageAt, blockA, chain}
+use Rattle.cases.specs.Images.{block, plain, toward, header, image, imageFor, imageAt, blockA, caseA, chain}
 
 -- ---- names
 
@@ -122,7 +122,7 @@ motionsOf = map (λ (o : Out). o .motion)
 
 abbrev pub ask : Question → Answer
 ask (verdict bytes) = answerOf (verdictOf bytes marksLength)
-ask (lent n) = answerOf (verdictOf (image (blockA ∷ [])) n)
+ask (lent n) = answerOf (verdictOf caseA n)
 ask (number bytes) = valueOf (numberAt bytes 0)
 ask (passes bytes k) = standings bytes (stateAfter bytes (loaded bytes) (replicate k (biasStep 0)))
 ask (divided a b) = whole (resultOf (command (hex 8 5) 0 1 0 0 b) a b)
@@ -153,7 +153,7 @@ waiter model = imageFor model (block (hex 5 9) (hex 15 4) 1 0 ∷ blockA ∷ [])
 unfoldable pub table : List Row
 table =
     -- A: 55 and seven 00: accepted
-    row A (verdict (image (blockA ∷ []))) accepted ∷
+    row A (verdict caseA) accepted ∷
     -- B: 50 and seven 00: 12 at block 0
     row B (verdict (image (plain (hex 5 0) ∷ []))) (refusal 12 0 0 0) ∷
     -- C: A with start 1: 3 at byte 4

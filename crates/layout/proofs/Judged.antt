@@ -115,17 +115,6 @@ module _ (h : Header) (k : Task) where
       (λ c. first (ltb i (k .depth) && ltb x (h .count)) (leb (k .depth) i && eqb x 0) (rw (lt-ltb i (k .depth) c, lt-ltb x (h .count) (g .under i c))))
       (λ c. second (ltb i (k .depth) && ltb x (h .count)) (leb (k .depth) i && eqb x 0) (rw (le-leb (k .depth) i c, eq-eqb x 0 (g .above i c))))
 
-  task-judged : GoodTask h k → taskIs h k ≡ true
-  task-judged g =
-      rw (
-        le-leb (k .status) halted (g .status),
-        lt-ltb (k .block) (h .count) (g .block),
-        lt-ltb (k .start) (h .count) (g .start),
-        le-leb (k .depth) mostDepth (g .depth),
-        true-all (entryIs (h .count) (k .depth)) (k .stack) mostDepth (λ i lt. entry-judged g i),
-        wait-judged (h .drive .model) (k .time) (k .turns) (g .wait),
-      )
-
   module _ (i : ℕ) (e : entryIs (h .count) (k .depth) i (getD (k .stack) i 0) ≡ true) where
     ways : ((ltb i (k .depth) && ltb (getD (k .stack) i 0) (h .count)) ≡ true) ⊎ ((leb (k .depth) i && eqb (getD (k .stack) i 0) 0) ≡ true)
     ways = one (ltb i (k .depth) && ltb (getD (k .stack) i 0) (h .count)) (leb (k .depth) i && eqb (getD (k .stack) i 0) 0) e
@@ -161,6 +150,17 @@ module _ (h : Header) (k : Task) where
         above = λ i l. by i mostDepth (λ c. above-depth i (entry i c) l) (λ c. List·getD-eq-default (k .stack) 0 {n = i} (omega arith));
         wait = judged-wait (h .drive .model) (k .time) (k .turns) (r5 .1);
       }
+
+  task-judged : GoodTask h k → taskIs h k ≡ true
+  task-judged g =
+      rw (
+        le-leb (k .status) halted (g .status),
+        lt-ltb (k .block) (h .count) (g .block),
+        lt-ltb (k .start) (h .count) (g .start),
+        le-leb (k .depth) mostDepth (g .depth),
+        true-all (entryIs (h .count) (k .depth)) (k .stack) mostDepth (λ i lt. entry-judged g i),
+        wait-judged (h .drive .model) (k .time) (k .turns) (g .wait),
+      )
 
 -- ---- values
 

@@ -1,1 +1,2 @@
-// The theorem on the buffers that C lends, of the worked example of crate cases, from its bytes. No code here.
+// The theorem on the buffers that C lends, of the worked example of crate cases, from its bytes; beside it what no image brings about, 13, 16 and the limit
+// on depth, by their numbers. No code here.
