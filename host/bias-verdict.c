@@ -79,7 +79,10 @@ int main(int argc, char **argv)
            (unsigned long)verdict.task, (unsigned long)verdict.depth);
     if (!written())
         return EXIT_TROUBLE;
-    if (explain)
-        fprintf(stderr, "%s\n", listing_refusal(verdict.number));
+    if (explain) {
+        char text[LISTING_ROOM];
+        listing_verdict(image, &verdict, text, sizeof text);
+        fprintf(stderr, "%s\n", text);
+    }
     return verdict.number == BIAS_SUCCESS ? EXIT_ACCEPTED : EXIT_REFUSED;
 }

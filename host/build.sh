@@ -1,7 +1,7 @@
 #!/bin/sh
 # Builds the host programs with plain cc and rustc into target/host: example, bias-verdict, makefeed, diff, fuzz, bench,
-# trace, read_numbers, judge_images, bad_places, verdicts, and the reference as an archive of its own. A missing
-# compiler is a failure.
+# trace, read_numbers, list_pins, judge_images, bad_places, verdicts, and the reference as an archive of its own. A
+# missing compiler is a failure.
 # Usage: host/build.sh                proves the library and makes its archive first (rt staticlib bias)
 #        host/build.sh LIBRARY        with an archive that is there
 #        host/build.sh --stand-in     the reference under the library's names, to try the programs without a library
@@ -43,6 +43,7 @@ rust --crate-type rlib --crate-name reference host/reference/lib.rs -o "$out/lib
 rust --crate-type staticlib --crate-name reference_c host/reference/lib.rs -o "$out/libreference.a"
 rust host/reference/trace.rs --extern reference="$out/libreference.rlib" -o "$out/trace"
 rust host/reference/read_numbers.rs --extern reference="$out/libreference.rlib" -o "$out/read_numbers"
+rust host/reference/list_pins.rs --extern reference="$out/libreference.rlib" -o "$out/list_pins"
 rust host/reference/judge_images.rs --extern reference="$out/libreference.rlib" -o "$out/judge_images"
 rust host/bad_places.rs --extern reference="$out/libreference.rlib" -o "$out/bad_places"
 rust host/verdicts.rs --extern reference="$out/libreference.rlib" -o "$out/verdicts"

@@ -38,6 +38,7 @@ numbers() {
     sed -n 's/^ *number_row(b"\(.*\)"),$/\1/p' crates/vectors/src/main.rt | sed 's/\\x//g' | "$out/read_numbers" > "$out/numbers.out"
     grep '^number ' crates/vectors/stdout | cmp - "$out/numbers.out"
 }
+pins() { "$out/list_pins" > "$out/pins.out" && grep '^type ' crates/vectors/stdout | cmp - "$out/pins.out"; }
 judged() { "$out/judge_images" < crates/images/stdin > "$out/images.out" && cmp "$out/images.out" crates/images/stdout; }
 several() { "$out/bad_places" > "$out/bad_places.out" && tail -n 190 crates/images/stdin | cmp - "$out/bad_places.out"; }
 traced() { "$out/trace" < "$manual/stdin" > "$out/trace.out" && cmp "$out/trace.out" "$manual/stdout"; }
@@ -76,6 +77,43 @@ explained() {
     says 1 "$past_end" "$judge" --explain "$out/b.img" && grep 'past its last block' "$out/err" \
         && says 0 "$accepted" "$judge" --explain < "$out/a.img" && grep 'accepted' "$out/err"
 }
+
+# What bias-verdict and the example say of a drive and block 0: explains NUMBER WORDS TYPE SLOT_B SLOT_C CODE D1 D2
+bytes() { for byte in "$@"; do printf "\\$(printf %03o "$byte")"; done; }
+explains() {
+    number=$1
+    words=$2
+    bytes 1 "$3" "$4" "$5" 0 2 "$6" "$7" "$8" 0 0 0 0 0 0x55 0 0 0 0 0 0 0 > "$out/board.img"
+    says 1 "refusal $number place 0 task 0 depth 0" "$judge" --explain "$out/board.img" \
+        && grep -Fx "$words" "$out/err" && says 1 "" "$out/example" "$out/board.img" \
+        && grep -F "refused by $number at block 0: $words" "$out/err"
+}
+takes="which this drive can take in slot"
+swap=", in exchange for the board there"
+missing_board() {
+    explains 23 "pin 217 is on terminal X200 of board RP-EAE, $takes C" 2 0 0 0x72 217 1 \
+        && explains 23 "pin 201 is on terminal X200 of board RP-EAE, $takes C" 3 1 0 0x70 201 0 \
+        && explains 23 "pin 224 is on terminal X200 of board RP-EAE, $takes C$swap" 4 0 2 0x64 0 224 \
+        && explains 23 "pin 101 is on terminal COM2 of board RP-EA5, $takes B" 1 0 1 0x63 0 101 \
+        && explains 23 "pin 110 is on terminal COM2 of board RP-EA5, $takes B$swap" 4 2 0 0x73 110 0 \
+        && explains 23 "pin 121 is on terminal X120 of board RP-2C8, $takes B" 4 0 2 0x70 121 0 \
+        && explains 23 "pin 128 is on terminal X120 of board RP-2C8, $takes B$swap" 4 1 0 0x71 128 0 \
+        && explains 23 "pin 91 is on terminal X290 of board RP-SBT, $takes C" 4 2 0 0x63 0 91 \
+        && explains 23 "pin 93 is on terminal X290 of board RP-SBT, $takes C$swap" 4 0 1 0x70 93 0
+}
+never="another pin or drive is needed"
+no_board() {
+    explains 6 "neither a 637 nor a board for it has pin 101 as an output to write: $never" 2 0 0 0x72 101 1 \
+        && explains 6 "neither a 631 nor a board for it has pin 217 as an output to write: $never" 0 0 0 0x73 217 0 \
+        && explains 6 "neither a 637+ nor a board for it has pin 125 as an output to read: $never" 3 1 1 0x64 0 125 \
+        && explains 6 "neither a 637f nor a board for it has pin 217 as an input: $never" 4 0 0 0x70 217 0 \
+        && explains 6 "a 637+ does not have this command: another drive is needed" 3 0 0 0x6E 0 0
+}
+# Start 129 and count 130 have two bytes each; the last block is the bad one.
+last_block() {
+    { bytes 1 2 0 0 129 1 130 1 && head -c 1032 /dev/zero && bytes 0x72 217 1 0 0 0 0 0; } > "$out/board.img"
+    says 1 "refusal 23 place 129 task 0 depth 0" "$judge" --explain "$out/board.img" && grep '^pin 217 is on' "$out/err"
+}
 help() { "$judge" --help > "$out/said" 2> "$out/err" && grep '^usage: bias-verdict' "$out/said" && [ ! -s "$out/err" ]; }
 wrong_usage() {
     says 2 "" "$judge" --wrong "$out/a.img" && grep '^usage: bias-verdict' "$out/err" \
@@ -104,12 +142,16 @@ try "the feed image, written by the library" feed
 try "the example's trace of the feed program" example
 try "the example refuses a bad image" refused
 try "the vectors' numbers on the reference" numbers
+try "the vectors' pins on the reference" pins
 try "the manual's examples on the reference" traced
 try "the test images on the reference" judged
 try "the test images with several bad places" several
 try "bias-verdict on a named file" named_file
 try "bias-verdict on standard input" standard_input
 try "bias-verdict --explain" explained
+try "bias-verdict and the example, which board is missing" missing_board
+try "bias-verdict and the example, what no board has" no_board
+try "bias-verdict --explain, a block behind a longer header" last_block
 try "bias-verdict --help" help
 try "bias-verdict, wrong usage" wrong_usage
 try "bias-verdict, what cannot be read" unread

@@ -281,7 +281,9 @@ static int load(run *program, const char *name)
             (unsigned long long)verdict.place);
     if (verdict.number >= BIAS_FORBIDDEN && verdict.number <= BIAS_PAST_END)
         fprintf(stderr, ", task %s, depth %u", listing_task(verdict.task), (unsigned)verdict.depth);
-    fprintf(stderr, ": %s\n", listing_refusal(verdict.number));
+    char text[LISTING_ROOM];
+    listing_verdict(program->image, &verdict, text, sizeof text);
+    fprintf(stderr, ": %s\n", text);
     return 0;
 }
 

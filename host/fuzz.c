@@ -16,7 +16,7 @@
 typedef char verdict_has_24_bytes[sizeof(bias_verdict) == 24 ? 1 : -1];
 typedef char answer_has_48_bytes[sizeof(bias_answer) == 48 ? 1 : -1];
 
-enum { GUARD = 0xA5, DEFAULT_CALLS = 100000, TASKS = 3, HIGHEST_NUMBER = 20 };
+enum { GUARD = 0xA5, DEFAULT_CALLS = 100000, TASKS = 3, HIGHEST_NUMBER = BIAS_BOARD_MISSING };
 #define DEFAULT_SEED 631u
 
 /* ---- random numbers ---- */
@@ -116,10 +116,10 @@ typedef struct {
 static content image, marks, state, inputs, blocks, out;
 static region image_region, marks_region, state_region, inputs_region, blocks_region, out_region;
 
-/* A program with all three tasks, calls, waits and a division that can halt. */
+/* A program with all three tasks, calls, waits, an output of a board and a division that can halt. */
 static const uint8_t program[][BIAS_BLOCK_LENGTH] = {
     {0x54, 8, 0}, {0x90, 12, 0}, {0x52, 15, 0}, {0x0E}, {0x01}, {0x58}, {0x59, 3, 0}, {0x51, 0},
-    {0x72, 12, 1}, {0x63, 1, 11}, {0x57, 2, 0}, {0x51, 0},
+    {0x72, 217, 1}, {0x63, 1, 11}, {0x57, 2, 0}, {0x51, 0},
     {0x82, 1, 1, 1, 0, 0, 0}, {0x8D, 2, 1, 1}, {0x51, 0},
     {0x20, 1, 2, 3, 4}, {0x52, 18, 0}, {0x53},
     {0x86, 3, 0, 32}, {0x53},
@@ -150,10 +150,11 @@ static size_t odd_length(size_t right)
     }
 }
 
-/* A program's image, whole, damaged, cut off, lengthened, or noise. */
+/* A program's image, whole, damaged, cut off, lengthened, without its board, or noise. */
 static void draw_image(void)
 {
-    bias_verdict verdict = bias_write(BIAS_FORMAT, BIAS_TYPE_637, 0, 0, 0, sizeof program / sizeof program[0],
+    const uint32_t slot_c = random_below(8) == 0 ? BIAS_SLOT_C_EMPTY : BIAS_SLOT_C_RP_EAE;
+    bias_verdict verdict = bias_write(BIAS_FORMAT, BIAS_TYPE_637, 0, slot_c, 0, sizeof program / sizeof program[0],
                                       &program[0][0], sizeof program, image.bytes, sizeof image.bytes);
     check(verdict.number == BIAS_SUCCESS, "the program was not written");
     image.length = (size_t)verdict.place;
@@ -190,7 +191,8 @@ static int same_verdicts(bias_verdict a, bias_verdict b)
 
 static void check_load(bias_verdict verdict)
 {
-    check(verdict.number <= BIAS_MARKS_SHORT || verdict.number == BIAS_NO_STATE, "load: no such number");
+    check(verdict.number <= BIAS_MARKS_SHORT || verdict.number == BIAS_NO_STATE || verdict.number == BIAS_BOARD_MISSING,
+          "load: no such number");
     check((verdict.number == BIAS_MARKS_SHORT) == (marks.length < BIAS_MARKS_LENGTH), "load: 13 by another length");
     if (verdict.number == BIAS_SUCCESS)
         check(verdict.place == 0 && verdict.task == 0 && verdict.depth == 0, "load: success with a place");
@@ -257,7 +259,7 @@ static void check_step(const bias_answer *answer)
 {
     const int move = answer->motion >= BIAS_MOTION_MOVE_TO && answer->motion <= BIAS_MOTION_ENDLESS_BACKWARD;
     check(answer->number == BIAS_SUCCESS
-          || (answer->number >= BIAS_BAD_INPUTS && answer->number <= HIGHEST_NUMBER), "step: no such number");
+          || (answer->number >= BIAS_BAD_INPUTS && answer->number <= BIAS_BAD_CONTENT), "step: no such number");
     check(answer->motion <= BIAS_MOTION_STOP, "step: no such motion");
     check(answer->number == BIAS_SUCCESS || answer->motion == BIAS_MOTION_NONE, "step: refused, with a motion");
     check(move || (answer->position == 0 && answer->speed == 0 && answer->acceleration == 0), "step: a field too many");

@@ -156,7 +156,7 @@ const char *listing_refusal(uint32_t number)
         "a header number is out of range, a board is not for the type, or the start is not below the count",
         "bytes are left over behind the blocks",
         "the block's code is not carried",
-        "the drive does not have this pin or this command",
+        "the drive lacks the command, or the pin with any board: another drive or another pin is needed",
         "an operand is out of range, or the 51 would end another task than its own",
         "a byte that the command does not use is not 0",
         "the command is not allowed in this task",
@@ -171,8 +171,84 @@ const char *listing_refusal(uint32_t number)
         "the task is not running",
         "division by a variable that holds 0",
         "a variable's content is out of range",
+        [BIAS_BOARD_MISSING] = "the pin is on a board that the drive can take and that is not fitted",
     };
-    return number < sizeof meanings / sizeof meanings[0] ? meanings[number] : "unknown number";
+    const int known = number < sizeof meanings / sizeof meanings[0] && meanings[number] != NULL;
+    return known ? meanings[number] : "unknown number";
+}
+
+/* A board: the least and the greatest of its pins, its terminal and its slot. */
+typedef struct {
+    uint8_t least, greatest;
+    const char *name, *terminal;
+    char slot;
+} board;
+
+/* Source document 000 at 63, lines 6488 to 6491: "RP-EAE (Slot C)", "Pin no at X200 Sub-D-female", and so on; for the
+ * outputs at 72, lines 7293 to 7295. */
+static const board boards[] = {
+    {91, 93, "RP-SBT", "X290", 'C'},
+    {101, 110, "RP-EA5", "COM2", 'B'},
+    {121, 128, "RP-2C8", "X120", 'B'},
+    {201, 224, "RP-EAE", "X200", 'C'},
+};
+
+/* A block of an image whose header is good: four numbers of one byte, then start and count of one or two. */
+static const uint8_t *block_of(const uint8_t *image, uint64_t number)
+{
+    const uint8_t *count = image + (image[4] < 128 ? 5 : 6);
+    return count + (count[0] < 128 ? 1 : 2) + BIAS_BLOCK_LENGTH * number;
+}
+
+static unsigned pin_of(const uint8_t *b)
+{
+    return b[0] < 0x70 ? b[2] : b[1];
+}
+
+/* As what a command uses its pin; NULL for one that uses none. */
+static const char *use_of(const uint8_t *b)
+{
+    switch (b[0]) {
+    case 0x63: case 0x70: return "an input";
+    case 0x64: case 0x71: return "an output to read";
+    case 0x72: case 0x73: return "an output to write";
+    default: return NULL;
+    }
+}
+
+/* 6: nothing that can be bought for this drive helps. */
+static int not_on_drive(const uint8_t *image, const uint8_t *b, char *text, size_t room)
+{
+    const char *type = listing_type(image[1]), *use = use_of(b);
+    if (use == NULL)
+        return snprintf(text, room, "a %s does not have this command: another drive is needed", type);
+    return snprintf(text, room, "neither a %s nor a board for it has pin %u as %s: another pin or drive is needed",
+                    type, pin_of(b), use);
+}
+
+/* 23: a board can be bought. */
+static int board_missing(const uint8_t *image, const uint8_t *b, char *text, size_t room)
+{
+    const unsigned pin = pin_of(b);
+    for (size_t n = 0; n < sizeof boards / sizeof boards[0]; n++) {
+        const board *has = boards + n;
+        const int empty = image[has->slot == 'B' ? 2 : 3] == 0;
+        if (pin >= has->least && pin <= has->greatest)
+            return snprintf(text, room, "pin %u is on terminal %s of board %s, which this drive can take in slot %c%s",
+                            pin, has->terminal, has->name, has->slot, empty ? "" : ", in exchange for the board there");
+    }
+    return -1;
+}
+
+void listing_verdict(const uint8_t *image, const bias_verdict *verdict, char *text, size_t room)
+{
+    int length = -1;
+    if (verdict->number == BIAS_NOT_ON_DRIVE)
+        length = not_on_drive(image, block_of(image, verdict->place), text, room);
+    else if (verdict->number == BIAS_BOARD_MISSING)
+        length = board_missing(image, block_of(image, verdict->place), text, room);
+    if (length < 0)
+        snprintf(text, room, "%s", listing_refusal(verdict->number));
 }
 
 const char *listing_place(uint32_t number)

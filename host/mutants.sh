@@ -33,7 +33,7 @@ mutant() {
 
 only=${1:-}
 mutant one_path_for_all_tasks state.rs 's/record(task) + PATH + 2 \* depth/record(0) + PATH + 2 * depth/'
-mutant output_8_writable drive.rs 's/12 | 13 | 20 | 23 => true/8 | 12 | 13 | 20 | 23 => true/'
+mutant output_8_writable drive.rs 's/12 | 13 | 20 | 23 => /8 | &/'
 mutant high_start_at_load_is_a_slope state.rs 's/state.set_start_level(1)/state.set_start_level(0)/'
 mutant wait_ends_at_526 state.rs 's/self.turns as u64 \* drive.cycle_length() >=/(self.turns as u64 + 1) * drive.cycle_length() >/'
 mutant marks_without_depth walk.rs 's/ + place.depth\];/];/'
@@ -46,7 +46,7 @@ mutant eighteen_before_a_start engine.rs 's/if state.status(task) != RUNNING/if 
 mutant fourteen_with_room_enough image.rs 's/if out.len() < length/if out.len() <= length/'
 mutant foreign_51_let_pass walk.rs 's/block\[0\] == 0x51 \&\& block\[1\] != 0/block[0] == 0x02 \&\& block[1] != 0/'
 mutant stop_1F_in_BIAS_alone command.rs 's/plain(0x1F, 3, B | P)/plain(0x1F, 3, B)/'
-mutant bit_jump_on_637_plus drive.rs 's/self.kind != TYPE_637_PLUS$/self.kind != 9/'
+mutant bit_jump_on_637_plus drive.rs 's/own(self.kind != TYPE_637_PLUS)/own(true)/'
 mutant address_of_81_turned_round command.rs 's/\[block\[7\], block\[6\] & 0x0F\]/[block[6] \& 0x0F, block[7]]/'
 mutant positive_compares_values effect.rs 's/6 => first.wrapping_sub(second) >= 0/6 => first >= second/'
 mutant odd_wait_not_rounded effect.rs 's/time - time % 2/time/'
@@ -77,5 +77,13 @@ mutant state_written_when_refused loader.rs 's/if verdict.number == SUCCESS {/if
 mutant all_marks_wiped walk.rs 's/&mut marks\[..MARKS_LENGTH\]/\&mut marks[..]/'
 mutant ramp_of_0F_is_acceleration effect.rs 's/if code == 0x0F { state.deceleration() }/if code == 0x0F { state.acceleration() }/'
 mutant slope_without_memory effect.rs 's/turn.start == 1 \&\& state.start_level() == 0/turn.start == 1/'
+mutant six_for_a_missing_board command.rs 's/OnBoard => return BOARD_MISSING/OnBoard => return NOT_ON_DRIVE/'
+mutant six_where_a_board_can_be_exchanged drive.rs 's/board <= most_board(self.kind)/held == 0 \&\& &/'
+mutant board_missing_on_a_631 drive.rs 's/if self.kind == TYPE_631 {/if self.kind == TYPE_631 \&\& pin < 90 {/; s/board <= most_board(self.kind)/&.max(1)/'
+mutant board_missing_for_an_input_as_an_output drive.rs 's/109 | 110 => /101 | 102 | 106..=108 if self.slot_b != RP_EA5 => self.on_board(self.slot_b, RP_EA5),\n            &/'
+mutant board_of_637f_missing_on_637_plus drive.rs 's/board <= most_board(self.kind)/& || self.kind == TYPE_637_PLUS/'
+mutant seven_before_a_missing_board command.rs 's/Presence::OnBoard => /Presence::OnBoard if !row.in_range(header, block) => return BAD_OPERAND,\n        &/'
+mutant step_without_the_board engine.rs 's/command::judge(&header, block) == SUCCESS/matches!(command::judge(\&header, block), SUCCESS | BOARD_MISSING)/'
+mutant step_answers_23 engine.rs 's/None => Answer::refused(Verdict::at_place(OTHER_IMAGE, place))/None => Answer::refused(Verdict::at_place(match image::read(image) { Ok((header, blocks)) if header == state.header() \&\& command::judge(\&header, image::block(blocks, place.block)) == BOARD_MISSING => BOARD_MISSING, _ => OTHER_IMAGE }, place))/'
 echo "$passed found, $failed failed"
 [ "$failed" -eq 0 ]

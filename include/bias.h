@@ -113,7 +113,8 @@ enum {
                                          its first byte; bias_write: the byte where it would stand */
     BIAS_LEFT_OVER = 4,               /* the first byte left over; bias_write: blocks too long, their length */
     BIAS_BAD_CODE = 5,                /* a command that is not carried: block */
-    BIAS_NOT_ON_DRIVE = 6,            /* a pin or command that the drive lacks: block */
+    BIAS_NOT_ON_DRIVE = 6,            /* another drive or another pin is needed: the type lacks the command, or lacks
+                                         the pin, as an input or as an output, with any board: block */
     BIAS_BAD_OPERAND = 7,             /* another operand out of range, or a 51 that would end another task: block */
     BIAS_UNUSED_NOT_ZERO = 8,         /* a byte that the command does not use is not 0: block */
     BIAS_FORBIDDEN = 9,               /* a command not allowed in the task that can reach it: block, task, depth */
@@ -126,11 +127,15 @@ enum {
     BIAS_BAD_INPUTS = 15,             /* bias_step: no such task: its number; or not 256 inputs: their length */
     BIAS_NO_STATE = 16,               /* the state has another length than 2,048, or, in bias_step, is no state: none */
     /* steps */
-    BIAS_OTHER_IMAGE = 17,            /* header or length not the loaded image's, or the current block breaks 5 to 12, or a wait
-                                         is pending there and it is no wait: block, task, depth */
+    BIAS_OTHER_IMAGE = 17,            /* header or length not the loaded image's, or the current block breaks 5 to 12 or
+                                         23, or a wait is pending there and it is no wait: block, task, depth */
     BIAS_NOT_RUNNING = 18,            /* the task was never started, has ended or is halted: none */
     BIAS_ZERO_DIVISOR = 19,           /* 8D by a variable that holds 0; the task halts: block, task, depth */
-    BIAS_BAD_CONTENT = 20             /* 31 to 33 or 5A read a variable out of range; the task halts: block, task, depth */
+    BIAS_BAD_CONTENT = 20,            /* 31 to 33 or 5A read a variable out of range; the task halts: block, task,
+                                         depth */
+    /* the image once more, from bias_load, in the place of 6 */
+    BIAS_BOARD_MISSING = 23           /* a board has to be bought, fitted and named in the header: the type can take
+                                         the one that has the pin, and its slot is empty or holds another: block */
 };
 
 /* The answer of bias_load and bias_write. */
@@ -156,10 +161,10 @@ typedef struct {
 /* Judges an image and, when it is accepted, writes the state of a program about to begin: BIAS at the program start, the
  * PLC and mathematics never started, all variables, flags and outputs 0, the start input taken as high before.
  *
- * The first of these is told: 13, 16, the header's numbers by 1, 2, 3, the length by 1 or 4, each block upwards by 5, 6,
- * 7, 8; then what the program can reach, with every condition taken both ways: 7 for a 51 that would end another task, at
- * the least such block, and else 9 to 12 at the least bad place: the least block, in it the least task, then the least
- * depth. A refused load leaves the state buffer as it was. */
+ * The first of these is told: 13, 16, the header's numbers by 1, 2, 3, the length by 1 or 4, each block upwards by 5, 6
+ * or 23, 7, 8; then what the program can reach, with every condition taken both ways: 7 for a 51 that would end another
+ * task, at the least such block, and else 9 to 12 at the least bad place: the least block, in it the least task, then
+ * the least depth. A refused load leaves the state buffer as it was. */
 bias_verdict bias_load(const uint8_t *image, size_t image_len,
                        uint8_t *marks, size_t marks_len,
                        uint8_t *state, size_t state_len);

@@ -115,12 +115,24 @@ impl Drawing<'_> {
                 program::damage(self.random, &mut other);
                 action.lent = Some(other);
             }
-            4..=33 => {
+            4..=5 => action.lent = self.pin_at_the_pointer(action.task),
+            6..=35 => {
                 action.pokes = pokes(self.random, self.count);
                 action.keep = self.random.chance(40);
             }
             _ => (),
         }
+    }
+
+    /// The image with another block where the task stands, one that uses a pin.
+    fn pin_at_the_pointer(&mut self, task: u32) -> Option<Vec<u8>> {
+        let task = (task as usize).min(TASKS - 1);
+        let block = State::of(&mut self.player.state)?.block(task) as usize;
+        let behind = BLOCK_LENGTH * self.count.checked_sub(block)?;
+        let mut other = self.image.clone();
+        let first = other.len().checked_sub(behind)?;
+        other.get_mut(first..first + BLOCK_LENGTH)?.copy_from_slice(&program::pin_block(self.random));
+        Some(other)
     }
 
     /// A task that runs at its start, or at some block.

@@ -1,6 +1,6 @@
-//! The papers' own examples: A to L and the chains of calls of document 01 with its answers, or those of change request 6
-//! where it changes them; those of change requests 2 and 6; starts at the ends of each length of a number; and images cut
-//! at every length. Done on the library and on the reference alike.
+//! The papers' own examples: A to L and the chains of calls of document 01 with its answers, or those of change
+//! request 6 where it changes them; those of change requests 2, 3 and 6; starts at the ends of each length of a number;
+//! and images cut at every length. Done on the library and on the reference alike.
 
 use crate::case::{Action, Case};
 use crate::program;
@@ -9,12 +9,12 @@ use crate::tally::Tally;
 use reference::hex::bytes_of;
 use reference::number::*;
 use reference::state::{record, State, DEPTH, PATH, STATE_LENGTH};
-use reference::Verdict;
+use reference::{Answer, Verdict};
 
 /// Name, image in hexadecimal, and number, place, task, depth.
 type Row = (&'static str, &'static str, [u64; 4]);
 
-const CASES: [Row; 14] = [
+const CASES: [Row; 24] = [
     ("A", "010200000001 5500000000000000", [0, 0, 0, 0]),
     ("B", "010200000001 5000000000000000", [12, 0, 0, 0]),
     ("C", "010200000101 5500000000000000", [3, 4, 0, 0]),
@@ -33,6 +33,24 @@ const CASES: [Row; 14] = [
         "010200000004 5403000000000000 5203000000000000 5502000000000000 5000000000000000",
         [12, 3, 0, 1],
     ),
+    ("output 217, board missing", "010200000002 72D9010000000000 5500000000000000", [23, 0, 0, 0]),
+    ("output 217, board fitted", "010200010002 72D9010000000000 5500000000000000", [0, 0, 0, 0]),
+    ("output 217 on a 631", "010000000002 72D9010000000000 5500000000000000", [6, 0, 0, 0]),
+    ("output 125 on a 637", "010200000002 727D010000000000 5500000000000000", [6, 0, 0, 0]),
+    ("output 125, slot empty", "010400000002 727D010000000000 5500000000000000", [23, 0, 0, 0]),
+    ("output 125, another board", "010401000002 727D010000000000 5500000000000000", [23, 0, 0, 0]),
+    ("input 101, board missing", "010200000002 6300650000000000 5500000000000000", [23, 0, 0, 0]),
+    ("input 101 as an output", "010200000002 7265010000000000 5500000000000000", [6, 0, 0, 0]),
+    ("output 217 = 2", "010200000002 72D9020000000000 5500000000000000", [23, 0, 0, 0]),
+    ("6E on a 637+", "010300000002 6E00000000000000 5500000000000000", [6, 0, 0, 0]),
+];
+
+/// What is lent to the first step after a load of case I's accepted image, and number, place, task, depth of that step:
+/// an output on a missing board, one that is never there, and one that is there (change request 3).
+const LENT: [(&str, [u64; 4]); 3] = [
+    ("010200000002 72D9010000000000 5500000000000000", [17, 0, 0, 0]),
+    ("010200000002 7208010000000000 5500000000000000", [17, 0, 0, 0]),
+    ("010200000002 720D010000000000 5500000000000000", [0, 0, 0, 0]),
 ];
 
 /// Start and count as an image has them, the count, and number, place, task, depth: each start is at an end of a length.
@@ -93,6 +111,7 @@ pub fn check(tally: &mut Tally) -> Result<(), String> {
     for (marks_len, wanted) in MARKS {
         expect_with(marks_len, &format!("A, {marks_len} bytes of marks"), bytes_of(CASES[0].1), wanted, tally)?;
     }
+    lent(tally)?;
     depths(tally)?;
     wait_ends("J, type 2", "02", 527, tally)?;
     wait_ends("J, type 4", "04", 1185, tally)?;
@@ -122,6 +141,25 @@ fn nested(calls: u8) -> Vec<u8> {
     }
     image.extend([0x55, calls, 0, 0, 0, 0, 0, 0]);
     image
+}
+
+/// A step on another image than the loaded one.
+fn lent(tally: &mut Tally) -> Result<(), String> {
+    let image = bytes_of("010200000002 720C010000000000 5500000000000000");
+    let given = reference::engine::Given { inputs: &[0; INPUTS_LENGTH], start: 0, reached: 0 };
+    for (other, wanted) in LENT {
+        let mut state = vec![0; STATE_LENGTH];
+        reference::load(&image, &mut vec![0; MARKS_LENGTH], &mut state);
+        let Answer { number, place, task, depth, .. } = reference::step(&bytes_of(other), &mut state, 0, given);
+        let got = [number as u64, place, task as u64, depth as u64];
+        if got != wanted {
+            return Err(format!("lent {other}: the reference says {got:?}, the papers {wanted:?}"));
+        }
+        let step = Action { lent: Some(bytes_of(other)), ..Action::plain(0) };
+        let both = case(image.clone(), vec![step]).run(tally);
+        both.map_err(|difference| format!("lent {other}: {}", difference.what))?;
+    }
+    Ok(())
 }
 
 /// A state may be 5 deep; its return entries past the depth are 0.

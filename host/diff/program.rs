@@ -2,7 +2,7 @@
 
 use crate::random::Random;
 use reference::command::{codes, row};
-use reference::drive::{most_board, Drive};
+use reference::drive::{most_board, Drive, Presence, TYPE_637F};
 use reference::image::{self, Block, Wanted};
 use reference::number::*;
 use reference::state::STATE_LENGTH;
@@ -22,7 +22,7 @@ pub fn any(random: &mut Random) -> Vec<u8> {
     }
 }
 
-/// An accepted program in which a few blocks are others, or have other bytes: refused by 5 to 12, if at all.
+/// An accepted program in which a few blocks are others, or have other bytes: refused by 5 to 12 or 23, if at all.
 pub fn changed(random: &mut Random) -> Vec<u8> {
     let mut maker = Maker::new(random);
     let (start, mut blocks) = maker.program();
@@ -42,7 +42,7 @@ pub fn accepted(random: &mut Random) -> Vec<u8> {
     maker.image(start, &blocks)
 }
 
-/// The same without mending: blocks pass 5 to 8, walks decide.
+/// The same without mending: blocks pass 5 to 8 and 23, walks decide.
 fn wild(random: &mut Random) -> Vec<u8> {
     let mut maker = Maker::new(random);
     let (start, blocks) = maker.program();
@@ -76,6 +76,21 @@ pub fn damage(random: &mut Random, image: &mut Vec<u8>) {
             _ => (),
         }
     }
+}
+
+/// A block that uses any pin, often one of a board, now and then with another byte that is wrong as well.
+pub fn pin_block(random: &mut Random) -> Block {
+    let bare = Drive { kind: TYPE_637F, slot_b: 0, slot_c: 0 };
+    let on_board = |pin: &u8| [bare.input(*pin), bare.read_output(*pin)].contains(&Presence::OnBoard);
+    let of_boards: Vec<u8> = (0..=255).filter(on_board).collect();
+    let mut block = [0; BLOCK_LENGTH];
+    block[0] = random.pick(&[0x63, 0x64, 0x70, 0x71, 0x72, 0x73]);
+    let pin = if block[0] < 0x70 { 2 } else { 1 };
+    block[pin] = if random.chance(50) { random.pick(&of_boards) } else { random.byte() };
+    if random.chance(20) {
+        block[random.between(1, BLOCK_LENGTH - 1)] = random.byte();
+    }
+    block
 }
 
 /// A number of one byte in two: refused by 2.
@@ -129,15 +144,15 @@ impl Maker<'_> {
             93..=95 => random.pick(&[127, 128, 129, 255, 256, 257]),
             _ => random.pick(&[1500, 1499, 1000, 1280]),
         };
-        let pins = |has: &dyn Fn(u8) -> bool| (0..=255).filter(|pin| has(*pin)).collect::<Vec<u8>>();
+        let pins = |of: &dyn Fn(u8) -> Presence| (0..=255).filter(|pin| of(*pin) == Presence::Present).collect();
         Maker {
             random,
             drive,
             count,
-            codes: codes().filter(|code| *code != 0x6E || drive.has_bit_jump()).collect(),
-            inputs: pins(&|pin| drive.has_input(pin)),
-            read: pins(&|pin| drive.has_read_output(pin)),
-            written: pins(&|pin| drive.has_written_output(pin)),
+            codes: codes().filter(|code| *code != 0x6E || drive.bit_jump() == Presence::Present).collect(),
+            inputs: pins(&|pin| drive.input(pin)),
+            read: pins(&|pin| drive.read_output(pin)),
+            written: pins(&|pin| drive.written_output(pin)),
             sections: Vec::new(),
         }
     }
@@ -164,11 +179,7 @@ impl Maker<'_> {
             4 => blocks[at] = self.block(0x53, 0),
             5 => blocks[at] = [0x52, low, high, 0, 0, 0, 0, 0],
             6 => blocks[self.count - 1] = self.block(code, 0),
-            7 => {
-                let code = self.random.pick(&[0x63, 0x64, 0x70, 0x71, 0x72, 0x73]);
-                blocks[at] = self.block(code, 0);
-                blocks[at][if code < 0x70 { 2 } else { 1 }] = self.random.byte();
-            }
+            7 => blocks[at] = pin_block(self.random),
             _ => blocks[at] = self.block(code, 0),
         }
     }
@@ -189,7 +200,7 @@ impl Maker<'_> {
             .collect();
     }
 
-    /// A program start and blocks that pass 5 to 8.
+    /// A program start and blocks that pass 5 to 8 and 23.
     fn program(&mut self) -> (usize, Vec<Block>) {
         self.lay_out();
         let mut blocks = Vec::new();
@@ -325,7 +336,7 @@ impl Maker<'_> {
         address as u16
     }
 
-    /// A block of this code that passes 5 to 8.
+    /// A block of this code that passes 5 to 8 and 23.
     fn block(&mut self, code: u8, section: usize) -> Block {
         let mut block = [0; BLOCK_LENGTH];
         block[0] = code;

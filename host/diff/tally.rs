@@ -5,7 +5,12 @@ use reference::number::*;
 use reference::state::State;
 use reference::Answer;
 
-const NUMBERS: usize = 21;
+/// Room for every number, and those that there are.
+const NUMBERS: usize = BOARD_MISSING as usize + 1;
+
+fn numbers() -> impl Iterator<Item = u32> {
+    (SUCCESS..=BAD_CONTENT).chain([BOARD_MISSING])
+}
 
 /// Where a command that was carried out went on.
 #[derive(Clone, Copy, Default)]
@@ -72,7 +77,7 @@ impl Tally {
         }
     }
 
-    /// Prints the whole; gives what was never met: codes and refusal numbers 1 to 20.
+    /// Prints the whole; gives what was never met: codes and numbers.
     pub fn report(&self) -> Vec<String> {
         print_numbers("loads by number", &self.loads);
         print_numbers("writes by number", &self.writes);
@@ -98,9 +103,12 @@ impl Tally {
             let ways = self.ways[*code as usize];
             ways.next + ways.elsewhere + ways.stayed == 0
         };
-        let never_met = |number: &usize| self.loads[*number] + self.steps[*number] + self.writes[*number] == 0;
+        let never_met = |number: &u32| {
+            let at = *number as usize;
+            self.loads[at] + self.steps[at] + self.writes[at] == 0
+        };
         let lost_codes = codes().filter(never_done).map(|code| format!("code {code:02X} never carried out"));
-        let lost_numbers = (0..NUMBERS).filter(never_met).map(|number| format!("number {number} never met"));
+        let lost_numbers = numbers().filter(never_met).map(|number| format!("number {number} never met"));
         lost_codes.chain(lost_numbers).collect()
     }
 }

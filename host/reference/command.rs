@@ -1,6 +1,8 @@
 //! The 57 commands: which bytes each uses, which drive part it needs, the ranges of its operands, its tasks, and what
-//! it may continue with. Judges one block by 5 to 8 (document 01, "Refused because of the input").
+//! it may continue with. Judges one block by 5 to 8 (document 01, "Refused because of the input") and by change
+//! request 3's 23.
 
+use crate::drive::Presence;
 use crate::image::{Block, Header};
 use crate::number::*;
 
@@ -172,14 +174,15 @@ impl Row {
         self.tasks >> task & 1 == 1
     }
 
-    /// 6: "code or pin not on this drive".
-    fn on_drive(&self, header: &Header, block: &Block) -> bool {
+    /// What the drive says of the command and its pin.
+    fn presence(&self, header: &Header, block: &Block) -> Presence {
         let drive = header.drive;
         match self.pin {
-            Pin::None => self.code != 0x6E || drive.has_bit_jump(),
-            Pin::Input(at) => drive.has_input(block[at]),
-            Pin::OutputRead(at) => drive.has_read_output(block[at]),
-            Pin::OutputWritten(at) => drive.has_written_output(block[at]),
+            Pin::None if self.code == 0x6E => drive.bit_jump(),
+            Pin::None => Presence::Present,
+            Pin::Input(at) => drive.input(block[at]),
+            Pin::OutputRead(at) => drive.read_output(block[at]),
+            Pin::OutputWritten(at) => drive.written_output(block[at]),
         }
     }
 
@@ -215,14 +218,18 @@ fn operands_in_range(block: &Block) -> bool {
     }
 }
 
-/// 0, or the first of 5, 6, 7, 8 that a block breaks.
+/// 0, or the first of 5, 6, 7, 8 that a block breaks, 23 "in the place of 6": "when a pin of the kind that the command
+/// uses belongs to a board not fitted that the type may carry".
 pub fn judge(header: &Header, block: &Block) -> u32 {
     let Some(row) = row(block[0]) else {
         return BAD_CODE;
     };
-    if !row.on_drive(header, block) {
-        NOT_ON_DRIVE
-    } else if !row.in_range(header, block) {
+    match row.presence(header, block) {
+        Presence::Present => (),
+        Presence::OnBoard => return BOARD_MISSING,
+        Presence::Never => return NOT_ON_DRIVE,
+    }
+    if !row.in_range(header, block) {
         BAD_OPERAND
     } else if block[1 + row.used..].iter().any(|byte| *byte != 0) {
         UNUSED_NOT_ZERO

@@ -38,7 +38,8 @@ pub fn step(image: &[u8], state: &mut [u8], task: u32, given: Given) -> Answer {
 }
 
 /// The block at the pointer, or none: 17, "lent image's header or length differs from the loaded one, or the block at
-/// the pointer breaks 5 to 12 at the present depth, or a wait is pending there and it is neither 59 nor 5A".
+/// the pointer breaks 5 to 12 at the present depth, or a wait is pending there and it is neither 59 nor 5A". Change
+/// request 3 has 23 in the place of 6: "a step gives 17 for either".
 fn permitted<'a>(image: &'a [u8], state: &State, place: Place) -> Option<&'a Block> {
     let (header, blocks) = image::read(image).ok()?;
     if header != state.header() {

@@ -1,4 +1,4 @@
-//! Load: document 01's refusals 13, 16, 1 to 4, 5 to 8, then walks; an accepted image leaves a fresh state.
+//! Load: document 01's refusals 13, 16, 1 to 4, 5 to 8 and 23, then walks; an accepted image leaves a fresh state.
 
 use crate::answer::Verdict;
 use crate::image::{self, Header};
@@ -26,7 +26,7 @@ pub fn load(image: &[u8], marks: &mut [u8], state: &mut [u8]) -> Verdict {
     verdict
 }
 
-/// "Blocks are judged upwards, 5 before 6, 7, 8"; then what walks say.
+/// "Blocks are judged upwards, 5 before 6, 7, 8", with 23 in the place of 6; then what walks say.
 fn judge_program(header: &Header, blocks: &[u8], marks: &mut [u8]) -> Verdict {
     for number in 0..header.count {
         let refusal = command::judge(header, image::block(blocks, number));

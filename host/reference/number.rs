@@ -52,3 +52,6 @@ pub const OTHER_IMAGE: u32 = 17;
 pub const NOT_RUNNING: u32 = 18;
 pub const ZERO_DIVISOR: u32 = 19;
 pub const BAD_CONTENT: u32 = 20;
+
+/// Change request 3; judged with the input.
+pub const BOARD_MISSING: u32 = 23;

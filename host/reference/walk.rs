@@ -12,7 +12,7 @@ pub fn foreign(block: &Block, task: usize) -> bool {
 }
 
 /// 0, or what a place breaks: "9 command forbidden to the task"; "10 is a call at depth 5" (change request 6); "11 53 at
-/// depth 0; 12 a block it may continue with is past the end". The block has passed 5 to 8 and is no foreign 51.
+/// depth 0; 12 a block it may continue with is past the end". The block has passed 5 to 8 and 23 and is no foreign 51.
 pub fn bad(header: &Header, block: &Block, place: Place) -> u32 {
     let Some(row) = row(block[0]) else {
         return BAD_CODE;
@@ -46,7 +46,7 @@ pub struct Found {
     pub bad: Vec<(Place, u32)>,
 }
 
-/// What all walks say of a program whose blocks passed 5 to 8: 7 at the least foreign 51, else the least bad place.
+/// What all walks say of a program whose blocks have passed: 7 at the least foreign 51, else the least bad place.
 /// Change request 2: "Among bad places the least now counts by block, then task, then depth."
 pub fn judge(header: &Header, blocks: &[u8], marks: &mut [u8]) -> Verdict {
     let found = search(header, blocks, marks);

@@ -35,6 +35,7 @@ use Rattle.cases.specs.Table.{Question, Answer, answerOf, standings, ask
 abbrev quick : Question → Answer
 quick (Question.verdict bytes) = answerOf (verdictFast bytes marksLength)
 quick (Question.lent n) = answerOf (verdictFast caseA n)
+quick (Question.instead one other) = ask (Question.instead one other)
 quick (Question.number bytes) = ask (Question.number bytes)
 quick (Question.passes bytes k) = ask (Question.passes bytes k)
 quick (Question.divided a b) = ask (Question.divided a b)
@@ -44,6 +45,7 @@ quick (Question.requested bytes starts) = ask (Question.requested bytes starts)
 quick-is : (q : Question) → quick q ≡ ask q
 quick-is (Question.verdict bytes) = ap answerOf (fast-is bytes marksLength)
 quick-is (Question.lent n) = ap answerOf (fast-is caseA n)
+quick-is (Question.instead one other) = refl
 quick-is (Question.number bytes) = refl
 quick-is (Question.passes bytes k) = refl
 quick-is (Question.divided a b) = refl
@@ -61,13 +63,13 @@ computed : given table ≡ expected table
 unfolding table
     wrap.word wrap.wrap ops.quotient
     types.takes types.cycleOf
-    homes.outputsWritten homes.homeIn homes.homeOf pins.onBoard pins.presence pins.pinOf pins.refusalOf
+    homes.inputs homes.outputsWritten homes.homeIn homes.homeOf pins.onBoard pins.presence pins.pinOf
     number.secondByte number.firstByte number.numberAt
     header.formatRow header.typeRow header.slotBRow header.slotCRow header.countInRange header.countRow header.judged
     scan.taken scan.more scan.scan scan.firstRefusal scan.lengthOutcome scan.readWith scan.closed scan.headerOf scan.blocksOf
     rows.rows rows.rowIn rows.rowOf
     operands.laidOut operands.operands operands.usedBytes operands.allZero operands.unusedZero
-    judged.deviceRefusal judged.inRange judged.judgedBy judged.decodedBy judged.decoded
+    judged.devicePresence judged.inRange judged.operandFault judged.commandFault judged.rowFault judged.blockFault
     flow.flowBy flow.flowOf
     tasks.foreign tasks.permitted fault.flowFault fault.faultOf
     program.commandAt program.faultAt

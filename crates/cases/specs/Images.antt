@@ -21,17 +21,25 @@ abbrev pub bytesOf : List (List ℕ) → List ℕ
 bytesOf [] = []
 bytesOf (b ∷ bs) = b ++ bytesOf bs
 
--- four numbers: format 1, a type, both slots empty
-abbrev pub headerFor : ℕ → List ℕ → List ℕ
-headerFor model rest = hex 0 1 ∷ model ∷ hex 0 0 ∷ hex 0 0 ∷ rest
+-- four numbers: format 1, a type, the boards in slots B and C
+abbrev pub headerWith : ℕ → ℕ → ℕ → List ℕ → List ℕ
+headerWith model b c rest = hex 0 1 ∷ model ∷ b ∷ c ∷ rest
 
--- those of every example but J's second: type 2, a 637
+-- both slots empty
+abbrev pub headerFor : ℕ → List ℕ → List ℕ
+headerFor model = headerWith model 0 0
+
+-- those of every example of document 01 but J's second: type 2, a 637
 abbrev pub header : List ℕ → List ℕ
 header = headerFor (hex 0 2)
 
--- an image for a type of drive that begins at block 0
+-- an image for a type of drive with these boards that begins at block 0
+abbrev pub imageWith : ℕ → ℕ → ℕ → List (List ℕ) → List ℕ
+imageWith model b c blocks = headerWith model b c (0 ∷ length blocks ∷ bytesOf blocks)
+
+-- the same with both slots empty
 abbrev pub imageFor : ℕ → List (List ℕ) → List ℕ
-imageFor model blocks = headerFor model (0 ∷ length blocks ∷ bytesOf blocks)
+imageFor model = imageWith model 0 0
 
 -- an image that begins at a block
 abbrev pub imageAt : ℕ → List (List ℕ) → List ℕ

@@ -23,11 +23,13 @@ use Rattle.machine.specs.Given.{Given, Inputs}
 use Rattle.machine.specs.Effect.{effectOf, variable}
 use Rattle.machine.specs.Engine.{step}
 use Rattle.machine.specs.declared.Out.{Out}
+use Rattle.machine.specs.declared.Answer as machine
+use Rattle.machine.specs.Numbers.{answerNumber, answerPlace, answerTask, answerDepth}
 use Rattle.machine.specs.Run.{outs, stateAfter}
 use Rattle.machine.specs.Theorem.{loaded}
 use Rattle.machine.specs.declared.Motion.{Motion}
 use Rattle.machine.specs.declared.Motion.the-variants.{None, MoveTo}
-use Rattle.cases.specs.Images.{block, plain, toward, header, image, imageFor, imageAt, blockA, caseA, chain}
+use Rattle.cases.specs.Images.{block, plain, toward, header, image, imageWith, imageFor, imageAt, blockA, caseA, chain}
 
 -- ---- names
 
@@ -49,6 +51,9 @@ pub data Name : Type 0 where
   marksOf : ℕ → Name
   blockBeforeTask : Name
   taskBeforeDepth : Name
+  -- a type and the boards in its slots B and C
+  onDrive : ℕ → ℕ → ℕ → Name
+  lentInstead : Name
   heldStart : Name
   startMark : Name
 
@@ -59,6 +64,8 @@ pub data Question : Type 0 where
   verdict : List ℕ → Question
   -- the verdict on case A with so many bytes of marks
   lent : ℕ → Question
+  -- the answer of BIAS's first step after a load of the first image, with the second lent in its place
+  instead : List ℕ → List ℕ → Question
   -- the number at place 0 of these bytes
   number : List ℕ → Question
   -- where BIAS stands before and after its step k of an image, the first being step 0
@@ -79,7 +86,7 @@ abbrev pub stand : ℕ → ℕ → ℕ → Stand
 stand block time turns = record { block = block; time = time; turns = turns }
 
 pub data Answer : Type 0 where
-  -- document 01's number, then byte or block, task and depth; all 0 for an image that is accepted
+  -- document 01's number, then byte or block, task and depth; all 0 for an image that is accepted and a step that is carried out
   refusal : ℕ → ℕ → ℕ → ℕ → Answer
   value : ℕ → Answer
   -- document 01's number
@@ -93,6 +100,9 @@ accepted = refusal 0 0 0 0
 
 abbrev pub answerOf : Verdict → Answer
 answerOf v = refusal (verdictNumber v) (verdictPlace v) (verdictTask v) (verdictDepth v)
+
+abbrev pub stepAnswerOf : machine.Answer → Answer
+stepAnswerOf a = refusal (answerNumber a) (answerPlace a) (answerTask a) (answerDepth a)
 
 abbrev pub valueOf : Number → Answer
 valueOf (Value v next) = value v
@@ -123,6 +133,7 @@ motionsOf = map (λ (o : Out). o .motion)
 abbrev pub ask : Question → Answer
 ask (verdict bytes) = answerOf (verdictOf bytes marksLength)
 ask (lent n) = answerOf (verdictOf caseA n)
+ask (instead loadedImage lentImage) = stepAnswerOf (step lentImage (loaded loadedImage) (biasStep 0) .answer)
 ask (number bytes) = valueOf (numberAt bytes 0)
 ask (passes bytes k) = standings bytes (stateAfter bytes (loaded bytes) (replicate k (biasStep 0)))
 ask (divided a b) = whole (resultOf (command (hex 8 5) 0 1 0 0 b) a b)
@@ -149,6 +160,16 @@ marked = image (plain (hex 0 14) ∷ plain (hex 0 0) ∷ toward (hex 5 5) 1 ∷ 
 -- a wait of 1000 ms, then a jump back to it, on a type of drive
 abbrev pub waiter : ℕ → List ℕ
 waiter model = imageFor model (block (hex 5 9) (hex 15 4) 1 0 ∷ blockA ∷ [])
+
+-- 72, an output set; 63, flag 0 read from an input; 6E, a jump to block 0 by bit 0 of variable 0
+abbrev pub outputSet : ℕ → List ℕ
+outputSet pin = block (hex 7 2) pin 1 0
+
+abbrev pub inputRead : ℕ → List ℕ
+inputRead pin = block (hex 6 3) 0 pin 0
+
+abbrev pub bitJump : List ℕ
+bitJump = plain (hex 6 14)
 
 unfoldable pub table : List Row
 table =
@@ -198,6 +219,30 @@ table =
     row blockBeforeTask (verdict (image (toward (hex 5 4) 1 ∷ plain (hex 2 0) ∷ plain (hex 5 0) ∷ []))) (refusal 9 1 1 0) ∷
     -- change request 2, 54 03, 52 03, 55 02, 50: at block 3 the 12 of BIAS at depth 1 comes before the PLC's at depth 0
     row taskBeforeDepth (verdict (image (toward (hex 5 4) 3 ∷ toward (hex 5 2) 3 ∷ toward (hex 5 5) 2 ∷ plain (hex 5 0) ∷ []))) (refusal 12 3 0 1) ∷
+    -- change request 3, 72 D9 01 on type 2: 23, pin 217 is on RP-EAE, which goes into slot C
+    row (onDrive 2 0 0) (verdict (imageWith 2 0 0 (outputSet (hex 13 9) ∷ []))) (refusal 23 0 0 0) ∷
+    -- with slot C 1, and A's block behind it: accepted
+    row (onDrive 2 0 1) (verdict (imageWith 2 0 1 (outputSet (hex 13 9) ∷ blockA ∷ []))) accepted ∷
+    -- on type 0, which takes no board: 6
+    row (onDrive 0 0 0) (verdict (imageWith 0 0 0 (outputSet (hex 13 9) ∷ []))) (refusal 6 0 0 0) ∷
+    -- change request 3, 72 7D 01 on type 2: 6, pin 125 is on RP-2C8, which only type 4 takes
+    row (onDrive 2 0 0) (verdict (imageWith 2 0 0 (outputSet (hex 7 13) ∷ []))) (refusal 6 0 0 0) ∷
+    -- on type 4 with slot B empty, or with RP-EA5 there: 23
+    row (onDrive 4 0 0) (verdict (imageWith 4 0 0 (outputSet (hex 7 13) ∷ []))) (refusal 23 0 0 0) ∷
+    row (onDrive 4 1 0) (verdict (imageWith 4 1 0 (outputSet (hex 7 13) ∷ []))) (refusal 23 0 0 0) ∷
+    -- change request 3, 63 00 65 on type 2: 23, pin 101 is an input of RP-EA5
+    row (onDrive 2 0 0) (verdict (imageWith 2 0 0 (inputRead (hex 6 5) ∷ []))) (refusal 23 0 0 0) ∷
+    -- 72 65 01, an input set as an output: 6
+    row (onDrive 2 0 0) (verdict (imageWith 2 0 0 (outputSet (hex 6 5) ∷ []))) (refusal 6 0 0 0) ∷
+    -- 72 D9 02: 23 comes before the 7 of a level above 1
+    row (onDrive 2 0 0) (verdict (imageWith 2 0 0 (block (hex 7 2) (hex 13 9) 2 0 ∷ []))) (refusal 23 0 0 0) ∷
+    -- 6E on type 3: 6, which no board mends
+    row (onDrive 3 0 0) (verdict (imageWith 3 0 0 (bitJump ∷ []))) (refusal 6 0 0 0) ∷
+    -- change request 3, a step at a block that 23, or 6, refuses: 17 for either
+    row lentInstead (instead (image (outputSet 12 ∷ blockA ∷ [])) (image (outputSet (hex 13 9) ∷ blockA ∷ []))) (refusal 17 0 0 0) ∷
+    row lentInstead (instead (image (outputSet 12 ∷ blockA ∷ [])) (image (outputSet 8 ∷ blockA ∷ []))) (refusal 17 0 0 0) ∷
+    -- at a block that neither refuses it is carried out
+    row lentInstead (instead (image (outputSet 12 ∷ blockA ∷ [])) (image (outputSet 13 ∷ blockA ∷ []))) accepted ∷
     -- faults: a start input that is high at load is no slope; one that is low and then high is
     row heldStart (requested mover (1 ∷ 1 ∷ 0 ∷ 1 ∷ [])) (motions (None ∷ None ∷ None ∷ MoveTo startAxis ∷ [])) ∷
     -- the start mark of 0E starts a move without a slope, which clears it

@@ -1,4 +1,4 @@
--- The device and the ranges of every code are entries of their lists: the defaults of `deviceRefusal` and `inRange`, which let pass, are asked of none.
+-- The device and the ranges of every code are entries of their lists: the defaults of `devicePresence` and `inRange`, which let pass, are asked of none.
 -- Assumes nothing.
 use Prim.Native.Nat.{ℕ, _<_}
 use lib.ListN.{length}

@@ -1,5 +1,5 @@
--- A block judged for the drive and the block count of a header: 5, then 6, 7, 8 (document 01, "Refused because of the input"). Which device
--- and which ranges a code asks for stands in its row. Assumes nothing.
+-- A block judged for the drive and the block count of a header: 5, then 6 or 23, then 7, then 8 (document 01, "Refused because of the input";
+-- change request 3 splits 23 off 6). Which device and which ranges a code asks for stands in its row. Assumes nothing.
 use Prim.Native.Nat.{ℕ, _+_}
 use mathlib.Core.Bool.{Bool, true, _&&_, not, cond}
 use mathlib.Core.List.{List, [], _∷_}
@@ -8,42 +8,39 @@ use lib.Dec.{eqb, ltb, leb}
 use lib.IntN.{pos}
 use Rattle.arith.specs.Ops.{eqZ}
 use Rattle.drive.specs.Types.{type637Plus}
-use Rattle.drive.specs.Pins.{pinOf, refusalOf}
+use Rattle.drive.specs.Pins.{pinOf}
 use Rattle.drive.specs.declared.Drive.{Drive}
-use Rattle.pins.specs.declared.PinKind.{PinKind}
 use Rattle.pins.specs.declared.PinKind.the-variants.{Input, OutputWritten, OutputRead}
-use Rattle.drive.specs.declared.Presence.the-variants.{Present, Never}
+use Rattle.drive.specs.declared.Presence.{Presence}
+use Rattle.drive.specs.declared.Presence.the-variants as presence
 use Rattle.image.specs.declared.Header.{Header}
 use Rattle.rows.specs.Rows.{rowOf}
 use Rattle.rows.specs.declared.Row.{Row}
 use Rattle.operands.specs.Operands.{byteAt, laidOut, unusedZero}
 use Rattle.operands.specs.declared.Command.{Command}
-use Rattle.command.specs.declared.Decoded.{Decoded}
-use Rattle.command.specs.declared.Decoded.the-variants.{Sound, NotCarried, NotOnDrive, OutOfRange, NotZero}
+use Rattle.command.specs.declared.BlockFault.{BlockFault}
+use Rattle.command.specs.declared.BlockFault.the-variants.{Fine, NotCarried, NotOnDrive, BoardMissing, OutOfRange, NotZero}
 
--- ---- 6: what the drive must have, by the row's device
+-- ---- 6 and 23: what the drive must have, by the row's device
 
-abbrev pub pinRefusal : Drive → PinKind → ℕ → ℕ
-pinRefusal d kind pin = refusalOf (pinOf d kind pin)
-
-abbrev pub notOn637Plus : Drive → ℕ
-notOn637Plus d = refusalOf (cond (eqb (d .model) type637Plus) Never Present)
+abbrev pub notOn637Plus : Drive → Presence
+notOn637Plus d = cond (eqb (d .model) type637Plus) presence.Never presence.Present
 
 -- for the operands x and y
-abbrev pub devices : List (Drive → ℕ → ℕ → ℕ)
+abbrev pub devices : List (Drive → ℕ → ℕ → Presence)
 devices =
-    (λ d x y. 0) ∷  -- 0, noDevice
-    (λ d x y. pinRefusal d Input x) ∷  -- 1, inputX
-    (λ d x y. pinRefusal d Input y) ∷  -- 2, inputY
-    (λ d x y. pinRefusal d OutputRead x) ∷  -- 3, outputReadX
-    (λ d x y. pinRefusal d OutputRead y) ∷  -- 4, outputReadY
-    (λ d x y. pinRefusal d OutputWritten x) ∷  -- 5, outputWrittenX
+    (λ d x y. presence.Present) ∷  -- 0, noDevice
+    (λ d x y. pinOf d Input x) ∷  -- 1, inputX
+    (λ d x y. pinOf d Input y) ∷  -- 2, inputY
+    (λ d x y. pinOf d OutputRead x) ∷  -- 3, outputReadX
+    (λ d x y. pinOf d OutputRead y) ∷  -- 4, outputReadY
+    (λ d x y. pinOf d OutputWritten x) ∷  -- 5, outputWrittenX
     (λ d x y. notOn637Plus d) ∷  -- 6, not637Plus
     []
 
--- document 01's number, 0 where the drive has it
-unfoldable pub deviceRefusal : ℕ → Drive → ℕ → ℕ → ℕ
-deviceRefusal n = getD devices n (λ d x y. 0)
+-- whether the drive has it
+unfoldable pub devicePresence : ℕ → Drive → ℕ → ℕ → Presence
+devicePresence n = getD devices n (λ d x y. presence.Present)
 
 -- ---- 7: the operands' ranges, by the row's ranges
 
@@ -136,24 +133,31 @@ inRange n = getD ranges n (λ count c. true)
 
 -- ---- the block
 
--- the operands c of a block b whose code has the row r
-unfoldable pub judgedBy : Row → Header → List ℕ → Command → Decoded
-judgedBy r h b c =
-    cond (eqb (deviceRefusal (r .device) (h .drive) (c .x) (c .y)) 0)
-    (cond (inRange (r .ranges) (h .count) c) (cond (unusedZero (r .layout) b) (Sound c) NotZero) OutOfRange)
-    (NotOnDrive (deviceRefusal (r .device) (h .drive) (c .x) (c .y)))
+-- 7, then 8: the operands c of a block b whose code has the row r, in an image of `count` blocks
+unfoldable pub operandFault : Row → ℕ → List ℕ → Command → BlockFault
+operandFault r count b c = cond (inRange (r .ranges) count c) (cond (unusedZero (r .layout) b) Fine NotZero) OutOfRange
+
+-- 23 where a board that the type may carry has the pin, 6 where the type never has it, and else what comes after them
+abbrev pub ifPresent : Presence → BlockFault → BlockFault
+ifPresent presence.Present later = later
+ifPresent presence.BoardMissing later = BoardMissing
+ifPresent presence.Never later = NotOnDrive
+
+unfoldable pub commandFault : Row → Header → List ℕ → Command → BlockFault
+commandFault r h b c = ifPresent (devicePresence (r .device) (h .drive) (c .x) (c .y)) (operandFault r (h .count) b c)
 
 -- by its code's row; a row of layout 0 is none
-unfoldable pub decodedBy : Row → Header → List ℕ → Decoded
-decodedBy r h b = cond (eqb (r .layout) 0) NotCarried (judgedBy r h b (laidOut (r .layout) b))
+unfoldable pub rowFault : Row → Header → List ℕ → BlockFault
+rowFault r h b = cond (eqb (r .layout) 0) NotCarried (commandFault r h b (laidOut (r .layout) b))
 
-unfoldable pub decoded : Header → List ℕ → Decoded
-decoded h b = decodedBy (rowOf (byteAt b 0)) h b
+unfoldable pub blockFault : Header → List ℕ → BlockFault
+blockFault h b = rowFault (rowOf (byteAt b 0)) h b
 
--- document 01's number
-abbrev pub blockRefusal : Decoded → ℕ
-blockRefusal (Sound c) = 0
-blockRefusal NotCarried = 5
-blockRefusal (NotOnDrive n) = n
-blockRefusal OutOfRange = 7
-blockRefusal NotZero = 8
+-- document 01's number, and change request 3's
+abbrev pub blockFaultNumber : BlockFault → ℕ
+blockFaultNumber Fine = 0
+blockFaultNumber NotCarried = 5
+blockFaultNumber NotOnDrive = 6
+blockFaultNumber BoardMissing = 23
+blockFaultNumber OutOfRange = 7
+blockFaultNumber NotZero = 8

@@ -1,62 +1,77 @@
-// A block decoded and judged (document 01, refusals 5 to 8): its operands, where its code's row has them, or why it is refused.
-// Crate `operands` reads the operands, devices.rt asks the drive, ranges.rt judges the operands.
+// A block judged (document 01, refusals 5 to 8, and change request 3, which splits 23 off 6). Crate `operands` reads the operands, devices.rt asks
+// the drive, ranges.rt judges the operands.
+use drive::Presence;
 use image::Header;
 use operands::Command;
 use rows::Row;
 ghost use mathlib.Core.Path.{_≡_};
-ghost use Rattle.command.specs.Judged.{judgedBy, decoded, blockRefusal};
+ghost use Rattle.command.specs.Judged.{operandFault, commandFault, blockFault, blockFaultNumber};
 
 pub mod devices;
 pub mod ranges;
 
-// A block judged: its command, or the first of 5 to 8 that it breaks. What is not on the drive carries its own number.
-pub enum Decoded {
-    Sound(Command),
+// What is wrong with a block, the first in this order; of NotOnDrive and BoardMissing only one can be.
+pub enum BlockFault {
+    Fine,
+    // no command that we carry has its code
     NotCarried,
-    NotOnDrive(u32),
+    // the drive's type has not the command, or never the pin
+    NotOnDrive,
+    // a board that the type may carry has the pin, and is not fitted
+    BoardMissing,
+    // an operand is out of range
     OutOfRange,
+    // a byte that the command does not use is not 0
     NotZero,
 }
 
-impl Decoded {
-    // Document 01's number, 0 for a sound block.
+impl BlockFault {
+    // Document 01's number, 0 for none.
     pub fn number(self) -> u32
-        ensures { λ r. ⌜ r ≡ blockRefusal self ⌝ }
+        ensures { λ r. ⌜ r ≡ blockFaultNumber self ⌝ }
     {
         match self {
-            Decoded::Sound(_) => 0,
-            Decoded::NotCarried => 5,
-            Decoded::NotOnDrive(number) => number,
-            Decoded::OutOfRange => 7,
-            Decoded::NotZero => 8,
+            BlockFault::Fine => 0,
+            BlockFault::NotCarried => 5,
+            BlockFault::NotOnDrive => 6,
+            BlockFault::BoardMissing => 23,
+            BlockFault::OutOfRange => 7,
+            BlockFault::NotZero => 8,
         }
     }
 }
 
 // A block of an image with this header.
-pub fn decode(header: Header, block: [u8; 8]) -> Decoded
-    ensures { λ r. ⌜ r ≡ decoded header block ⌝ }
+pub fn judge(header: Header, block: [u8; 8]) -> BlockFault
+    ensures { λ r. ⌜ r ≡ blockFault header block ⌝ }
 {
     let row = rows::find(block[0]);
     if row.layout == 0 {
-        return Decoded::NotCarried;
+        return BlockFault::NotCarried;
     }
-    judge(row, header, block, operands::lay_out(row.layout, block))
+    judge_command(row, header, block, operands::lay_out(row.layout, block))
 }
 
-// A block whose code has this row, with its operands c.
-fn judge(row: Row, header: Header, block: [u8; 8], c: Command) -> Decoded
-    ensures { λ r. ⌜ r ≡ judgedBy row header block c ⌝ }
+// A block whose code has this row, with its operands c: what the drive must have, then the operands.
+fn judge_command(row: Row, header: Header, block: [u8; 8], c: Command) -> BlockFault
+    ensures { λ r. ⌜ r ≡ commandFault row header block c ⌝ }
 {
-    let refusal = devices::refusal(row.device, header.drive, c.x, c.y);
-    if refusal != 0 {
-        return Decoded::NotOnDrive(refusal);
+    match devices::presence(row.device, header.drive, c.x, c.y) {
+        Presence::Present => judge_operands(row, header.count, block, c),
+        Presence::BoardMissing => BlockFault::BoardMissing,
+        Presence::Never => BlockFault::NotOnDrive,
     }
-    if !ranges::in_range(row.ranges, header.count, c) {
-        return Decoded::OutOfRange;
+}
+
+// The operands of a block of an image of `count` blocks: their ranges, then the bytes that the command does not use.
+fn judge_operands(row: Row, count: u16, block: [u8; 8], c: Command) -> BlockFault
+    ensures { λ r. ⌜ r ≡ operandFault row count block c ⌝ }
+{
+    if !ranges::in_range(row.ranges, count, c) {
+        return BlockFault::OutOfRange;
     }
     if !operands::unused_zero(row.layout, block) {
-        return Decoded::NotZero;
+        return BlockFault::NotZero;
     }
-    Decoded::Sound(c)
+    BlockFault::Fine
 }

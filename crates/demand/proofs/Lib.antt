@@ -3,3 +3,4 @@ pub mod Loads
 pub mod Runs
 pub mod Demand
 pub mod Apart
+pub mod Boards

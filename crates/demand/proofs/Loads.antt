@@ -85,7 +85,7 @@ module _ (image : List ℕ) (n : ℕ) (b : List ℕ) where
   not-accepted verdict.Accepted d = absurd (d refl)
   not-accepted (verdict.MarksShort m) d = refl
   not-accepted (verdict.Image o) d = refl
-  not-accepted (verdict.Block m k) d = refl
+  not-accepted (verdict.Block f k) d = refl
   not-accepted (verdict.Foreign k) d = refl
   not-accepted (verdict.Bad f p) d = refl
 

@@ -95,7 +95,7 @@ EveryRun = (image : List ℕ) (n : ℕ) (b : List ℕ) → Bytes image → load 
 
 -- ---- part 7: loads
 
--- 13, then 16, then what the image comes to (walk/specs/Says.antt): the header, the first block that 5 to 8 refuse, and else what walks say
+-- 13, then 16, then what the image comes to (walk/specs/Says.antt): the header, the first block that 5 to 8 or 23 refuse, and else what walks say
 pub data Loads (image : List ℕ) (n : ℕ) (b : List ℕ) : BiasVerdict → Type 0 where
   marks : n < marksLength → Loads image n b (verdictFor (MarksShort n))
   buffer : marksLength ≤ n → (length b ≡ bufferLength → ⊥) → Loads image n b (numbered noState 0)
@@ -113,7 +113,7 @@ EveryLoad = (image : List ℕ) (n : ℕ) (b : List ℕ) → LoadOf image n b
 
 -- header, blocks and lent lengths are well formed
 pub record WellFormed (image : List ℕ) (n : ℕ) (b : List ℕ) : Type 0 where
-  -- 13, 16, 1 to 4 and, of each block by itself, 5 to 8 let them pass
+  -- 13, 16, 1 to 4 and, of each block by itself, 5 to 8 and 23 let them pass
   pub marks : marksLength ≤ n
   pub buffer : length b ≡ bufferLength
   pub header : done (headerOf image .outcome) ≡ true

@@ -109,7 +109,7 @@ pub no-type : (d : Drive) → 5 ≤ d .model → ((kind : PinKind) (pin : ℕ) �
 unfolding pinOf
 no-type d h = (λ kind pin. nothing d h (homeOf kind pin), no-cycle (d .model) h)
 
--- whether a 631, or else another type, can have what is at a home
+-- whether a 631, or else another type, can have what is at a home, by the drive itself or a board
 abbrev on : Bool → Home → Bool
 on is631 Nowhere = false
 on is631 Only631 = is631
@@ -117,19 +117,20 @@ on is631 Others = not is631
 on is631 (SlotB b) = true
 on is631 (SlotC b) = true
 
-has : (d : Drive) (h : Home) → presence d h ≡ Present → T (on (eqb (d .model) 0) h)
+-- what a drive has, or would have with another board
+has : (d : Drive) (h : Home) → (presence d h ≡ Never → ⊥) → T (on (eqb (d .model) 0) h)
 unfolding presence
-has d Nowhere p = absurd (never-present p)
+has d Nowhere p = p refl
 has d Only631 p = only (eqb (d .model) 0) p
   where
-    only : (b : Bool) → cond b Present Never ≡ Present → T b
-    only true e = tt
-    only false e = never-present e
+    only : (b : Bool) → (cond b Present Never ≡ Never → ⊥) → T b
+    only true n = tt
+    only false n = n refl
 has d Others p = others (eqb (d .model) 0) _ p
   where
-    others : (b : Bool) (x : Presence) → cond b Never x ≡ Present → T (not b)
-    others true x e = never-present e
-    others false x e = tt
+    others : (b : Bool) (x : Presence) → (cond b Never x ≡ Never → ⊥) → T (not b)
+    others true x n = n refl
+    others false x n = tt
 has d (SlotB b) p = tt
 has d (SlotC b) p = tt
 
@@ -146,8 +147,8 @@ clash : (b : Bool) (h g : Home) → T (apart h g) → T (on b h) → T (on b g) 
 clash true h g t p q = hit (on true h) (on true g) (left (not (both (on true h) (on true g))) (not (both (on false h) (on false g))) t) p q
 clash false h g t p q = hit (on false h) (on false g) (right (not (both (on true h) (on true g))) (not (both (on false h) (on false g))) t) p q
 
--- on no drive is a pin both an input and an output that can be read
-pub never-both : (d : Drive) (pin : ℕ) → pin < 256 → pinOf d Input pin ≡ Present → pinOf d OutputRead pin ≡ Present → ⊥
+-- a pin that a drive has as an input, or would have with another board, it never has as an output that can be read
+pub never-both : (d : Drive) (pin : ℕ) → pin < 256 → (pinOf d Input pin ≡ Never → ⊥) → (pinOf d OutputRead pin ≡ Never → ⊥) → ⊥
 unfolding pinOf homeOf homeIn inputs outputsRead outputsWritten
 never-both d pin h p q =
     clash (eqb (d .model) 0) (homeIn inputs pin) (homeIn outputsRead pin)

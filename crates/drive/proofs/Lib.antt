@@ -1,3 +1,4 @@
 mod Cases
 mod Below
 pub mod Laws
+pub mod Boards

@@ -26,9 +26,3 @@ presence d (SlotC b) = onBoard (takesC (d .model) b) b (d .c)
 -- whether a drive has a pin, used in this way
 unfoldable pub pinOf : Drive → PinKind → ℕ → Presence
 pinOf d kind pin = presence d (homeOf kind pin)
-
--- document 01's number for it: both kinds of absence are 6 (request 3 will tell them apart)
-unfoldable pub refusalOf : Presence → ℕ
-refusalOf Present = 0
-refusalOf BoardMissing = 6
-refusalOf Never = 6

@@ -3,7 +3,7 @@ use pins::Home;
 use pins::PinKind;
 ghost use mathlib.Core.Path.{_≡_};
 ghost use Rattle.drive.specs.Types.{cycleOf, takes, takesB, takesC};
-ghost use Rattle.drive.specs.Pins.{onBoard, presence, pinOf, refusalOf};
+ghost use Rattle.drive.specs.Pins.{onBoard, presence, pinOf};
 
 // A drive as the header of an image names it: its model (document 01: type), and the numbers of the boards in its slots B and C.
 pub struct Drive {
@@ -77,19 +77,6 @@ impl Drive {
         ensures { λ r. ⌜ r ≡ pinOf self kind pin ⌝ }
     {
         found(self, pins::home_of(kind, pin))
-    }
-}
-
-impl Presence {
-    // Document 01's number: 0 for a pin that is present, else 6.
-    pub fn refusal(self) -> u32
-        ensures { λ r. ⌜ r ≡ refusalOf self ⌝ }
-    {
-        match self {
-            Presence::Present => 0,
-            Presence::BoardMissing => 6,
-            Presence::Never => 6,
-        }
     }
 }
 

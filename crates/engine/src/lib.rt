@@ -95,7 +95,7 @@ fn noted(t: u8, start: u8, v: Values) -> Values
     v
 }
 
-// 17: whether the lent image is the loaded one, the block at the pointer passes 5 to 12 there, and a pending wait stands at a wait.
+// 17: whether the lent image is the loaded one, the block at the pointer passes 5 to 12 and 23 there, and a pending wait stands at a wait.
 fn fits(image: &[u8], header: Header, t: u8, k: Task) -> bool
     ensures { λ r. ⌜ r ≡ fits (now (image .entry)) header t k ⌝ }
 {
@@ -113,12 +113,13 @@ fn is_loaded(image: &[u8], header: Header) -> bool
     outcome.is_done() & same_header(read.header, header)
 }
 
-// Whether the block at a task's pointer passes 5 to 8, and 9 to 12 where the task is.
+// Whether the block at a task's pointer passes 5 to 8 and 23 by itself, and 9 to 12 where the task is.
 fn block_fits(header: Header, blocks: &[u8], t: u8, k: Task) -> bool
     ensures { λ r. ⌜ r ≡ blockFits header (now (blocks .entry)) t k ⌝ }
 {
     let fault = fetch::fault_at(header, blocks, point_of(t, k));
-    (fetch::block_number(header, blocks, k.block) == 0) & (fault.number() == 0)
+    let block_fault = fetch::block_fault_at(header, blocks, k.block);
+    (block_fault.number() == 0) & (fault.number() == 0)
 }
 
 // The command at a task's block.

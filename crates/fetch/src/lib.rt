@@ -1,5 +1,6 @@
-// The blocks of an image one by one: the bytes of a block, its command, its refusal by 5 to 8, and what it breaks at a point. Blocks are any bytes:
+// The blocks of an image one by one: the bytes of a block, its command, what is wrong with it by itself, and what it breaks at a point. Blocks are any bytes:
 // a byte past their end is read as 0.
+use command::BlockFault;
 use fault::Fault;
 use image::Header;
 use image::reader;
@@ -7,7 +8,7 @@ use operands::Command;
 use point::Point;
 ghost use mathlib.Core.Path.{_≡_};
 ghost use lib.ListN.{getD};
-ghost use Rattle.walk.specs.Program.{blockAt, blockNumber, commandAt, faultAt};
+ghost use Rattle.walk.specs.Program.{blockAt, blockFaultAt, commandAt, faultAt};
 
 // What the command at a point breaks there.
 pub fn fault_at(header: Header, blocks: &[u8], p: Point) -> Fault
@@ -49,10 +50,9 @@ fn byte_at(bytes: &[u8], at: usize) -> u8
     0
 }
 
-// The refusal of a block by 5 to 8, 0 for none.
-pub fn block_number(header: Header, blocks: &[u8], b: u16) -> u32
-    ensures { λ r. ⌜ r ≡ blockNumber header (now (blocks .entry)) b ⌝ }
+// What is wrong with a block by itself, by 5 to 8 or 23.
+pub fn block_fault_at(header: Header, blocks: &[u8], b: u16) -> BlockFault
+    ensures { λ r. ⌜ r ≡ blockFaultAt header (now (blocks .entry)) b ⌝ }
 {
-    let decoded = command::decode(header, block_at(blocks, b));
-    decoded.number()
+    command::judge(header, block_at(blocks, b))
 }

@@ -93,7 +93,7 @@ pub record Fresh (first : ℕ) (marks : List ℕ) : Type 0 where
 unfoldable pub lowered : Header → List ℕ → ℕ → ℕ → ℕ
 lowered h bs i found = cond (isForeign (faultAt h bs (pointAt i))) (lesser (pointAt i .block) found) found
 
--- the first of the header's blocks that 5 to 8 refuse, or the count
+-- the first of the header's blocks that 5 to 8 or 23 refuse, or the count
 pub record FirstRefused (h : Header) (bs : List ℕ) (b : ℕ) : Type 0 where
   pub most : b ≤ h .count
   pub before : (a : ℕ) → a < b → blockNumber h bs a ≡ 0

@@ -14,7 +14,7 @@ ghost use Rattle.loader.specs.Search.{Ready, FirstRefused};
 
 mod search;
 
-// The verdict on an image: 13, then 1 to 8, then the least 51 that ends another task (7), then the least bad point (9 to 12). The search works in
+// The verdict on an image: 13, then 1 to 4, then 5 to 8 and 23 of the blocks, then the least 51 that ends another task (7), then the least bad point (9 to 12). The search works in
 // the first MARKS_LENGTH bytes of marks, which may hold anything; no byte behind them is touched.
 pub fn judge(image: &[u8], marks: &mut [u8]) -> Verdict
     ensures { λ r. ⌜ r ≡ verdictOf (now (image .entry)) (length (now (marks .entry))) ⌝ }
@@ -52,7 +52,7 @@ fn kept_length(verdict: Verdict, length: usize) -> usize
     length
 }
 
-// The blocks of an image with this header, judged upwards by 5 to 8, then the walks.
+// The blocks of an image with this header, judged upwards by 5 to 8 and 23, then the walks.
 fn judge_blocks(header: Header, blocks: &[u8], marks: &mut [u8]) -> Verdict
     requires { ⌜ Ready header ⌝ }
     requires { ⌜ marksLength ≤ length (now marks) ⌝ }
@@ -61,18 +61,19 @@ fn judge_blocks(header: Header, blocks: &[u8], marks: &mut [u8]) -> Verdict
 {
     let b = first_refused(header, blocks);
     if b < header.count {
-        return Verdict::Block(fetch::block_number(header, blocks, b), b as usize);
+        return Verdict::Block(fetch::block_fault_at(header, blocks, b), b as usize);
     }
     search::judge_walks(header, blocks, marks, MARKS_LENGTH)
 }
 
-// The first block that 5 to 8 refuse, the count where there is none.
+// The first block that 5 to 8 or 23 refuse, the count where there is none.
 fn first_refused(header: Header, blocks: &[u8]) -> u16
     ensures { λ r. ⌜ FirstRefused header (now (blocks .entry)) r ⌝ }
 {
     let mut b: u16 = 0;
     while b < header.count {
-        if fetch::block_number(header, blocks, b) != 0 {
+        let fault = fetch::block_fault_at(header, blocks, b);
+        if fault.number() != 0 {
             return b;
         }
         b += 1;

@@ -1,4 +1,4 @@
--- What 5 to 8 promise of the command of a block that they let pass: its operands are in the ranges of its row, and numbers of their width. Assumes nothing.
+-- What 5 to 8 and 23 promise of the command of a block that they let pass: its operands are in the ranges of its row, and numbers of their width. Assumes nothing.
 use Prim.Native.Nat.{ℕ, _+_, _*_, _%_, _<_, _≤_}
 use mathlib.Core.Path.{_≡_, refl}
 use mathlib.Core.Bool.{Bool, true, false, cond}
@@ -15,9 +15,11 @@ use Rattle.image.specs.declared.Header.{Header}
 use Rattle.rows.specs.Rows.{rowOf}
 use Rattle.rows.specs.declared.Row.{Row}
 use Rattle.operands.specs.Operands.{byteAt, wordAt, valueAt, bareOf, layouts, laidOut, operands, unusedZero}
-use Rattle.command.specs.Judged.{decoded, decodedBy, judgedBy, blockRefusal, inRange, deviceRefusal}
+use Rattle.command.specs.Judged.{blockFault, rowFault, commandFault, operandFault, ifPresent, blockFaultNumber, inRange, devicePresence}
 use Rattle.operands.specs.declared.Command.{Command}
-use Rattle.command.specs.declared.Decoded.the-variants.{Sound, NotCarried, NotOnDrive, OutOfRange, NotZero}
+use Rattle.command.specs.declared.BlockFault.the-variants.{Fine, NotCarried, OutOfRange, NotZero}
+use Rattle.drive.specs.declared.Presence.{Presence}
+use Rattle.drive.specs.declared.Presence.the-variants as presence
 use Rattle.machine.proofs.Every.{All, end, _&_, at-place}
 use Rattle.machine.proofs.Laws.{Ranged, Fit}
 
@@ -75,33 +77,29 @@ laid n = at-place Laid bareOf (record { code = λ _. refl; word = λ _ _. no-wor
 -- ---- ranges
 
 module _ (r : Row) (h : Header) (b : List ℕ) (c : Command) where
-  device : ℕ
-  device = deviceRefusal (r .device) (h .drive) (c .x) (c .y)
-
-  judged : blockRefusal (judgedBy r h b c) ≡ 0 → inRange (r .ranges) (h .count) c ≡ true
-  unfolding judgedBy device
-  judged e = present (eqb device 0) refl e
+  judged : blockFaultNumber (commandFault r h b c) ≡ 0 → inRange (r .ranges) (h .count) c ≡ true
+  unfolding commandFault operandFault
+  judged e = present (devicePresence (r .device) (h .drive) (c .x) (c .y)) e
     where
-      range : (t : Bool) → blockRefusal (cond t (cond (unusedZero (r .layout) b) (Sound c) NotZero) OutOfRange) ≡ 0 → t ≡ true
+      range : (t : Bool) → blockFaultNumber (cond t (cond (unusedZero (r .layout) b) Fine NotZero) OutOfRange) ≡ 0 → t ≡ true
       range true i = refl
       range false i = absurd (omega arith)
 
-      present : (t : Bool) → eqb device 0 ≡ t
-          → blockRefusal (cond t (cond (inRange (r .ranges) (h .count) c) (cond (unusedZero (r .layout) b) (Sound c) NotZero) OutOfRange) (NotOnDrive device)) ≡ 0
-          → inRange (r .ranges) (h .count) c ≡ true
-      present true i j = range (inRange (r .ranges) (h .count) c) j
-      present false i j = absurd (eqb-false device 0 i j)
+      present : (p : Presence) → blockFaultNumber (ifPresent p (operandFault r (h .count) b c)) ≡ 0 → inRange (r .ranges) (h .count) c ≡ true
+      present presence.Present j = range (inRange (r .ranges) (h .count) c) j
+      present presence.BoardMissing j = absurd (omega arith)
+      present presence.Never j = absurd (omega arith)
 
-pub in-ranges : (h : Header) (b : List ℕ) → blockRefusal (decoded h b) ≡ 0 → Ranged (h .count) (operands b)
-unfolding decoded decodedBy operands laidOut
+pub in-ranges : (h : Header) (b : List ℕ) → blockFaultNumber (blockFault h b) ≡ 0 → Ranged (h .count) (operands b)
+unfolding blockFault rowFault operands laidOut
 in-ranges h b e = rw (laid (rowOf (byteAt b 0) .layout) .code b) (go (eqb (rowOf (byteAt b 0) .layout) 0) e)
   where
-    go : (t : Bool) → blockRefusal (cond t NotCarried (judgedBy (rowOf (byteAt b 0)) h b (laidOut (rowOf (byteAt b 0) .layout) b))) ≡ 0
+    go : (t : Bool) → blockFaultNumber (cond t NotCarried (commandFault (rowOf (byteAt b 0)) h b (laidOut (rowOf (byteAt b 0) .layout) b))) ≡ 0
         → inRange (rowOf (byteAt b 0) .ranges) (h .count) (laidOut (rowOf (byteAt b 0) .layout) b) ≡ true
     go true i = absurd (omega arith)
     go false i = judged (rowOf (byteAt b 0)) h b (laidOut (rowOf (byteAt b 0) .layout) b) i
 
--- a block of bytes that 5 to 8 let pass
-pub fit : (h : Header) (b : List ℕ) → BlockBytes b → blockRefusal (decoded h b) ≡ 0 → Fit (h .count) (operands b)
+-- a block of bytes that 5 to 8 and 23 let pass
+pub fit : (h : Header) (b : List ℕ) → BlockBytes b → blockFaultNumber (blockFault h b) ≡ 0 → Fit (h .count) (operands b)
 unfolding operands
 fit h b k e = let l = laid (rowOf (byteAt b 0) .layout) in record { word = l .word b k; value = l .value b k; ranges = in-ranges h b e }

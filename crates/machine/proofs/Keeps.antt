@@ -1,4 +1,4 @@
--- A step keeps good states, whatever the image and the inputs are: 17 lets a command pass only where 5 to 12 do. Assumes nothing.
+-- A step keeps good states, whatever the image and the inputs are: 17 lets a command pass only where 5 to 12 and 23 do. Assumes nothing.
 use Prim.Native.Nat.{ℕ, zero, suc, _+_, _-_, _<_, _≤_}
 use mathlib.Core.Path.{_≡_, refl, sym, _∙_, subst}
 use mathlib.Core.Bool.{Bool, true, false, _&&_, cond}
@@ -226,7 +226,7 @@ module _ (image : List ℕ) (bytes : Bytes image) (s : State) (g : Good s) (x : 
   known : GoodTask h k
   known = g .task t l
 
-  -- the block, by 5 to 8 and at its point by 9 to 12
+  -- the block, by 5 to 8 and 23, and at its point by 9 to 12
   block-fits : (eqb (blockNumber h bs (k .block)) 0 ≡ true) × (eqb (faultNumber (faultAt h bs p)) 0 ≡ true)
   unfolding fits
   block-fits =

@@ -90,7 +90,7 @@ isHalt (Start u a) = false
 isHalt Restart = false
 isHalt End = false
 
--- what 5 to 8 promise of a command in an image of `count` blocks: its operands are in the ranges of its row, and numbers of their width
+-- what 5 to 8 and 23 promise of a command in an image of `count` blocks: its operands are in the ranges of its row, and numbers of their width
 abbrev pub Ranged : ℕ → Command → Type 0
 Ranged count c = inRange (rowOf (c .code) .ranges) count c ≡ true
 

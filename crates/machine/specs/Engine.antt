@@ -117,7 +117,7 @@ performed s x k e = record {
   answer = answerTo (e .outcome) (pointOf (x .task) k);
 }
 
--- 17: the lent image is not the loaded one, or the block at the pointer breaks 5 to 12 at the present depth, or a wait is pending at no wait
+-- 17: the lent image is not the loaded one, or the block at the pointer breaks 5 to 12 or 23 at the present depth, or a wait is pending at no wait
 abbrev pub sameHeader : Header → Header → Bool
 sameHeader a b =
     eqb (a .format) (b .format) && (eqb (a .drive .model) (b .drive .model) && (eqb (a .drive .b) (b .drive .b) && (eqb (a .drive .c) (b .drive .c)

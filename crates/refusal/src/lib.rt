@@ -11,7 +11,7 @@ pub fn number(v: Verdict) -> u32
         Verdict::Accepted => 0,
         Verdict::MarksShort(_) => 13,
         Verdict::Image(outcome) => outcome.number(),
-        Verdict::Block(number, _) => number,
+        Verdict::Block(fault, _) => fault.number(),
         Verdict::Foreign(_) => 7,
         Verdict::Bad(fault, _) => fault.number(),
     }

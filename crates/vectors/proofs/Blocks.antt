@@ -53,13 +53,13 @@ quick-is [] = refl
 quick-is (i ∷ is) = ap (λ (v : Verdict). length (by i v)) (sym (fast-is i marksLength)) ◂ quick-is is
 
 computed : map quick images ≡ 8 ∷ 16 ∷ 0 ∷ 0 ∷ 0 ∷ 0 ∷ []
-unfolding types.takes homes.outputsWritten homes.homeIn homes.homeOf pins.onBoard pins.presence pins.pinOf pins.refusalOf
+unfolding types.takes homes.outputsWritten homes.homeIn homes.homeOf pins.onBoard pins.presence pins.pinOf
     number.secondByte number.firstByte number.numberAt
     header.formatRow header.typeRow header.slotBRow header.slotCRow header.countInRange header.countRow header.judged
     scan.taken scan.more scan.scan scan.firstRefusal scan.lengthOutcome scan.readWith scan.closed scan.headerOf scan.blocksOf
     rows.rows rows.rowIn rows.rowOf
     operands.laidOut operands.operands operands.usedBytes operands.allZero operands.unusedZero
-    judged.deviceRefusal judged.inRange judged.judgedBy judged.decodedBy judged.decoded
+    judged.devicePresence judged.inRange judged.operandFault judged.commandFault judged.rowFault judged.blockFault
     flow.flowBy flow.flowOf
     tasks.foreign tasks.permitted fault.flowFault fault.faultOf
     program.commandAt program.faultAt

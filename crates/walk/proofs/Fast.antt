@@ -18,7 +18,7 @@ use Rattle.number.proofs.Choice.{clash}
 use Rattle.walk.specs.Graph.{has, closure}
 use Rattle.walk.specs.Index.{marksLength}
 use Rattle.walk.specs.Successors.{nextOf}
-use Rattle.walk.specs.Program.{blockNumber}
+use Rattle.walk.specs.Program.{blockFaultAt, blockNumber}
 use Rattle.walk.specs.Verdict.{rootOf, fuel, reached, leastForeign, leastBad, verdictBy, walksVerdict, blocksVerdict, readVerdict, verdictOf}
 use Rattle.walk.specs.declared.Verdict.{Verdict}
 use Rattle.walk.specs.declared.Verdict.the-variants as verdict
@@ -48,7 +48,7 @@ walksFast h bs = verdictAmong h bs (closureFast (nextOf h bs) fuel (rootOf h ∷
 
 unfoldable pub blocksFast : Header → List ℕ → ℕ → ℕ → Verdict
 blocksFast h bs b zero = walksFast h bs
-blocksFast h bs b (suc n) = cond (eqb (blockNumber h bs b) 0) (blocksFast h bs (b + 1) n) (verdict.Block (blockNumber h bs b) b)
+blocksFast h bs b (suc n) = cond (eqb (blockNumber h bs b) 0) (blocksFast h bs (b + 1) n) (verdict.Block (blockFaultAt h bs b) b)
 
 unfoldable pub readFast : HeaderRead → List ℕ → Verdict
 readFast r bs = cond (done (r .outcome)) (blocksFast (r .header) bs 0 (r .header .count)) (verdict.Image (r .outcome))
@@ -132,7 +132,7 @@ blocks-same : (h : Header) (bs : List ℕ) (b n : ℕ) → blocksFast h bs b n �
 unfolding blocksFast blocksVerdict
 blocks-same h bs b zero = walks-same h bs
 blocks-same h bs b (suc n) =
-    ap (λ (v : Verdict). cond (eqb (blockNumber h bs b) 0) v (verdict.Block (blockNumber h bs b) b)) (blocks-same h bs (b + 1) n)
+    ap (λ (v : Verdict). cond (eqb (blockNumber h bs b) 0) v (verdict.Block (blockFaultAt h bs b) b)) (blocks-same h bs (b + 1) n)
 
 read-same : (r : HeaderRead) (bs : List ℕ) → readFast r bs ≡ readVerdict r bs
 unfolding readFast readVerdict

@@ -18,7 +18,7 @@ use Rattle.outcome.specs.declared.Outcome.the-variants.{Done, EndsEarly, NotSho
 use Rattle.number.proofs.Choice.{clash, by}
 use Rattle.image.proofs.HeaderLaws.{header-good}
 use Rattle.walk.specs.Index.{marksLength}
-use Rattle.walk.specs.Program.{blockNumber}
+use Rattle.walk.specs.Program.{blockFaultAt, blockNumber}
 use Rattle.walk.specs.Verdict.{walksVerdict, blocksVerdict, readVerdict, verdictOf}
 use Rattle.walk.specs.Says.{BlockPasses, Judges}
 use Rattle.walk.specs.declared.Verdict.{Verdict}
@@ -57,7 +57,7 @@ module _ (image : List ℕ) (n : ℕ) where
           go (eqb (blockNumber h bs b) 0) refl (λ p. blocks-judged k (b + 1) (omega arith) (below-more _ _ all p))
         where
           go : (t : Bool) → eqb (blockNumber h bs b) 0 ≡ t → (BlockPasses h bs b → Judges image n (blocksVerdict h bs (b + 1) k))
-              → Judges image n (cond t (blocksVerdict h bs (b + 1) k) (verdict.Block (blockNumber h bs b) b))
+              → Judges image n (cond t (blocksVerdict h bs (b + 1) k) (verdict.Block (blockFaultAt h bs b) b))
           go true i later = later (eqb-true (blockNumber h bs b) 0 i)
           go false i later = Judges.block room read b (omega arith) all (eqb-false (blockNumber h bs b) 0 i)
 
@@ -93,7 +93,7 @@ module _ (image : List ℕ) (n : ℕ) where
   one-judgement _ _ (Judges.block m e b i all bad) (Judges.marks l) = absurd (omega arith)
   one-judgement _ _ (Judges.block m e b i all bad) (Judges.header o f) = clash (sym e ∙ f)
   one-judgement _ _ (Judges.block m e b i all bad) (Judges.block o f c j also worse) =
-      ap (λ (k : ℕ). verdict.Block (blockNumber h bs k) k) (first-block b c all bad also worse)
+      ap (λ (k : ℕ). verdict.Block (blockFaultAt h bs k) k) (first-block b c all bad also worse)
   one-judgement _ _ (Judges.block m e b i all bad) (Judges.walks o f also v s) = absurd (bad (also b i))
   one-judgement _ _ (Judges.walks m e all v s) (Judges.marks l) = absurd (omega arith)
   one-judgement _ _ (Judges.walks m e all v s) (Judges.header o f) = clash (sym e ∙ f)

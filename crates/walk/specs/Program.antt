@@ -5,7 +5,8 @@ use lib.ListN.{getD}
 use Rattle.image.specs.Scan.{blockLength}
 use Rattle.image.specs.declared.Header.{Header}
 use Rattle.operands.specs.Operands.{operands}
-use Rattle.command.specs.Judged.{decoded, blockRefusal}
+use Rattle.command.specs.Judged.{blockFault, blockFaultNumber}
+use Rattle.command.specs.declared.BlockFault.{BlockFault}
 use Rattle.operands.specs.declared.Command.{Command}
 use Rattle.point.specs.Fault.{faultOf}
 use Rattle.point.specs.declared.Point.{Point}
@@ -24,9 +25,13 @@ blockAt bs b = bytesFrom bs (blockLength * b)
 unfoldable pub commandAt : List ℕ → ℕ → Command
 commandAt bs b = operands (blockAt bs b)
 
--- the refusal of block b by 5 to 8, 0 for none
+-- what is wrong with block b by itself
+abbrev pub blockFaultAt : Header → List ℕ → ℕ → BlockFault
+blockFaultAt h bs b = blockFault h (blockAt bs b)
+
+-- its number: 5 to 8 or 23, 0 for none
 abbrev pub blockNumber : Header → List ℕ → ℕ → ℕ
-blockNumber h bs b = blockRefusal (decoded h (blockAt bs b))
+blockNumber h bs b = blockFaultNumber (blockFaultAt h bs b)
 
 -- what the command at a point breaks there
 unfoldable pub faultAt : Header → List ℕ → Point → Fault

@@ -9,7 +9,7 @@ use Rattle.image.specs.Scan.{headerOf, blocksOf}
 use Rattle.image.specs.declared.Header.{Header}
 use Rattle.point.specs.declared.Point.{Point}
 use Rattle.fault.specs.Fault.{isForeign, isBad}
-use Rattle.walk.specs.Program.{blockNumber, faultAt}
+use Rattle.walk.specs.Program.{blockFaultAt, blockNumber, faultAt}
 use Rattle.walk.specs.Walk.{Reaches}
 use Rattle.walk.specs.Index.{marksLength, before}
 use Rattle.walk.specs.declared.Verdict.{Verdict}
@@ -37,7 +37,7 @@ pub data Says (h : Header) (bs : List ℕ) : Verdict → Type 0 where
 
 -- ---- the verdict on an image with marks of n bytes
 
--- block b passes 5 to 8
+-- block b by itself passes 5 to 8 and 23
 abbrev pub BlockPasses : Header → List ℕ → ℕ → Type 0
 BlockPasses h bs b = blockNumber h bs b ≡ 0
 
@@ -47,7 +47,7 @@ pub data Judges (image : List ℕ) (n : ℕ) : Verdict → Type 0 where
   header : marksLength ≤ n → done (headerOf image .outcome) ≡ false → Judges image n (verdict.Image (headerOf image .outcome))
   block : marksLength ≤ n → done (headerOf image .outcome) ≡ true → (b : ℕ) → b < headerOf image .header .count
       → ((a : ℕ) → a < b → BlockPasses (headerOf image .header) (blocksOf image) a) → (BlockPasses (headerOf image .header) (blocksOf image) b → ⊥)
-      → Judges image n (verdict.Block (blockNumber (headerOf image .header) (blocksOf image) b) b)
+      → Judges image n (verdict.Block (blockFaultAt (headerOf image .header) (blocksOf image) b) b)
   walks : marksLength ≤ n → done (headerOf image .outcome) ≡ true
       → ((b : ℕ) → b < headerOf image .header .count → BlockPasses (headerOf image .header) (blocksOf image) b)
       → (v : Verdict) → Says (headerOf image .header) (blocksOf image) v → Judges image n v

@@ -1,4 +1,4 @@
--- The verdict on an image with marks of some length, computed: 13, then 1 to 8, then the least foreign 51 (7), then the least bad point (9 to 12). That it is what walks
+-- The verdict on an image with marks of some length, computed: 13, then 1 to 4, then 5 to 8 and 23 of the blocks, then the least foreign 51 (7), then the least bad point (9 to 12). That it is what walks
 -- say is proved in proofs/Exactly.antt. Assumes nothing.
 use Prim.Native.Nat.{ℕ, zero, suc, _+_, _*_}
 use mathlib.Core.Bool.{Bool, true, false, cond}
@@ -9,11 +9,12 @@ use Rattle.image.specs.Rows.{mostBlocks}
 use Rattle.image.specs.Scan.{headerOf, blocksOf}
 use Rattle.image.specs.declared.Header.{Header}
 use Rattle.image.specs.declared.reader.HeaderRead.{HeaderRead}
+use Rattle.command.specs.Judged.{blockFaultNumber}
 use Rattle.flow.specs.Flow.{bias}
 use Rattle.fault.specs.Fault.{isForeign, isBad, faultNumber}
 use Rattle.point.specs.Fault.{point}
 use Rattle.fault.specs.declared.Fault.the-variants.{Foreign}
-use Rattle.walk.specs.Program.{blockNumber, faultAt}
+use Rattle.walk.specs.Program.{blockFaultAt, blockNumber, faultAt}
 use Rattle.walk.specs.Index.{indexOf, pointAt, marksLength}
 use Rattle.walk.specs.Successors.{nextOf}
 use Rattle.walk.specs.Graph.{closure, least}
@@ -57,7 +58,7 @@ walksVerdict h bs = verdictBy h bs (leastForeign h bs (reached h bs)) (leastBad 
 -- n blocks judged upwards from block b, then the walks
 unfoldable pub blocksVerdict : Header → List ℕ → ℕ → ℕ → Verdict
 blocksVerdict h bs b zero = walksVerdict h bs
-blocksVerdict h bs b (suc n) = cond (eqb (blockNumber h bs b) 0) (blocksVerdict h bs (b + 1) n) (verdict.Block (blockNumber h bs b) b)
+blocksVerdict h bs b (suc n) = cond (eqb (blockNumber h bs b) 0) (blocksVerdict h bs (b + 1) n) (verdict.Block (blockFaultAt h bs b) b)
 
 -- ---- the image
 
@@ -74,7 +75,7 @@ abbrev pub verdictNumber : Verdict → ℕ
 verdictNumber verdict.Accepted = 0
 verdictNumber (verdict.MarksShort n) = 13
 verdictNumber (verdict.Image o) = numberOf o
-verdictNumber (verdict.Block n b) = n
+verdictNumber (verdict.Block f b) = blockFaultNumber f
 verdictNumber (verdict.Foreign b) = faultNumber Foreign
 verdictNumber (verdict.Bad f p) = faultNumber f
 
@@ -83,7 +84,7 @@ abbrev pub verdictPlace : Verdict → ℕ
 verdictPlace verdict.Accepted = 0
 verdictPlace (verdict.MarksShort n) = n
 verdictPlace (verdict.Image o) = placeOf o
-verdictPlace (verdict.Block n b) = b
+verdictPlace (verdict.Block f b) = b
 verdictPlace (verdict.Foreign b) = b
 verdictPlace (verdict.Bad f p) = p .block
 
@@ -91,7 +92,7 @@ abbrev pub verdictTask : Verdict → ℕ
 verdictTask verdict.Accepted = 0
 verdictTask (verdict.MarksShort n) = 0
 verdictTask (verdict.Image o) = 0
-verdictTask (verdict.Block n b) = 0
+verdictTask (verdict.Block f b) = 0
 verdictTask (verdict.Foreign b) = 0
 verdictTask (verdict.Bad f p) = p .task
 
@@ -99,7 +100,7 @@ abbrev pub verdictDepth : Verdict → ℕ
 verdictDepth verdict.Accepted = 0
 verdictDepth (verdict.MarksShort n) = 0
 verdictDepth (verdict.Image o) = 0
-verdictDepth (verdict.Block n b) = 0
+verdictDepth (verdict.Block f b) = 0
 verdictDepth (verdict.Foreign b) = 0
 verdictDepth (verdict.Bad f p) = p .depth
 
@@ -107,7 +108,7 @@ abbrev pub isAccepted : Verdict → Bool
 isAccepted verdict.Accepted = true
 isAccepted (verdict.MarksShort n) = false
 isAccepted (verdict.Image o) = false
-isAccepted (verdict.Block n b) = false
+isAccepted (verdict.Block f b) = false
 isAccepted (verdict.Foreign b) = false
 isAccepted (verdict.Bad f p) = false
 

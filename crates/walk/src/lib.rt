@@ -1,6 +1,7 @@
 // The verdict on an image with lent marks (document 01, "Refused because of the input"; 16, which comes second in a load, belongs to the
 // state buffer). No code here: specs/ says what walks are and what a verdict says of them, and computes the verdict; the crate loader
 // finds it.
+use command::BlockFault;
 use fault::Fault;
 use outcome::Outcome;
 use point::Point;
@@ -12,8 +13,8 @@ pub enum Verdict {
     MarksShort(usize),
     // what is wrong with the header or the length of the image
     Image(Outcome),
-    // a block refused by this number, 5 to 8
-    Block(u32, usize),
+    // the first block that is refused by itself, by 5 to 8 or 23, and what is wrong with it
+    Block(BlockFault, usize),
     // a 51 at this block that ends another task
     Foreign(usize),
     // the least bad point, and what it breaks

@@ -4,6 +4,7 @@ use Prim.Native.Nat.{ℕ}
 use mathlib.Core.Bool.{_&&_}
 use lib.Dec.{eqb}
 use denote.Ref.{now}
+use Rattle.command.specs.Judged.{blockFaultNumber}
 use Rattle.fault.specs.Fault.{faultNumber}
 use Rattle.walk.specs.Program.{faultAt}
 use Rattle.engine.proofs.block_fits.Statement.{statement}
@@ -17,7 +18,8 @@ block-fits-spec =
     (λ c κs. tt)
     (λ c κs. tt)
     (λ c κs. tt)
+    (λ c κs. tt)
     (λ c.
-    let a = c .before .before .before .before .before .args in
-    ap₂ (λ (m n : ℕ). eqb m 0 && eqb n 0) (c .before .block-number .ensures)
-    (c .number .ensures ∙ ap faultNumber (c .before .before .fault-at .ensures ∙ ap (faultAt (a .header) (now (a .blocks))) (c .before .before .before .point-of .ensures)))))
+    let a = c .before .before .before .before .before .before .args in
+    ap₂ (λ (m n : ℕ). eqb m 0 && eqb n 0) (c .before .number .ensures ∙ ap blockFaultNumber (c .before .before .block-fault-at .ensures))
+    (c .number2 .ensures ∙ ap faultNumber (c .before .before .before .fault-at .ensures ∙ ap (faultAt (a .header) (now (a .blocks))) (c .before .before .before .before .point-of .ensures)))))

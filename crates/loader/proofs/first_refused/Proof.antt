@@ -1,8 +1,9 @@
 -- `first_refused` meets its contract: the blocks before b pass at each turn. Assumes nothing.
 use Prim.Native.Nat.{ℕ, _-_, _<_, _≤_}
-use mathlib.Core.Path.{_≡_, sym, _∙_}
+use mathlib.Core.Path.{_≡_, sym, ap, _∙_}
 use native.Mathlib.Omega.{arith}
 use borrow.Author.Count.{below-more}
+use Rattle.command.specs.Judged.{blockFaultNumber}
 use Rattle.walk.specs.Program.{blockNumber}
 use Rattle.loader.proofs.first_refused.Statement.{statement}
 use Rattle.loader.proofs.first_refused.Tie as tie
@@ -16,13 +17,17 @@ abbrev μ-loop : tie.MeasureT-loop
 loop-holds : tie.Need-loop-holds Inv-loop μ-loop
 loop-holds c = (omega arith, λ a h. omega arith)
 
-block-number-requires : tie.Need-block-number-requires Inv-loop μ-loop
-block-number-requires c κs = tt
+block-fault-at-requires : tie.Need-block-fault-at-requires Inv-loop μ-loop
+block-fault-at-requires c κs = tt
+
+number-requires : tie.Need-number-requires Inv-loop μ-loop
+number-requires c κs = tt
 
 returns : tie.Need-returns Inv-loop μ-loop
 returns c =
-    let v = c .before .before .before .before .loop in
-    record { most = v .inv .0; before = v .inv .1; refused = λ l z. c .if2 .taken (c .before .block-number .ensures ∙ z) }
+    let v = c .before .before .before .before .before .loop in
+    let told = c .before .number .ensures ∙ ap blockFaultNumber (c .before .before .block-fault-at .ensures) in
+    record { most = v .inv .0; before = v .inv .1; refused = λ l z. c .if2 .taken (told ∙ z) }
 
 add-b : tie.Need-add-b Inv-loop μ-loop
 add-b c = omega arith
@@ -32,8 +37,9 @@ loop-less c = omega arith
 
 loop-again : tie.Need-loop-again Inv-loop μ-loop
 loop-again c =
-    let v = c .before .before .before .before .loop in
-    (omega arith, below-more _ _ (v .inv .1) (sym (c .before .block-number .ensures) ∙ c .if2 .left))
+    let v = c .before .before .before .before .before .loop in
+    let told = c .before .number .ensures ∙ ap blockFaultNumber (c .before .before .block-fault-at .ensures) in
+    (omega arith, below-more _ _ (v .inv .1) (sym told ∙ c .if2 .left))
 
 returns-2 : tie.Need-returns-2 Inv-loop μ-loop
 returns-2 c =
@@ -47,7 +53,8 @@ first-refused-spec =
     Inv-loop
     μ-loop
     loop-holds
-    block-number-requires
+    block-fault-at-requires
+    number-requires
     returns
     add-b
     loop-less

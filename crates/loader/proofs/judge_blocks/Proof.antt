@@ -1,9 +1,9 @@
 -- `judge_blocks` meets its contract: the first block that is refused, or else the walks. Assumes nothing.
-use Prim.Native.Nat.{ℕ}
 use mathlib.Core.Path.{refl, ap, _∙_}
 use denote.Ref.{now}
 use Rattle.loader.proofs.Upwards.{first-refused-is, none-refused-is}
 use borrow.Author.Needs.{needs}
+use Rattle.command.specs.declared.BlockFault.{BlockFault}
 use Rattle.walk.specs.declared.Verdict.the-variants.{Block}
 use Rattle.loader.proofs.judge_blocks.Statement.{statement}
 use Rattle.loader.proofs.judge_blocks.Tie as tie
@@ -11,8 +11,8 @@ use Rattle.loader.proofs.judge_blocks.Tie as tie
 first-refused-requires : tie.Need-first-refused-requires
 first-refused-requires c κs = search needs
 
-block-number-requires : tie.Need-block-number-requires
-block-number-requires c κs = search needs
+block-fault-at-requires : tie.Need-block-fault-at-requires
+block-fault-at-requires c κs = search needs
 
 cast-t7 : tie.Need-cast-t7
 cast-t7 c = search needs
@@ -20,7 +20,7 @@ cast-t7 c = search needs
 returns : tie.Need-returns
 returns c =
     let s = c .before .before .before .before .before .before in (
-      ap (λ (n : ℕ). Block n (c .before .before .before .first-refused .result)) (c .block-number .ensures) ∙ first-refused-is (s .args .header) (now (s .args .blocks)) _ (c .before .before .before .first-refused .ensures) (c .before .if1 .taken),
+      ap (λ (f : BlockFault). Block f (c .before .before .before .first-refused .result)) (c .block-fault-at .ensures) ∙ first-refused-is (s .args .header) (now (s .args .blocks)) _ (c .before .before .before .first-refused .ensures) (c .before .if1 .taken),
       record { long = refl; rest = λ k i. refl },
     )
 
@@ -41,7 +41,7 @@ judge-blocks-spec =
     tie.close
     (tie.spec
     first-refused-requires
-    block-number-requires
+    block-fault-at-requires
     cast-t7
     returns
     judge-walks-requires

@@ -20,14 +20,17 @@ number-requires c κs = search needs
 enum-known-v-2 : tie.Need-enum-known-v-2
 enum-known-v-2 c = search needs
 
+number-requires-2 : tie.Need-number-requires-2
+number-requires-2 c κs = search needs
+
 enum-told-3 : tie.Need-enum-told-3
 enum-told-3 c = search needs
 
 enum-known-v-3 : tie.Need-enum-known-v-3
 enum-known-v-3 c = search needs
 
-number-requires-2 : tie.Need-number-requires-2
-number-requires-2 c κs = search needs
+number-requires-3 : tie.Need-number-requires-3
+number-requires-3 c κs = search needs
 
 returns : tie.Need-returns
 returns c = search needs
@@ -56,9 +59,10 @@ number-spec =
     enum-known-v
     number-requires
     enum-known-v-2
+    number-requires-2
     enum-told-3
     enum-known-v-3
-    number-requires-2
+    number-requires-3
     returns
     returns-2
     returns-3

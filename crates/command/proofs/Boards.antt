@@ -1,0 +1,216 @@
+-- 6 and 23 of a block (change request 3): a block that is refused by 23 passes both with a board that the type may carry, one that is refused by 6 stays so
+-- whatever is in the slots, and 23 never comes on a 631. Assumes nothing.
+use Prim.Native.Nat.{ℕ, zero, suc}
+use native.Mathlib.Omega.{arith}
+use mathlib.Core.Path.{_≡_, refl, sym, ap, _∙_}
+use mathlib.Core.Bool.{Bool, true, false, cond}
+use mathlib.Core.Logic.{_↔_}
+use mathlib.Core.List.{List}
+use lib.Dec.{eqb}
+use Rattle.pins.specs.Homes.{homeOf}
+use Rattle.pins.specs.declared.Home.{Home}
+use Rattle.pins.specs.declared.Home.the-variants as home
+use Rattle.pins.specs.declared.PinKind.{PinKind}
+use Rattle.pins.specs.declared.PinKind.the-variants.{Input, OutputWritten, OutputRead}
+use Rattle.drive.specs.Types.{type631, type637Plus}
+use Rattle.drive.specs.Pins.{pinOf}
+use Rattle.drive.specs.Boards.{mayCarry, withBoards, fitted}
+use Rattle.drive.specs.declared.Drive.{Drive}
+use Rattle.drive.specs.declared.Presence.{Presence}
+use Rattle.drive.specs.declared.Presence.the-variants as presence
+use Rattle.drive.proofs.Boards.{differ, never-with, none-on-631}
+use Rattle.drive.proofs.Boards as drive
+use Rattle.image.specs.declared.Header.{Header}
+use Rattle.rows.specs.Rows.{rowOf}
+use Rattle.rows.specs.declared.Row.{Row}
+use Rattle.operands.specs.Operands.{byteAt, laidOut, unusedZero}
+use Rattle.operands.specs.declared.Command.{Command}
+use Rattle.command.specs.Judged.{notOn637Plus, devicePresence, operandFault, ifPresent, commandFault, rowFault, blockFault, blockFaultNumber, inRange}
+use Rattle.command.specs.Boards.{forDrive, OnDrive, Buyable, OtherDrive}
+use Rattle.command.specs.declared.BlockFault.{BlockFault}
+use Rattle.command.specs.declared.BlockFault.the-variants.{Fine, NotCarried, NotOnDrive, BoardMissing, OutOfRange, NotZero}
+
+-- ---- what a command needs, for each device
+
+record Device (f : Drive → ℕ → ℕ → Presence) : Type 0 where
+  board : Drive → ℕ → ℕ → Home
+  carried : (d : Drive) (x y : ℕ) → f d x y ≡ presence.BoardMissing → mayCarry (d .model) (board d x y) ≡ true
+  bought : (d : Drive) (x y : ℕ) → f d x y ≡ presence.BoardMissing → f (fitted d (board d x y)) x y ≡ presence.Present
+  never : (d : Drive) (x y : ℕ) → f d x y ≡ presence.Never → (b c : ℕ) → f (withBoards d b c) x y ≡ presence.Never
+  on631 : (d : Drive) (x y : ℕ) → d .model ≡ type631 → f d x y ≡ presence.BoardMissing → ⊥
+
+no-device : Device (λ d x y. presence.Present)
+no-device = record {
+  board = λ d x y. home.Nowhere;
+  carried = λ d x y e. differ presence.Present presence.BoardMissing (λ r. omega arith) e;
+  bought = λ d x y e. refl;
+  never = λ d x y e b c. e;
+  on631 = λ d x y z e. differ presence.Present presence.BoardMissing (λ r. omega arith) e;
+}
+
+-- a pin, in one of the operands
+pin-device : (kind : PinKind) (which : ℕ → ℕ → ℕ) → Device (λ d x y. pinOf d kind (which x y))
+pin-device kind which = record {
+  board = λ d x y. homeOf kind (which x y);
+  carried = λ d x y e. drive.missing-exactly d kind (which x y) .0 e .carried;
+  bought = λ d x y e. drive.missing-exactly d kind (which x y) .0 e .bought;
+  never = λ d x y e. never-with d kind (which x y) e;
+  on631 = λ d x y z e. none-on-631 d kind (which x y) z e;
+}
+
+not-637-plus : Device (λ d x y. notOn637Plus d)
+not-637-plus = record {
+  board = λ d x y. home.Nowhere;
+  carried = λ d x y e. no-board (eqb (d .model) type637Plus) e;
+  bought = λ d x y e. no-board (eqb (d .model) type637Plus) e;
+  never = λ d x y e b c. e;
+  on631 = λ d x y z e. no-board (eqb (d .model) type637Plus) e;
+}
+  where
+    no-board : {A : Type 0} (t : Bool) → cond t presence.Never presence.Present ≡ presence.BoardMissing → A
+    no-board true e = differ presence.Never presence.BoardMissing (λ r. omega arith) e
+    no-board false e = differ presence.Present presence.BoardMissing (λ r. omega arith) e
+
+device : (n : ℕ) → Device (devicePresence n)
+unfolding devicePresence
+device zero = no-device
+device (suc zero) = pin-device Input (λ x y. x)
+device (suc (suc zero)) = pin-device Input (λ x y. y)
+device (suc (suc (suc zero))) = pin-device OutputRead (λ x y. x)
+device (suc (suc (suc (suc zero)))) = pin-device OutputRead (λ x y. y)
+device (suc (suc (suc (suc (suc zero))))) = pin-device OutputWritten (λ x y. x)
+device (suc (suc (suc (suc (suc (suc zero)))))) = not-637-plus
+device (suc (suc (suc (suc (suc (suc (suc n))))))) = no-device
+
+-- ---- a command: 6 and 23 are what the drive has, and nothing else is
+
+apart : {A : Type 0} (f g : BlockFault) → (blockFaultNumber f ≡ blockFaultNumber g → ⊥) → f ≡ g → A
+apart f g n e = absurd (n (ap blockFaultNumber e))
+
+module _ (r : Row) (count : ℕ) (b : List ℕ) (c : Command) where
+  -- 7 and 8 are neither
+  operands-apart : (f : BlockFault) → (blockFaultNumber f ≡ 0 → ⊥) → (blockFaultNumber f ≡ 7 → ⊥) → (blockFaultNumber f ≡ 8 → ⊥) → operandFault r count b c ≡ f → ⊥
+  unfolding operandFault
+  operands-apart f n m k e = go (inRange (r .ranges) count c) (unusedZero (r .layout) b) e
+    where
+      go : (t u : Bool) → cond t (cond u Fine NotZero) OutOfRange ≡ f → ⊥
+      go true true i = n (sym (ap blockFaultNumber i))
+      go true false i = k (sym (ap blockFaultNumber i))
+      go false u i = m (sym (ap blockFaultNumber i))
+
+  never-6 : operandFault r count b c ≡ NotOnDrive → ⊥
+  never-6 = operands-apart NotOnDrive (λ e. omega arith) (λ e. omega arith) (λ e. omega arith)
+
+  never-23 : operandFault r count b c ≡ BoardMissing → ⊥
+  never-23 = operands-apart BoardMissing (λ e. omega arith) (λ e. omega arith) (λ e. omega arith)
+
+  missing : (p : Presence) → ifPresent p (operandFault r count b c) ≡ BoardMissing → p ≡ presence.BoardMissing
+  missing presence.Present e = absurd (never-23 e)
+  missing presence.BoardMissing e = refl
+  missing presence.Never e = apart NotOnDrive BoardMissing (λ i. omega arith) e
+
+  barred : (p : Presence) → ifPresent p (operandFault r count b c) ≡ NotOnDrive → p ≡ presence.Never
+  barred presence.Present e = absurd (never-6 e)
+  barred presence.BoardMissing e = apart BoardMissing NotOnDrive (λ i. omega arith) e
+  barred presence.Never e = refl
+
+-- ---- a block
+
+module _ (h : Header) (b : List ℕ) where
+  abbrev row : Row
+  row = rowOf (byteAt b 0)
+
+  abbrev c : Command
+  c = laidOut (row .layout) b
+
+  -- what the drive has of what the block's command needs
+  abbrev has : Drive → Presence
+  has d = devicePresence (row .device) d (c .x) (c .y)
+
+  abbrev rest : BlockFault
+  rest = operandFault row (h .count) b c
+
+  -- on any drive: 5, or what the drive has
+  by-drive : (d : Drive) (t : Bool) → eqb (row .layout) 0 ≡ t → blockFault (forDrive h d) b ≡ cond t NotCarried (ifPresent (has d) rest)
+  unfolding blockFault rowFault commandFault
+  by-drive d t e = ap (λ (u : Bool). cond u NotCarried (ifPresent (has d) rest)) e
+
+  -- a block with a fault of the drive is carried, and the fault is what the drive has
+  of-presence : {A : Type 0} (f : BlockFault) → (NotCarried ≡ f → A) → (ifPresent (has (h .drive)) rest ≡ f → eqb (row .layout) 0 ≡ false → A) → blockFault h b ≡ f → A
+  of-presence {A} f uncarried carried e = go (eqb (row .layout) 0) refl
+    where
+      go : (t : Bool) → eqb (row .layout) 0 ≡ t → A
+      go true i = uncarried (sym (by-drive (h .drive) true i) ∙ e)
+      go false i = carried (sym (by-drive (h .drive) false i) ∙ e) i
+
+  board : Home
+  board = device (row .device) .board (h .drive) (c .x) (c .y)
+
+  -- what passes 6 and 23 is neither
+  passing : OnDrive h b → {f : BlockFault} → blockFault h b ≡ f → (f ≡ NotOnDrive → ⊥) × (f ≡ BoardMissing → ⊥)
+  passing o e = (λ z. o .here (e ∙ z), λ z. o .fitted (e ∙ z))
+
+  -- 23: a board that can be bought
+  pub buyable : blockFault h b ≡ BoardMissing → Buyable h b
+  unfolding board
+  buyable =
+      of-presence BoardMissing (λ z. apart NotCarried BoardMissing (λ i. omega arith) z)
+      (λ i k.
+      let m = missing row (h .count) b c (has (h .drive)) i in
+      let there = device (row .device) .bought (h .drive) (c .x) (c .y) m in
+      let after = by-drive (fitted (h .drive) board) false k ∙ ap (λ (p : Presence). ifPresent p rest) there in
+      record {
+        board = board;
+        carried = device (row .device) .carried (h .drive) (c .x) (c .y) m;
+        passes = record {
+          here = λ z. never-6 row (h .count) b c (sym after ∙ z);
+          fitted = λ z. never-23 row (h .count) b c (sym after ∙ z);
+        };
+      })
+
+  other-back : OtherDrive h b → blockFault h b ≡ NotOnDrive
+  other-back o = o .still (h .drive .b) (h .drive .c)
+
+  -- 6: another drive, and nothing else will do
+  pub other-drive : (blockFault h b ≡ NotOnDrive) ↔ OtherDrive h b
+  other-drive = (forth, other-back)
+    where
+      forth : blockFault h b ≡ NotOnDrive → OtherDrive h b
+      forth =
+          of-presence NotOnDrive (λ z. apart NotCarried NotOnDrive (λ i. omega arith) z)
+          (λ i k. record { still = λ slotB slotC.
+            let never = device (row .device) .never (h .drive) (c .x) (c .y) (barred row (h .count) b c (has (h .drive)) i) slotB slotC in
+            by-drive (withBoards (h .drive) slotB slotC) false k ∙ ap (λ (p : Presence). ifPresent p rest) never
+          })
+
+  -- so 6 is never told where a board would do
+  pub not-both : blockFault h b ≡ NotOnDrive → Buyable h b → ⊥
+  not-both e m = go (m .board) (m .carried) (m .passes)
+    where
+      go : (k : Home) → mayCarry (h .drive .model) k ≡ true → OnDrive (forDrive h (fitted (h .drive) k)) b → ⊥
+      go home.Nowhere f o = o .here e
+      go home.Only631 f o = o .here e
+      go home.Others f o = o .here e
+      go (home.SlotB n) f o = o .here (other-drive .0 e .still n (h .drive .c))
+      go (home.SlotC n) f o = o .here (other-drive .0 e .still (h .drive .b) n)
+
+  -- and 23 is told exactly where the block does not pass and a board would do
+  pub missing-exactly : (blockFault h b ≡ BoardMissing) ↔ ((OnDrive h b → ⊥) × Buyable h b)
+  missing-exactly = (λ e. (λ o. o .fitted e, buyable e), λ m. back (blockFault h b) refl (m .0) (m .1))
+    where
+      sound : (f : BlockFault) → (blockFaultNumber f ≡ 6 → ⊥) → (blockFaultNumber f ≡ 23 → ⊥) → blockFault h b ≡ f → OnDrive h b
+      sound f n m e = record { here = λ z. n (ap blockFaultNumber (sym e ∙ z)); fitted = λ z. m (ap blockFaultNumber (sym e ∙ z)) }
+
+      back : (f : BlockFault) → blockFault h b ≡ f → (OnDrive h b → ⊥) → Buyable h b → f ≡ BoardMissing
+      back Fine e n m = absurd (n (sound Fine (λ i. omega arith) (λ i. omega arith) e))
+      back NotCarried e n m = absurd (n (sound NotCarried (λ i. omega arith) (λ i. omega arith) e))
+      back NotOnDrive e n m = absurd (not-both e m)
+      back BoardMissing e n m = refl
+      back OutOfRange e n m = absurd (n (sound OutOfRange (λ i. omega arith) (λ i. omega arith) e))
+      back NotZero e n m = absurd (n (sound NotZero (λ i. omega arith) (λ i. omega arith) e))
+
+  -- 23 never comes on a 631
+  pub never-on-631 : h .drive .model ≡ type631 → blockFault h b ≡ BoardMissing → ⊥
+  never-on-631 z =
+      of-presence BoardMissing (λ e. apart NotCarried BoardMissing (λ i. omega arith) e)
+      (λ i k. device (row .device) .on631 (h .drive) (c .x) (c .y) z (missing row (h .count) b c (has (h .drive)) i))
