@@ -78,7 +78,8 @@ explained() {
         && says 0 "$accepted" "$judge" --explain < "$out/a.img" && grep 'accepted' "$out/err"
 }
 
-# What bias-verdict and the example say of a drive and block 0: explains NUMBER WORDS TYPE SLOT_B SLOT_C CODE D1 D2
+# What bias-verdict and the example say of a program that is refused at block 0.
+# Usage: explains NUMBER WORDS TYPE SLOT_B SLOT_C CODE D1 D2; all_explained NUMBER, with lines "TYPE .. D2|WORDS".
 bytes() { for byte in "$@"; do printf "\\$(printf %03o "$byte")"; done; }
 explains() {
     number=$1
@@ -88,26 +89,36 @@ explains() {
         && grep -Fx "$words" "$out/err" && says 1 "" "$out/example" "$out/board.img" \
         && grep -F "refused by $number at block 0: $words" "$out/err"
 }
+all_explained() {
+    while IFS='|' read -r drive_and_block words; do
+        # the words of the first field are arguments of their own
+        explains "$1" "$words" $drive_and_block < /dev/null || return 1
+    done
+}
 takes="which this drive can take in slot"
 swap=", in exchange for the board there"
 missing_board() {
-    explains 23 "pin 217 is on terminal X200 of board RP-EAE, $takes C" 2 0 0 0x72 217 1 \
-        && explains 23 "pin 201 is on terminal X200 of board RP-EAE, $takes C" 3 1 0 0x70 201 0 \
-        && explains 23 "pin 224 is on terminal X200 of board RP-EAE, $takes C$swap" 4 0 2 0x64 0 224 \
-        && explains 23 "pin 101 is on terminal COM2 of board RP-EA5, $takes B" 1 0 1 0x63 0 101 \
-        && explains 23 "pin 110 is on terminal COM2 of board RP-EA5, $takes B$swap" 4 2 0 0x73 110 0 \
-        && explains 23 "pin 121 is on terminal X120 of board RP-2C8, $takes B" 4 0 2 0x70 121 0 \
-        && explains 23 "pin 128 is on terminal X120 of board RP-2C8, $takes B$swap" 4 1 0 0x71 128 0 \
-        && explains 23 "pin 91 is on terminal X290 of board RP-SBT, $takes C" 4 2 0 0x63 0 91 \
-        && explains 23 "pin 93 is on terminal X290 of board RP-SBT, $takes C$swap" 4 0 1 0x70 93 0
+    all_explained 23 << END
+2 0 0 0x72 217 1|pin 217 is on terminal X200 of board RP-EAE, $takes C
+3 1 0 0x70 201 0|pin 201 is on terminal X200 of board RP-EAE, $takes C
+4 0 2 0x64 0 224|pin 224 is on terminal X200 of board RP-EAE, $takes C$swap
+1 0 1 0x63 0 101|pin 101 is on terminal COM2 of board RP-EA5, $takes B
+4 2 0 0x73 110 0|pin 110 is on terminal COM2 of board RP-EA5, $takes B$swap
+4 0 2 0x70 121 0|pin 121 is on terminal X120 of board RP-2C8, $takes B
+4 1 0 0x71 128 0|pin 128 is on terminal X120 of board RP-2C8, $takes B$swap
+4 2 0 0x63 0 91|pin 91 is on terminal X290 of board RP-SBT, $takes C
+4 0 1 0x70 93 0|pin 93 is on terminal X290 of board RP-SBT, $takes C$swap
+END
 }
 never="another pin or drive is needed"
 no_board() {
-    explains 6 "neither a 637 nor a board for it has pin 101 as an output to write: $never" 2 0 0 0x72 101 1 \
-        && explains 6 "neither a 631 nor a board for it has pin 217 as an output to write: $never" 0 0 0 0x73 217 0 \
-        && explains 6 "neither a 637+ nor a board for it has pin 125 as an output to read: $never" 3 1 1 0x64 0 125 \
-        && explains 6 "neither a 637f nor a board for it has pin 217 as an input: $never" 4 0 0 0x70 217 0 \
-        && explains 6 "a 637+ does not have this command: another drive is needed" 3 0 0 0x6E 0 0
+    all_explained 6 << END
+2 0 0 0x72 101 1|neither a 637 nor a board for it has pin 101 as an output to write: $never
+0 0 0 0x73 217 0|neither a 631 nor a board for it has pin 217 as an output to write: $never
+3 1 1 0x64 0 125|neither a 637+ nor a board for it has pin 125 as an output to read: $never
+4 0 0 0x70 217 0|neither a 637f nor a board for it has pin 217 as an input: $never
+3 0 0 0x6E 0 0|a 637+ does not have this command: another drive is needed
+END
 }
 # Start 129 and count 130 have two bytes each; the last block is the bad one.
 last_block() {

@@ -178,9 +178,10 @@ module _ (h : Header) (b : List ℕ) where
       forth : blockFault h b ≡ NotOnDrive → OtherDrive h b
       forth =
           of-presence NotOnDrive (λ z. apart NotCarried NotOnDrive (λ i. omega arith) z)
-          (λ i k. record { still = λ slotB slotC.
-            let never = device (row .device) .never (h .drive) (c .x) (c .y) (barred row (h .count) b c (has (h .drive)) i) slotB slotC in
-            by-drive (withBoards (h .drive) slotB slotC) false k ∙ ap (λ (p : Presence). ifPresent p rest) never
+          (λ i k. record {
+            still = λ slotB slotC.
+                let never = device (row .device) .never (h .drive) (c .x) (c .y) (barred row (h .count) b c (has (h .drive)) i) slotB slotC in
+                by-drive (withBoards (h .drive) slotB slotC) false k ∙ ap (λ (p : Presence). ifPresent p rest) never;
           })
 
   -- so 6 is never told where a board would do
