@@ -99,31 +99,33 @@ takes="which this drive can take in slot"
 swap=", in exchange for the board there"
 missing_board() {
     all_explained 23 << END
-2 0 0 0x72 217 1|pin 217 is on terminal X200 of board RP-EAE, $takes C
-3 1 0 0x70 201 0|pin 201 is on terminal X200 of board RP-EAE, $takes C
-4 0 2 0x64 0 224|pin 224 is on terminal X200 of board RP-EAE, $takes C$swap
-1 0 1 0x63 0 101|pin 101 is on terminal COM2 of board RP-EA5, $takes B
-4 2 0 0x73 110 0|pin 110 is on terminal COM2 of board RP-EA5, $takes B$swap
-4 0 2 0x70 121 0|pin 121 is on terminal X120 of board RP-2C8, $takes B
-4 1 0 0x71 128 0|pin 128 is on terminal X120 of board RP-2C8, $takes B$swap
-4 2 0 0x63 0 91|pin 91 is on terminal X290 of board RP-SBT, $takes C
-4 0 1 0x70 93 0|pin 93 is on terminal X290 of board RP-SBT, $takes C$swap
+2 0 0 0x72 217 1|a board is missing: pin 217 is on terminal X200 of board RP-EAE, $takes C
+3 1 0 0x70 201 0|a board is missing: pin 201 is on terminal X200 of board RP-EAE, $takes C
+4 0 2 0x64 0 224|a board is missing: pin 224 is on terminal X200 of board RP-EAE, $takes C$swap
+1 0 1 0x63 0 101|a board is missing: pin 101 is on terminal COM2 of board RP-EA5, $takes B
+4 2 0 0x73 110 0|a board is missing: pin 110 is on terminal COM2 of board RP-EA5, $takes B$swap
+4 0 2 0x70 121 0|a board is missing: pin 121 is on terminal X120 of board RP-2C8, $takes B
+4 1 0 0x71 128 0|a board is missing: pin 128 is on terminal X120 of board RP-2C8, $takes B$swap
+4 2 0 0x63 0 91|a board is missing: pin 91 is on terminal X290 of board RP-SBT, $takes C
+4 0 1 0x70 93 0|a board is missing: pin 93 is on terminal X290 of board RP-SBT, $takes C$swap
 END
 }
-never="another pin or drive is needed"
+never="not on this drive, and no board helps: another pin or another drive is needed"
 no_board() {
     all_explained 6 << END
-2 0 0 0x72 101 1|neither a 637 nor a board for it has pin 101 as an output to write: $never
-0 0 0 0x73 217 0|neither a 631 nor a board for it has pin 217 as an output to write: $never
-3 1 1 0x64 0 125|neither a 637+ nor a board for it has pin 125 as an output to read: $never
-4 0 0 0x70 217 0|neither a 637f nor a board for it has pin 217 as an input: $never
-3 0 0 0x6E 0 0|a 637+ does not have this command: another drive is needed
+2 0 0 0x72 101 1|$never (a 637 never has pin 101 as an output to write)
+0 0 0 0x73 217 0|$never (a 631 never has pin 217 as an output to write)
+3 1 1 0x64 0 125|$never (a 637+ never has pin 125 as an output to read)
+4 0 0 0x71 101 0|$never (a 637f never has pin 101 as an output to read)
+4 0 0 0x70 217 0|$never (a 637f never has pin 217 as an input)
+1 1 1 0x63 0 91|$never (a 635 never has pin 91 as an input)
+3 0 0 0x6E 0 0|$never (a 637+ never has this command)
 END
 }
 # Start 129 and count 130 have two bytes each; the last block is the bad one.
 last_block() {
-    { bytes 1 2 0 0 129 1 130 1 && head -c 1032 /dev/zero && bytes 0x72 217 1 0 0 0 0 0; } > "$out/board.img"
-    says 1 "refusal 23 place 129 task 0 depth 0" "$judge" --explain "$out/board.img" && grep '^pin 217 is on' "$out/err"
+    { bytes 1 2 0 0 129 1 130 1 && head -c 1032 /dev/zero && bytes 0x63 0 101 0 0 0 0 0; } > "$out/board.img"
+    says 1 "refusal 23 place 129 task 0 depth 0" "$judge" --explain "$out/board.img" && grep ': pin 101 is on' "$out/err"
 }
 help() { "$judge" --help > "$out/said" 2> "$out/err" && grep '^usage: bias-verdict' "$out/said" && [ ! -s "$out/err" ]; }
 wrong_usage() {

@@ -156,7 +156,7 @@ const char *listing_refusal(uint32_t number)
         "a header number is out of range, a board is not for the type, or the start is not below the count",
         "bytes are left over behind the blocks",
         "the block's code is not carried",
-        "the drive lacks the command, or the pin with any board: another drive or another pin is needed",
+        "not on this drive, and no board helps: another pin or another drive is needed",
         "an operand is out of range, or the 51 would end another task than its own",
         "a byte that the command does not use is not 0",
         "the command is not allowed in this task",
@@ -171,7 +171,7 @@ const char *listing_refusal(uint32_t number)
         "the task is not running",
         "division by a variable that holds 0",
         "a variable's content is out of range",
-        [BIAS_BOARD_MISSING] = "the pin is on a board that the drive can take and that is not fitted",
+        [BIAS_BOARD_MISSING] = "a board is missing",
     };
     const int known = number < sizeof meanings / sizeof meanings[0] && meanings[number] != NULL;
     return known ? meanings[number] : "unknown number";
@@ -216,39 +216,38 @@ static const char *use_of(const uint8_t *b)
     }
 }
 
-/* 6: nothing that can be bought for this drive helps. */
-static int not_on_drive(const uint8_t *image, const uint8_t *b, char *text, size_t room)
+/* 6: what the type has with no board. */
+static void not_on_drive(const uint8_t *image, const uint8_t *b, char *text, size_t room)
 {
     const char *type = listing_type(image[1]), *use = use_of(b);
     if (use == NULL)
-        return snprintf(text, room, "a %s does not have this command: another drive is needed", type);
-    return snprintf(text, room, "neither a %s nor a board for it has pin %u as %s: another pin or drive is needed",
-                    type, pin_of(b), use);
+        snprintf(text, room, " (a %s never has this command)", type);
+    else
+        snprintf(text, room, " (a %s never has pin %u as %s)", type, pin_of(b), use);
 }
 
-/* 23: a board can be bought. */
-static int board_missing(const uint8_t *image, const uint8_t *b, char *text, size_t room)
+/* 23: the board that can be bought. */
+static void board_missing(const uint8_t *image, const uint8_t *b, char *text, size_t room)
 {
     const unsigned pin = pin_of(b);
     for (size_t n = 0; n < sizeof boards / sizeof boards[0]; n++) {
         const board *has = boards + n;
         const int empty = image[has->slot == 'B' ? 2 : 3] == 0;
         if (pin >= has->least && pin <= has->greatest)
-            return snprintf(text, room, "pin %u is on terminal %s of board %s, which this drive can take in slot %c%s",
-                            pin, has->terminal, has->name, has->slot, empty ? "" : ", in exchange for the board there");
+            snprintf(text, room, ": pin %u is on terminal %s of board %s, which this drive can take in slot %c%s", pin,
+                     has->terminal, has->name, has->slot, empty ? "" : ", in exchange for the board there");
     }
-    return -1;
 }
 
 void listing_verdict(const uint8_t *image, const bias_verdict *verdict, char *text, size_t room)
 {
-    int length = -1;
+    const int length = snprintf(text, room, "%s", listing_refusal(verdict->number));
+    if (length < 0 || (size_t)length >= room)
+        return;
     if (verdict->number == BIAS_NOT_ON_DRIVE)
-        length = not_on_drive(image, block_of(image, verdict->place), text, room);
+        not_on_drive(image, block_of(image, verdict->place), text + length, room - (size_t)length);
     else if (verdict->number == BIAS_BOARD_MISSING)
-        length = board_missing(image, block_of(image, verdict->place), text, room);
-    if (length < 0)
-        snprintf(text, room, "%s", listing_refusal(verdict->number));
+        board_missing(image, block_of(image, verdict->place), text + length, room - (size_t)length);
 }
 
 const char *listing_place(uint32_t number)

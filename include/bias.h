@@ -113,8 +113,8 @@ enum {
                                          its first byte; bias_write: the byte where it would stand */
     BIAS_LEFT_OVER = 4,               /* the first byte left over; bias_write: blocks too long, their length */
     BIAS_BAD_CODE = 5,                /* a command that is not carried: block */
-    BIAS_NOT_ON_DRIVE = 6,            /* another drive or another pin is needed: the type lacks the command, or lacks
-                                         the pin, as an input or as an output, with any board: block */
+    BIAS_NOT_ON_DRIVE = 6,            /* the type lacks the command, or lacks the pin with any board, as an input or
+                                         as an output. It takes another drive, or another pin: block */
     BIAS_BAD_OPERAND = 7,             /* another operand out of range, or a 51 that would end another task: block */
     BIAS_UNUSED_NOT_ZERO = 8,         /* a byte that the command does not use is not 0: block */
     BIAS_FORBIDDEN = 9,               /* a command not allowed in the task that can reach it: block, task, depth */
@@ -133,9 +133,9 @@ enum {
     BIAS_ZERO_DIVISOR = 19,           /* 8D by a variable that holds 0; the task halts: block, task, depth */
     BIAS_BAD_CONTENT = 20,            /* 31 to 33 or 5A read a variable out of range; the task halts: block, task,
                                          depth */
-    /* the image once more, from bias_load, in the place of 6 */
-    BIAS_BOARD_MISSING = 23           /* a board has to be bought, fitted and named in the header: the type can take
-                                         the one that has the pin, and its slot is empty or holds another: block */
+    /* the image again: bias_load answers 23 where a board would help, and else 6 */
+    BIAS_BOARD_MISSING = 23           /* the pin is on a board that the type can take; its slot is empty or holds
+                                         another. Buy that board, fit it and name it in the header: block */
 };
 
 /* The answer of bias_load and bias_write. */

@@ -51,9 +51,10 @@ pub data Name : Type 0 where
   marksOf : ℕ → Name
   blockBeforeTask : Name
   taskBeforeDepth : Name
-  -- a type and the boards in its slots B and C
-  onDrive : ℕ → ℕ → ℕ → Name
-  lentInstead : Name
+  -- these blocks on a type with these boards in its slots B and C
+  onDrive : ℕ → ℕ → ℕ → List (List ℕ) → Name
+  -- an image that sets this output lent in place of one that sets output 12
+  outputInstead : ℕ → Name
   heldStart : Name
   startMark : Name
 
@@ -171,6 +172,12 @@ inputRead pin = block (hex 6 3) 0 pin 0
 abbrev pub bitJump : List ℕ
 bitJump = plain (hex 6 14)
 
+abbrev pub driveRow : ℕ → ℕ → ℕ → List (List ℕ) → Answer → Row
+driveRow model b c blocks = row (onDrive model b c blocks) (verdict (imageWith model b c blocks))
+
+abbrev pub insteadRow : ℕ → Answer → Row
+insteadRow pin = row (outputInstead pin) (instead (image (outputSet 12 ∷ blockA ∷ [])) (image (outputSet pin ∷ blockA ∷ [])))
+
 unfoldable pub table : List Row
 table =
     -- A: 55 and seven 00: accepted
@@ -220,29 +227,29 @@ table =
     -- change request 2, 54 03, 52 03, 55 02, 50: at block 3 the 12 of BIAS at depth 1 comes before the PLC's at depth 0
     row taskBeforeDepth (verdict (image (toward (hex 5 4) 3 ∷ toward (hex 5 2) 3 ∷ toward (hex 5 5) 2 ∷ plain (hex 5 0) ∷ []))) (refusal 12 3 0 1) ∷
     -- change request 3, 72 D9 01 on type 2: 23, pin 217 is on RP-EAE, which goes into slot C
-    row (onDrive 2 0 0) (verdict (imageWith 2 0 0 (outputSet (hex 13 9) ∷ []))) (refusal 23 0 0 0) ∷
+    driveRow 2 0 0 (outputSet (hex 13 9) ∷ []) (refusal 23 0 0 0) ∷
     -- with slot C 1, and A's block behind it: accepted
-    row (onDrive 2 0 1) (verdict (imageWith 2 0 1 (outputSet (hex 13 9) ∷ blockA ∷ []))) accepted ∷
+    driveRow 2 0 1 (outputSet (hex 13 9) ∷ blockA ∷ []) accepted ∷
     -- on type 0, which takes no board: 6
-    row (onDrive 0 0 0) (verdict (imageWith 0 0 0 (outputSet (hex 13 9) ∷ []))) (refusal 6 0 0 0) ∷
+    driveRow 0 0 0 (outputSet (hex 13 9) ∷ []) (refusal 6 0 0 0) ∷
     -- change request 3, 72 7D 01 on type 2: 6, pin 125 is on RP-2C8, which only type 4 takes
-    row (onDrive 2 0 0) (verdict (imageWith 2 0 0 (outputSet (hex 7 13) ∷ []))) (refusal 6 0 0 0) ∷
+    driveRow 2 0 0 (outputSet (hex 7 13) ∷ []) (refusal 6 0 0 0) ∷
     -- on type 4 with slot B empty, or with RP-EA5 there: 23
-    row (onDrive 4 0 0) (verdict (imageWith 4 0 0 (outputSet (hex 7 13) ∷ []))) (refusal 23 0 0 0) ∷
-    row (onDrive 4 1 0) (verdict (imageWith 4 1 0 (outputSet (hex 7 13) ∷ []))) (refusal 23 0 0 0) ∷
+    driveRow 4 0 0 (outputSet (hex 7 13) ∷ []) (refusal 23 0 0 0) ∷
+    driveRow 4 1 0 (outputSet (hex 7 13) ∷ []) (refusal 23 0 0 0) ∷
     -- change request 3, 63 00 65 on type 2: 23, pin 101 is an input of RP-EA5
-    row (onDrive 2 0 0) (verdict (imageWith 2 0 0 (inputRead (hex 6 5) ∷ []))) (refusal 23 0 0 0) ∷
+    driveRow 2 0 0 (inputRead (hex 6 5) ∷ []) (refusal 23 0 0 0) ∷
     -- 72 65 01, an input set as an output: 6
-    row (onDrive 2 0 0) (verdict (imageWith 2 0 0 (outputSet (hex 6 5) ∷ []))) (refusal 6 0 0 0) ∷
+    driveRow 2 0 0 (outputSet (hex 6 5) ∷ []) (refusal 6 0 0 0) ∷
     -- 72 D9 02: 23 comes before the 7 of a level above 1
-    row (onDrive 2 0 0) (verdict (imageWith 2 0 0 (block (hex 7 2) (hex 13 9) 2 0 ∷ []))) (refusal 23 0 0 0) ∷
+    driveRow 2 0 0 (block (hex 7 2) (hex 13 9) 2 0 ∷ []) (refusal 23 0 0 0) ∷
     -- 6E on type 3: 6, which no board mends
-    row (onDrive 3 0 0) (verdict (imageWith 3 0 0 (bitJump ∷ []))) (refusal 6 0 0 0) ∷
-    -- change request 3, a step at a block that 23, or 6, refuses: 17 for either
-    row lentInstead (instead (image (outputSet 12 ∷ blockA ∷ [])) (image (outputSet (hex 13 9) ∷ blockA ∷ []))) (refusal 17 0 0 0) ∷
-    row lentInstead (instead (image (outputSet 12 ∷ blockA ∷ [])) (image (outputSet 8 ∷ blockA ∷ []))) (refusal 17 0 0 0) ∷
+    driveRow 3 0 0 (bitJump ∷ []) (refusal 6 0 0 0) ∷
+    -- change request 3, a step at a block that 23 refuses, then one that 6 does: 17 for either
+    insteadRow 217 (refusal 17 0 0 0) ∷
+    insteadRow 8 (refusal 17 0 0 0) ∷
     -- at a block that neither refuses it is carried out
-    row lentInstead (instead (image (outputSet 12 ∷ blockA ∷ [])) (image (outputSet 13 ∷ blockA ∷ []))) accepted ∷
+    insteadRow 13 accepted ∷
     -- faults: a start input that is high at load is no slope; one that is low and then high is
     row heldStart (requested mover (1 ∷ 1 ∷ 0 ∷ 1 ∷ [])) (motions (None ∷ None ∷ None ∷ MoveTo startAxis ∷ [])) ∷
     -- the start mark of 0E starts a move without a slope, which clears it

@@ -18,15 +18,15 @@ use Rattle.drive.specs.Boards.{mayCarry, withBoards, fitted}
 use Rattle.drive.specs.declared.Drive.{Drive}
 use Rattle.drive.specs.declared.Presence.{Presence}
 use Rattle.drive.specs.declared.Presence.the-variants as presence
-use Rattle.drive.proofs.Boards.{differ, never-with, none-on-631}
-use Rattle.drive.proofs.Boards as drive
+use Rattle.drive.proofs.Boards.{differ, missing-exactly, never-with, none-on-631}
+use Rattle.image.specs.Rows.{withDrive}
 use Rattle.image.specs.declared.Header.{Header}
 use Rattle.rows.specs.Rows.{rowOf}
 use Rattle.rows.specs.declared.Row.{Row}
 use Rattle.operands.specs.Operands.{byteAt, laidOut, unusedZero}
 use Rattle.operands.specs.declared.Command.{Command}
 use Rattle.command.specs.Judged.{notOn637Plus, devicePresence, operandFault, ifPresent, commandFault, rowFault, blockFault, blockFaultNumber, inRange}
-use Rattle.command.specs.Boards.{forDrive, OnDrive, Buyable, OtherDrive}
+use Rattle.command.specs.Boards.{OnDrive, Buyable, OtherDrive}
 use Rattle.command.specs.declared.BlockFault.{BlockFault}
 use Rattle.command.specs.declared.BlockFault.the-variants.{Fine, NotCarried, NotOnDrive, BoardMissing, OutOfRange, NotZero}
 
@@ -52,8 +52,8 @@ no-device = record {
 pin-device : (kind : PinKind) (which : ℕ → ℕ → ℕ) → Device (λ d x y. pinOf d kind (which x y))
 pin-device kind which = record {
   board = λ d x y. homeOf kind (which x y);
-  carried = λ d x y e. drive.missing-exactly d kind (which x y) .0 e .carried;
-  bought = λ d x y e. drive.missing-exactly d kind (which x y) .0 e .bought;
+  carried = λ d x y e. missing-exactly d kind (which x y) .0 e .carried;
+  bought = λ d x y e. missing-exactly d kind (which x y) .0 e .bought;
   never = λ d x y e. never-with d kind (which x y) e;
   on631 = λ d x y z e. none-on-631 d kind (which x y) z e;
 }
@@ -131,7 +131,7 @@ module _ (h : Header) (b : List ℕ) where
   rest = operandFault row (h .count) b c
 
   -- on any drive: 5, or what the drive has
-  by-drive : (d : Drive) (t : Bool) → eqb (row .layout) 0 ≡ t → blockFault (forDrive h d) b ≡ cond t NotCarried (ifPresent (has d) rest)
+  by-drive : (d : Drive) (t : Bool) → eqb (row .layout) 0 ≡ t → blockFault (withDrive d h) b ≡ cond t NotCarried (ifPresent (has d) rest)
   unfolding blockFault rowFault commandFault
   by-drive d t e = ap (λ (u : Bool). cond u NotCarried (ifPresent (has d) rest)) e
 
@@ -148,7 +148,7 @@ module _ (h : Header) (b : List ℕ) where
 
   -- what passes 6 and 23 is neither
   passing : OnDrive h b → {f : BlockFault} → blockFault h b ≡ f → (f ≡ NotOnDrive → ⊥) × (f ≡ BoardMissing → ⊥)
-  passing o e = (λ z. o .here (e ∙ z), λ z. o .fitted (e ∙ z))
+  passing o e = (λ z. o .not6 (e ∙ z), λ z. o .not23 (e ∙ z))
 
   -- 23: a board that can be bought
   pub buyable : blockFault h b ≡ BoardMissing → Buyable h b
@@ -163,8 +163,8 @@ module _ (h : Header) (b : List ℕ) where
         board = board;
         carried = device (row .device) .carried (h .drive) (c .x) (c .y) m;
         passes = record {
-          here = λ z. never-6 row (h .count) b c (sym after ∙ z);
-          fitted = λ z. never-23 row (h .count) b c (sym after ∙ z);
+          not6 = λ z. never-6 row (h .count) b c (sym after ∙ z);
+          not23 = λ z. never-23 row (h .count) b c (sym after ∙ z);
         };
       })
 
@@ -172,8 +172,8 @@ module _ (h : Header) (b : List ℕ) where
   other-back o = o .still (h .drive .b) (h .drive .c)
 
   -- 6: another drive, and nothing else will do
-  pub other-drive : (blockFault h b ≡ NotOnDrive) ↔ OtherDrive h b
-  other-drive = (forth, other-back)
+  pub by-6-exactly : (blockFault h b ≡ NotOnDrive) ↔ OtherDrive h b
+  by-6-exactly = (forth, other-back)
     where
       forth : blockFault h b ≡ NotOnDrive → OtherDrive h b
       forth =
@@ -188,19 +188,19 @@ module _ (h : Header) (b : List ℕ) where
   pub not-both : blockFault h b ≡ NotOnDrive → Buyable h b → ⊥
   not-both e m = go (m .board) (m .carried) (m .passes)
     where
-      go : (k : Home) → mayCarry (h .drive .model) k ≡ true → OnDrive (forDrive h (fitted (h .drive) k)) b → ⊥
-      go home.Nowhere f o = o .here e
-      go home.Only631 f o = o .here e
-      go home.Others f o = o .here e
-      go (home.SlotB n) f o = o .here (other-drive .0 e .still n (h .drive .c))
-      go (home.SlotC n) f o = o .here (other-drive .0 e .still (h .drive .b) n)
+      go : (k : Home) → mayCarry (h .drive .model) k ≡ true → OnDrive (withDrive (fitted (h .drive) k) h) b → ⊥
+      go home.Nowhere f o = o .not6 e
+      go home.Only631 f o = o .not6 e
+      go home.Others f o = o .not6 e
+      go (home.SlotB n) f o = o .not6 (by-6-exactly .0 e .still n (h .drive .c))
+      go (home.SlotC n) f o = o .not6 (by-6-exactly .0 e .still (h .drive .b) n)
 
   -- and 23 is told exactly where the block does not pass and a board would do
-  pub missing-exactly : (blockFault h b ≡ BoardMissing) ↔ ((OnDrive h b → ⊥) × Buyable h b)
-  missing-exactly = (λ e. (λ o. o .fitted e, buyable e), λ m. back (blockFault h b) refl (m .0) (m .1))
+  pub by-23-exactly : (blockFault h b ≡ BoardMissing) ↔ ((OnDrive h b → ⊥) × Buyable h b)
+  by-23-exactly = (λ e. (λ o. passing o e .1 refl, buyable e), λ m. back (blockFault h b) refl (m .0) (m .1))
     where
       sound : (f : BlockFault) → (blockFaultNumber f ≡ 6 → ⊥) → (blockFaultNumber f ≡ 23 → ⊥) → blockFault h b ≡ f → OnDrive h b
-      sound f n m e = record { here = λ z. n (ap blockFaultNumber (sym e ∙ z)); fitted = λ z. m (ap blockFaultNumber (sym e ∙ z)) }
+      sound f n m e = record { not6 = λ z. n (ap blockFaultNumber (sym e ∙ z)); not23 = λ z. m (ap blockFaultNumber (sym e ∙ z)) }
 
       back : (f : BlockFault) → blockFault h b ≡ f → (OnDrive h b → ⊥) → Buyable h b → f ≡ BoardMissing
       back Fine e n m = absurd (n (sound Fine (λ i. omega arith) (λ i. omega arith) e))

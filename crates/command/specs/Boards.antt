@@ -5,26 +5,22 @@ use mathlib.Core.Bool.{true}
 use mathlib.Core.List.{List}
 use Rattle.pins.specs.declared.Home.{Home}
 use Rattle.drive.specs.Boards.{mayCarry, withBoards, fitted}
-use Rattle.drive.specs.declared.Drive.{Drive}
+use Rattle.image.specs.Rows.{withDrive}
 use Rattle.image.specs.declared.Header.{Header}
 use Rattle.command.specs.Judged.{blockFault}
 use Rattle.command.specs.declared.BlockFault.the-variants.{NotOnDrive, BoardMissing}
 
--- the same header for another drive
-abbrev pub forDrive : Header → Drive → Header
-forDrive h d = record { format = h .format; drive = d; start = h .start; count = h .count }
-
 -- the block passes 6 and 23
 pub record OnDrive (h : Header) (b : List ℕ) : Type 0 where
-  pub here : blockFault h b ≡ NotOnDrive → ⊥
-  pub fitted : blockFault h b ≡ BoardMissing → ⊥
+  pub not6 : blockFault h b ≡ NotOnDrive → ⊥
+  pub not23 : blockFault h b ≡ BoardMissing → ⊥
 
 -- 23: there is a board that the type may carry, and with it the block passes 6 and 23
 pub record Buyable (h : Header) (b : List ℕ) : Type 0 where
   pub board : Home
   pub carried : mayCarry (h .drive .model) board ≡ true
-  pub passes : OnDrive (forDrive h (fitted (h .drive) board)) b
+  pub passes : OnDrive (withDrive (fitted (h .drive) board) h) b
 
 -- 6: whatever is in the slots, it is 6
 pub record OtherDrive (h : Header) (b : List ℕ) : Type 0 where
-  pub still : (slotB slotC : ℕ) → blockFault (forDrive h (withBoards (h .drive) slotB slotC)) b ≡ NotOnDrive
+  pub still : (slotB slotC : ℕ) → blockFault (withDrive (withBoards (h .drive) slotB slotC) h) b ≡ NotOnDrive

@@ -133,6 +133,15 @@ inRange n = getD ranges n (λ count c. true)
 
 -- ---- the block
 
+-- document 01's number, and change request 3's
+abbrev pub blockFaultNumber : BlockFault → ℕ
+blockFaultNumber Fine = 0
+blockFaultNumber NotCarried = 5
+blockFaultNumber NotOnDrive = 6
+blockFaultNumber BoardMissing = 23
+blockFaultNumber OutOfRange = 7
+blockFaultNumber NotZero = 8
+
 -- 7, then 8: the operands c of a block b whose code has the row r, in an image of `count` blocks
 unfoldable pub operandFault : Row → ℕ → List ℕ → Command → BlockFault
 operandFault r count b c = cond (inRange (r .ranges) count c) (cond (unusedZero (r .layout) b) Fine NotZero) OutOfRange
@@ -152,12 +161,3 @@ rowFault r h b = cond (eqb (r .layout) 0) NotCarried (commandFault r h b (laidOu
 
 unfoldable pub blockFault : Header → List ℕ → BlockFault
 blockFault h b = rowFault (rowOf (byteAt b 0)) h b
-
--- document 01's number, and change request 3's
-abbrev pub blockFaultNumber : BlockFault → ℕ
-blockFaultNumber Fine = 0
-blockFaultNumber NotCarried = 5
-blockFaultNumber NotOnDrive = 6
-blockFaultNumber BoardMissing = 23
-blockFaultNumber OutOfRange = 7
-blockFaultNumber NotZero = 8

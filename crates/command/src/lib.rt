@@ -26,7 +26,7 @@ pub enum BlockFault {
 }
 
 impl BlockFault {
-    // Document 01's number, 0 for none.
+    // Document 01's number, and change request 3's 23; 0 for none.
     pub fn number(self) -> u32
         ensures { λ r. ⌜ r ≡ blockFaultNumber self ⌝ }
     {

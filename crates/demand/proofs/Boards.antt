@@ -1,15 +1,13 @@
 -- 6 and 23 as C sees them (change request 3): what a load that answers one of them says of the block that it names, and that a step answers 17 for either and
 -- never 23. What a block by itself gives stands in command/proofs/Boards.antt. Assumes nothing.
-use Prim.Native.Nat.{ℕ, _≤_}
+use Prim.Native.Nat.{ℕ}
 use native.Mathlib.Omega.{arith}
-use mathlib.Core.Path.{_≡_, refl, sym, ap, _∙_}
-use mathlib.Core.Bool.{Bool, true, false, _&&_, and-false}
+use mathlib.Core.Path.{_≡_, refl, sym, _∙_}
+use mathlib.Core.Bool.{false, and-false}
 use mathlib.Core.Logic.{_⊎_, inl, inr, ⊎-elim}
 use mathlib.Core.List.{List}
-use lib.Dec.{eqb}
 use borrow.Author.Tests.{ne-eqb}
 use Rattle.le.specs.LittleEndian.{Bytes}
-use Rattle.number.proofs.Choice.{clash}
 use Rattle.drive.specs.Types.{type631}
 use Rattle.outcome.specs.Outcome.{numberOf, done}
 use Rattle.outcome.specs.declared.Outcome.{Outcome}
@@ -20,7 +18,7 @@ use Rattle.command.specs.Judged.{blockFaultNumber}
 use Rattle.command.specs.Boards.{Buyable, OtherDrive}
 use Rattle.command.specs.declared.BlockFault.{BlockFault}
 use Rattle.command.specs.declared.BlockFault.the-variants as block
-use Rattle.command.proofs.Boards.{buyable, other-drive, never-on-631}
+use Rattle.command.proofs.Boards.{buyable, by-6-exactly, never-on-631}
 use Rattle.fault.specs.Fault.{faultNumber}
 use Rattle.fault.specs.declared.Fault.{Fault}
 use Rattle.fault.specs.declared.Fault.the-variants as fault
@@ -31,7 +29,7 @@ use Rattle.walk.specs.declared.Verdict.{Verdict}
 use Rattle.state.specs.State.{taskAt}
 use Rattle.layout.specs.Decoded.{decoded}
 use Rattle.machine.specs.Given.{Inputs}
-use Rattle.machine.specs.Engine.{pointOf, isLoaded, blockFits, waitFits, fits}
+use Rattle.machine.specs.Engine.{pointOf, fits}
 use Rattle.machine.specs.Numbers.{causeNumber}
 use Rattle.machine.specs.declared.Cause.{Cause}
 use Rattle.machine.specs.declared.Cause.the-variants.{ZeroDivisor, BadContent}
@@ -114,12 +112,12 @@ module _ (image : List ℕ) (n : ℕ) (b : List ℕ) where
   of-load (Loads.judged room right v j) o e = of-verdict j o e
 
   -- 23: the block named misses a board that can be bought
-  pub bought : load image n b .verdict .number ≡ 23 → Buyable h (blockAt bs named)
-  bought e = buyable h (blockAt bs named) (is-23 (blockFaultAt h bs named) (of-load (loads image n b) (inr refl) e))
+  pub load-by-23 : load image n b .verdict .number ≡ 23 → Buyable h (blockAt bs named)
+  load-by-23 e = buyable h (blockAt bs named) (is-23 (blockFaultAt h bs named) (of-load (loads image n b) (inr refl) e))
 
   -- 6: the block named asks for another drive
-  pub changed : load image n b .verdict .number ≡ 6 → OtherDrive h (blockAt bs named)
-  changed e = other-drive h (blockAt bs named) .0 (is-6 (blockFaultAt h bs named) (of-load (loads image n b) (inl refl) e))
+  pub load-by-6 : load image n b .verdict .number ≡ 6 → OtherDrive h (blockAt bs named)
+  load-by-6 e = by-6-exactly h (blockAt bs named) .0 (is-6 (blockFaultAt h bs named) (of-load (loads image n b) (inl refl) e))
 
   -- 23 is no answer to a program for a 631
   pub no-23-on-631 : h .drive .model ≡ type631 → load image n b .verdict .number ≡ 23 → ⊥

@@ -20,7 +20,7 @@ use Rattle.drive.specs.declared.Drive.{Drive}
 use Rattle.drive.specs.declared.Presence.{Presence}
 use Rattle.drive.specs.declared.Presence.the-variants.{Present, BoardMissing, Never}
 use Rattle.drive.proofs.Below.{both, left, right}
-use Rattle.drive.proofs.Laws.{from-least, empty-always, no-board-on-631}
+use Rattle.drive.proofs.Laws.{and-true, from-least, empty-always, no-board-on-631, written-is-read, never-both}
 
 -- ---- the three answers differ, and so do the two of a test
 
@@ -32,8 +32,8 @@ rank Never = 2
 pub differ : {A : Type 0} (p q : Presence) → (rank p ≡ rank q → ⊥) → p ≡ q → A
 differ p q n e = absurd (n (ap rank e))
 
-clash : {A : Type 0} → _≡_ {A = Bool} false true → A
-clash e = absurd (let z : _≡_ {A = ℕ} 0 1 = cc in omega arith)
+never-true : {A : Type 0} → _≡_ {A = Bool} false true → A
+never-true e = absurd (let z : _≡_ {A = ℕ} 0 1 = cc in omega arith)
 
 -- ---- a board of a slot: whether the type could carry it, and whether the slot holds it
 
@@ -50,44 +50,80 @@ held could b e = rw (e, eq-eqb b b refl)
 lacking : (could same : Bool) → could ≡ true → (inSlot could same ≡ Present → ⊥) → inSlot could same ≡ BoardMissing
 lacking true true e n = absurd (n refl)
 lacking true false e n = refl
-lacking false same e n = clash e
+lacking false same e n = never-true e
 
 barred : (could same other : Bool) → inSlot could same ≡ Never → inSlot could other ≡ Never
 barred true true other e = differ Present Never (λ r. omega arith) e
 barred true false other e = differ BoardMissing Never (λ r. omega arith) e
 barred false same other e = refl
 
+joined : {b : Bool} (a : Bool) → T a → b ≡ true → (a && b) ≡ true
+joined true t e = e
+joined false t e = absurd t
+
 closed : (could same : Bool) → (could ≡ true → ⊥) → inSlot could same ≡ Never
 closed true same n = absurd (n refl)
 closed false same n = refl
 
+-- ---- no pin is at an empty slot
+
+-- the home is no empty slot
+abbrev real : Home → Bool
+real Nowhere = true
+real Only631 = true
+real Others = true
+real (SlotB b) = not (eqb b 0)
+real (SlotC c) = not (eqb c 0)
+
+abbrev allReal : List Row → Bool
+allReal [] = true
+allReal (r ∷ rs) = both (real (r .home)) (allReal rs)
+
+real-in : (rs : List Row) → T (allReal rs) → (pin : ℕ) → T (real (homeIn rs pin))
+unfolding homeIn
+real-in [] t pin = tt
+real-in (r ∷ rs) t pin =
+    pick (leb (r .first) pin && leb pin (r .last)) (left (real (r .home)) (allReal rs) t) (real-in rs (right (real (r .home)) (allReal rs) t) pin)
+  where
+    pick : (m : Bool) → T (real (r .home)) → T (real (homeIn rs pin)) → T (real (cond m (r .home) (homeIn rs pin)))
+    pick true h later = h
+    pick false h later = later
+
+real-home : (kind : PinKind) (pin : ℕ) → T (real (homeOf kind pin))
+unfolding homeOf inputs outputsWritten outputsRead
+real-home Input pin = real-in inputs tt pin
+real-home OutputWritten pin = real-in outputsWritten tt pin
+real-home OutputRead pin = real-in outputsRead tt pin
+
 -- ---- homes
 
 module _ (d : Drive) where
-  missing-at : (h : Home) → presence d h ≡ BoardMissing → (mayCarry (d .model) h ≡ true) × (presence (fitted d h) h ≡ Present)
+  missing-at : (h : Home) → T (real h) → presence d h ≡ BoardMissing → (mayCarry (d .model) h ≡ true) × (presence (fitted d h) h ≡ Present)
   unfolding presence onBoard
-  missing-at Nowhere e = differ Never BoardMissing (λ r. omega arith) e
-  missing-at Only631 e = only (eqb (d .model) type631) e
+  missing-at Nowhere t e = differ Never BoardMissing (λ r. omega arith) e
+  missing-at Only631 t e = only (eqb (d .model) type631) e
     where
       only : {A : Type 0} (t : Bool) → cond t Present Never ≡ BoardMissing → A
       only true i = differ Present BoardMissing (λ r. omega arith) i
       only false i = differ Never BoardMissing (λ r. omega arith) i
-  missing-at Others e = others (eqb (d .model) type631) (ltb (d .model) types) e
+  missing-at Others t e = others (eqb (d .model) type631) (ltb (d .model) types) e
     where
       others : {A : Type 0} (t u : Bool) → cond t Never (cond u Present Never) ≡ BoardMissing → A
       others true u i = differ Never BoardMissing (λ r. omega arith) i
       others false true i = differ Present BoardMissing (λ r. omega arith) i
       others false false i = differ Never BoardMissing (λ r. omega arith) i
-  missing-at (SlotB b) e = let could = missed (takesB (d .model) b) (eqb (d .b) b) e in (could, held (takesB (d .model) b) b could)
-  missing-at (SlotC c) e = let could = missed (takesC (d .model) c) (eqb (d .c) c) e in (could, held (takesC (d .model) c) c could)
+  missing-at (SlotB b) t e =
+      let could = missed (takesB (d .model) b) (eqb (d .b) b) e in (joined (not (eqb b 0)) t could, held (takesB (d .model) b) b could)
+  missing-at (SlotC c) t e =
+      let could = missed (takesC (d .model) c) (eqb (d .c) c) e in (joined (not (eqb c 0)) t could, held (takesC (d .model) c) c could)
 
   carried-at : (h : Home) → mayCarry (d .model) h ≡ true → (presence d h ≡ Present → ⊥) → presence d h ≡ BoardMissing
   unfolding presence onBoard
-  carried-at Nowhere e n = clash e
-  carried-at Only631 e n = clash e
-  carried-at Others e n = clash e
-  carried-at (SlotB b) e n = lacking (takesB (d .model) b) (eqb (d .b) b) e n
-  carried-at (SlotC c) e n = lacking (takesC (d .model) c) (eqb (d .c) c) e n
+  carried-at Nowhere e n = never-true e
+  carried-at Only631 e n = never-true e
+  carried-at Others e n = never-true e
+  carried-at (SlotB b) e n = lacking (takesB (d .model) b) (eqb (d .b) b) (and-true (not (eqb b 0)) (takesB (d .model) b) e .1) n
+  carried-at (SlotC c) e n = lacking (takesC (d .model) c) (eqb (d .c) c) (and-true (not (eqb c 0)) (takesC (d .model) c) e .1) n
 
   -- whatever is in the slots, carried by the type or not
   never-at : (h : Home) → presence d h ≡ Never → (b c : ℕ) → presence (withBoards d b c) h ≡ Never
@@ -136,7 +172,7 @@ module _ (d : Drive) (kind : PinKind) (pin : ℕ) where
     where
       forth : presence d (homeOf kind pin) ≡ BoardMissing → Missing d kind pin
       forth e =
-          let m = missing-at d (homeOf kind pin) e in
+          let m = missing-at d (homeOf kind pin) (real-home kind pin) e in
           record { carried = m .0; bought = m .1; absent = λ p. differ Present BoardMissing (λ r. omega arith) (sym p ∙ e) }
 
   never-back : NeverThere d kind pin → pinOf d kind pin ≡ Never
@@ -156,42 +192,32 @@ module _ (d : Drive) (kind : PinKind) (pin : ℕ) where
 
 -- ---- the 631
 
--- the home is no empty slot
-abbrev real : Home → Bool
-real Nowhere = true
-real Only631 = true
-real Others = true
-real (SlotB b) = not (eqb b 0)
-real (SlotC c) = not (eqb c 0)
-
-abbrev allReal : List Row → Bool
-allReal [] = true
-allReal (r ∷ rs) = both (real (r .home)) (allReal rs)
-
-real-in : (rs : List Row) → T (allReal rs) → (pin : ℕ) → T (real (homeIn rs pin))
-unfolding homeIn
-real-in [] t pin = tt
-real-in (r ∷ rs) t pin =
-    pick (leb (r .first) pin && leb pin (r .last)) (left (real (r .home)) (allReal rs) t) (real-in rs (right (real (r .home)) (allReal rs) t) pin)
-  where
-    pick : (m : Bool) → T (real (r .home)) → T (real (homeIn rs pin)) → T (real (cond m (r .home) (homeIn rs pin)))
-    pick true h later = h
-    pick false h later = later
-
-real-home : (kind : PinKind) (pin : ℕ) → T (real (homeOf kind pin))
-unfolding homeOf inputs outputsWritten outputsRead
-real-home Input pin = real-in inputs tt pin
-real-home OutputWritten pin = real-in outputsWritten tt pin
-real-home OutputRead pin = real-in outputsRead tt pin
-
-no-board : (h : Home) → T (real h) → mayCarry type631 h ≡ true → ⊥
-no-board Nowhere t e = clash e
-no-board Only631 t e = clash e
-no-board Others t e = clash e
-no-board (SlotB b) t e = subst (λ (k : ℕ). T (not (eqb k 0))) (no-board-on-631 b .0 e) t
-no-board (SlotC c) t e = subst (λ (k : ℕ). T (not (eqb k 0))) (no-board-on-631 c .1 e) t
+no-board : (h : Home) → mayCarry type631 h ≡ true → ⊥
+no-board Nowhere e = never-true e
+no-board Only631 e = never-true e
+no-board Others e = never-true e
+no-board (SlotB b) e =
+    let t = and-true (not (eqb b 0)) (takesB type631 b) e in
+    never-true (sym (ap (λ (k : ℕ). not (eqb k 0)) (no-board-on-631 b .0 (t .1))) ∙ t .0)
+no-board (SlotC c) e =
+    let t = and-true (not (eqb c 0)) (takesC type631 c) e in
+    never-true (sym (ap (λ (k : ℕ). not (eqb k 0)) (no-board-on-631 c .1 (t .1))) ∙ t .0)
 
 -- on a 631 no board is missing
 pub none-on-631 : (d : Drive) (kind : PinKind) (pin : ℕ) → d .model ≡ type631 → pinOf d kind pin ≡ BoardMissing → ⊥
 none-on-631 d kind pin e m =
-    no-board (homeOf kind pin) (real-home kind pin) (ap (λ (t : ℕ). mayCarry t (homeOf kind pin)) (sym e) ∙ missing-exactly d kind pin .0 m .carried)
+    no-board (homeOf kind pin) (ap (λ (t : ℕ). mayCarry t (homeOf kind pin)) (sym e) ∙ missing-exactly d kind pin .0 m .carried)
+
+-- ---- pins of the other kind
+
+-- an input, of the drive or of a board that it could have, is never an output that can be written, whatever is in the slots
+pub input-never-set : (d : Drive) (pin : ℕ) → pin < 256 → (pinOf d Input pin ≡ Never → ⊥) → pinOf d OutputWritten pin ≡ Never
+input-never-set d pin h p = go (pinOf d OutputWritten pin) refl
+  where
+    other : (pinOf d OutputWritten pin ≡ Never → ⊥) → ⊥
+    other n = never-both d pin h p (λ e. n (sym (written-is-read d pin n) ∙ e))
+
+    go : (q : Presence) → pinOf d OutputWritten pin ≡ q → q ≡ Never
+    go Never e = refl
+    go Present e = absurd (other (λ z. differ Present Never (λ r. omega arith) (sym e ∙ z)))
+    go BoardMissing e = absurd (other (λ z. differ BoardMissing Never (λ r. omega arith) (sym e ∙ z)))

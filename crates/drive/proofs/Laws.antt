@@ -2,7 +2,7 @@
 -- Assumes nothing.
 use Prim.Native.Nat.{ℕ, zero, suc, _<_, _≤_}
 use native.Mathlib.Omega.{arith}
-use mathlib.Core.Path.{_≡_, refl, sym, ap, _∙_}
+use mathlib.Core.Path.{_≡_, refl, ap, _∙_}
 use mathlib.Core.Bool.{Bool, true, false, _&&_, not, cond}
 use mathlib.Core.List.{List}
 use lib.ListN.{length, getD}
@@ -24,7 +24,7 @@ use Rattle.pins.proofs.Homes.{read-other}
 
 -- ---- boards
 
-and-true : (a b : Bool) → (a && b) ≡ true → (a ≡ true) × (b ≡ true)
+pub and-true : (a b : Bool) → (a && b) ≡ true → (a ≡ true) × (b ≡ true)
 and-true true b e = (refl, e)
 and-true false b e = (e, let z : _≡_ {A = ℕ} 0 1 = cc in absurd (omega arith))
 
@@ -77,9 +77,6 @@ no-board-on-631 b =
 
 -- ---- pins
 
-never-present : Never ≡ Present → ⊥
-never-present p = let z : _≡_ {A = ℕ} 0 1 = cc in omega arith
-
 -- pin 8 can be read as an output on the types 1 to 4 and not on the 631, and can be written on none
 pub output-8 : (d : Drive) →
     (d .model ≡ 0 → pinOf d OutputRead 8 ≡ Never) × (0 < d .model → d .model < 5 → pinOf d OutputRead 8 ≡ Present) × (pinOf d OutputWritten 8 ≡ Never)
@@ -87,14 +84,14 @@ unfolding pinOf homeOf homeIn outputsRead outputsWritten presence
 output-8 d =
     (λ e. simp (eq-eqb _ _ e), λ h k. simp (ne-eqb (d .model) 0 (λ e. omega arith), lt-ltb _ _ k), refl)
 
--- an output that a drive can write, it can read
-pub written-is-read : (d : Drive) (pin : ℕ) → pinOf d OutputWritten pin ≡ Present → pinOf d OutputRead pin ≡ Present
+-- an output that a drive can write, or could with another board, it can read, or could, likewise
+pub written-is-read : (d : Drive) (pin : ℕ) → (pinOf d OutputWritten pin ≡ Never → ⊥) → pinOf d OutputRead pin ≡ pinOf d OutputWritten pin
 unfolding pinOf homeOf
-written-is-read d pin p = split (eqb pin 8) refl
+written-is-read d pin n = split (eqb pin 8) refl
   where
-    split : (b : Bool) → eqb pin 8 ≡ b → pinOf d OutputRead pin ≡ Present
-    split true e = absurd (never-present (sym (output-8 d .2) ∙ ap (pinOf d OutputWritten) (sym (eqb-true pin 8 e)) ∙ p))
-    split false e = ap (presence d) (read-other pin (eqb-false pin 8 e)) ∙ p
+    split : (b : Bool) → eqb pin 8 ≡ b → pinOf d OutputRead pin ≡ pinOf d OutputWritten pin
+    split true e = absurd (n (ap (pinOf d OutputWritten) (eqb-true pin 8 e) ∙ output-8 d .2))
+    split false e = ap (presence d) (read-other pin (eqb-false pin 8 e))
 
 nothing : (d : Drive) → 5 ≤ d .model → (h : Home) → presence d h ≡ Never
 unfolding presence onBoard

@@ -1,7 +1,8 @@
 -- Boards fitted to a drive, of which the laws of change request 3 speak (proofs/Boards.antt). Assumes nothing.
 use Prim.Native.Nat.{ℕ}
 use mathlib.Core.Path.{_≡_}
-use mathlib.Core.Bool.{Bool, true, false}
+use mathlib.Core.Bool.{Bool, true, false, _&&_, not}
+use lib.Dec.{eqb}
 use Rattle.pins.specs.declared.Home.{Home}
 use Rattle.pins.specs.declared.Home.the-variants.{Nowhere, Only631, Others, SlotB, SlotC}
 use Rattle.pins.specs.Homes.{homeOf}
@@ -11,13 +12,13 @@ use Rattle.drive.specs.Pins.{pinOf}
 use Rattle.drive.specs.declared.Drive.{Drive}
 use Rattle.drive.specs.declared.Presence.the-variants.{Present}
 
--- whether the home is a board, and one that the type may carry
+-- whether the home is a board, and one that the type may carry; board 0 is the empty slot
 abbrev pub mayCarry : ℕ → Home → Bool
 mayCarry t Nowhere = false
 mayCarry t Only631 = false
 mayCarry t Others = false
-mayCarry t (SlotB b) = takesB t b
-mayCarry t (SlotC c) = takesC t c
+mayCarry t (SlotB b) = not (eqb b 0) && takesB t b
+mayCarry t (SlotC c) = not (eqb c 0) && takesC t c
 
 -- the same type with these boards
 abbrev pub withBoards : Drive → ℕ → ℕ → Drive
@@ -31,7 +32,7 @@ fitted d Others = d
 fitted d (SlotB b) = withBoards d b (d .c)
 fitted d (SlotC c) = withBoards d (d .b) c
 
--- the drive's type may have these in its slots; board 0 is the empty slot
+-- the drive's type may have these in its slots, 0 among them
 pub record Carries (d : Drive) (b c : ℕ) : Type 0 where
   pub inB : takesB (d .model) b ≡ true
   pub inC : takesC (d .model) c ≡ true

@@ -11,7 +11,7 @@ use Rattle.drive.specs.declared.Drive.{Drive}
 use Rattle.drive.specs.declared.Presence.{Presence}
 use Rattle.drive.specs.declared.Presence.the-variants.{Present, BoardMissing, Never}
 
--- a board's pin, where the type could carry the board or not, and the slot holds a board
+-- whether a drive has the pins of a board: whether its type could carry the board, the board, and the one that its slot holds
 unfoldable pub onBoard : Bool → ℕ → ℕ → Presence
 onBoard could board slot = cond could (cond (eqb slot board) Present BoardMissing) Never
 

@@ -120,7 +120,7 @@ fn found(d: Drive, home: Home) -> Presence
     }
 }
 
-// What a type that could carry the board or not, and has what it has in the slot, finds on the board.
+// Whether a drive has the pins of a board: `could`, whether its type may carry the board; `slot`, the board that its slot holds.
 fn on_board(could: bool, board: u8, slot: u8) -> Presence
     ensures { λ r. ⌜ r ≡ onBoard could board slot ⌝ }
 {

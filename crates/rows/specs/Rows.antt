@@ -1,5 +1,5 @@
 -- The commands carried, one row for each code: document 01, "The commands carried", and chapters 3 and 4 of 000. A row says where the operands stand
--- behind the code byte, what the drive must have (6), which ranges the operands have (7), which tasks may use the command (9; the boxes of
+-- behind the code byte, what the drive must have (6, 23), which ranges the operands have (7), which tasks may use the command (9; the boxes of
 -- chapter 3), and what it may continue with. The columns are numbers, which the code has too; each is named here and given its meaning where it
 -- is used, in a list of as many entries as the column has numbers (its count). Assumes nothing.
 use Prim.Native.Nat.{ℕ, _+_, _*_}

@@ -1,5 +1,4 @@
 -- `judge_command` meets its contract: each arm is the definition's case of what the drive has. Assumes nothing.
-use mathlib.Core.Path.{sym, _∙_}
 use borrow.Author.Needs.{needs}
 use Rattle.command.specs.Judged.{commandFault}
 use Rattle.command.proofs.judge_command.Statement.{statement}
