@@ -18,7 +18,7 @@ use Rattle.drive.specs.Boards.{mayCarry, withBoards, fitted}
 use Rattle.drive.specs.declared.Drive.{Drive}
 use Rattle.drive.specs.declared.Presence.{Presence}
 use Rattle.drive.specs.declared.Presence.the-variants as presence
-use Rattle.drive.proofs.Boards.{differ, missing-exactly, never-with, none-on-631}
+use Rattle.drive.proofs.Boards.{differ, missing-exactly, never-with, no-board}
 use Rattle.image.specs.Rows.{withDrive}
 use Rattle.image.specs.declared.Header.{Header}
 use Rattle.rows.specs.Rows.{rowOf}
@@ -37,7 +37,6 @@ record Device (f : Drive → ℕ → ℕ → Presence) : Type 0 where
   carried : (d : Drive) (x y : ℕ) → f d x y ≡ presence.BoardMissing → mayCarry (d .model) (board d x y) ≡ true
   bought : (d : Drive) (x y : ℕ) → f d x y ≡ presence.BoardMissing → f (fitted d (board d x y)) x y ≡ presence.Present
   never : (d : Drive) (x y : ℕ) → f d x y ≡ presence.Never → (b c : ℕ) → f (withBoards d b c) x y ≡ presence.Never
-  on631 : (d : Drive) (x y : ℕ) → d .model ≡ type631 → f d x y ≡ presence.BoardMissing → ⊥
 
 no-device : Device (λ d x y. presence.Present)
 no-device = record {
@@ -45,7 +44,6 @@ no-device = record {
   carried = λ d x y e. differ presence.Present presence.BoardMissing (λ r. omega arith) e;
   bought = λ d x y e. refl;
   never = λ d x y e b c. e;
-  on631 = λ d x y z e. differ presence.Present presence.BoardMissing (λ r. omega arith) e;
 }
 
 -- a pin, in one of the operands
@@ -55,21 +53,19 @@ pin-device kind which = record {
   carried = λ d x y e. missing-exactly d kind (which x y) .0 e .carried;
   bought = λ d x y e. missing-exactly d kind (which x y) .0 e .bought;
   never = λ d x y e. never-with d kind (which x y) e;
-  on631 = λ d x y z e. none-on-631 d kind (which x y) z e;
 }
 
 not-637-plus : Device (λ d x y. notOn637Plus d)
 not-637-plus = record {
   board = λ d x y. home.Nowhere;
-  carried = λ d x y e. no-board (eqb (d .model) type637Plus) e;
-  bought = λ d x y e. no-board (eqb (d .model) type637Plus) e;
+  carried = λ d x y e. none-missing (eqb (d .model) type637Plus) e;
+  bought = λ d x y e. none-missing (eqb (d .model) type637Plus) e;
   never = λ d x y e b c. e;
-  on631 = λ d x y z e. no-board (eqb (d .model) type637Plus) e;
 }
   where
-    no-board : {A : Type 0} (t : Bool) → cond t presence.Never presence.Present ≡ presence.BoardMissing → A
-    no-board true e = differ presence.Never presence.BoardMissing (λ r. omega arith) e
-    no-board false e = differ presence.Present presence.BoardMissing (λ r. omega arith) e
+    none-missing : {A : Type 0} (t : Bool) → cond t presence.Never presence.Present ≡ presence.BoardMissing → A
+    none-missing true e = differ presence.Never presence.BoardMissing (λ r. omega arith) e
+    none-missing false e = differ presence.Present presence.BoardMissing (λ r. omega arith) e
 
 device : (n : ℕ) → Device (devicePresence n)
 unfolding devicePresence
@@ -150,6 +146,10 @@ module _ (h : Header) (b : List ℕ) where
   passing : OnDrive h b → {f : BlockFault} → blockFault h b ≡ f → (f ≡ NotOnDrive → ⊥) × (f ≡ BoardMissing → ⊥)
   passing o e = (λ z. o .not6 (e ∙ z), λ z. o .not23 (e ∙ z))
 
+  -- there is no board to buy for a 631
+  not-for-631 : Buyable h b → h .drive .model ≡ type631 → ⊥
+  not-for-631 m z = no-board (m .board) (ap (λ (t : ℕ). mayCarry t (m .board)) (sym z) ∙ m .carried)
+
   -- 23: a board that can be bought
   pub buyable : blockFault h b ≡ BoardMissing → Buyable h b
   unfolding board
@@ -212,6 +212,4 @@ module _ (h : Header) (b : List ℕ) where
 
   -- 23 never comes on a 631
   pub never-on-631 : h .drive .model ≡ type631 → blockFault h b ≡ BoardMissing → ⊥
-  never-on-631 z =
-      of-presence BoardMissing (λ e. apart NotCarried BoardMissing (λ i. omega arith) e)
-      (λ i k. device (row .device) .on631 (h .drive) (c .x) (c .y) z (missing row (h .count) b c (has (h .drive)) i))
+  never-on-631 z e = not-for-631 (buyable e) z

@@ -2,7 +2,7 @@
 -- exactly where no boards that the type may carry bring it; on a 631 no board is missing. Assumes nothing.
 use Prim.Native.Nat.{ℕ, _<_}
 use native.Mathlib.Omega.{arith}
-use mathlib.Core.Path.{_≡_, refl, sym, ap, subst, _∙_}
+use mathlib.Core.Path.{_≡_, refl, sym, ap, _∙_}
 use mathlib.Core.Bool.{Bool, true, false, _&&_, not, cond}
 use mathlib.Core.Logic.{_↔_}
 use mathlib.Core.List.{List, [], _∷_}
@@ -192,7 +192,8 @@ module _ (d : Drive) (kind : PinKind) (pin : ℕ) where
 
 -- ---- the 631
 
-no-board : (h : Home) → mayCarry type631 h ≡ true → ⊥
+-- it may carry no board
+pub no-board : (h : Home) → mayCarry type631 h ≡ true → ⊥
 no-board Nowhere e = never-true e
 no-board Only631 e = never-true e
 no-board Others e = never-true e
@@ -203,7 +204,7 @@ no-board (SlotC c) e =
     let t = and-true (not (eqb c 0)) (takesC type631 c) e in
     never-true (sym (ap (λ (k : ℕ). not (eqb k 0)) (no-board-on-631 c .1 (t .1))) ∙ t .0)
 
--- on a 631 no board is missing
+-- so none is missing
 pub none-on-631 : (d : Drive) (kind : PinKind) (pin : ℕ) → d .model ≡ type631 → pinOf d kind pin ≡ BoardMissing → ⊥
 none-on-631 d kind pin e m =
     no-board (homeOf kind pin) (ap (λ (t : ℕ). mayCarry t (homeOf kind pin)) (sym e) ∙ missing-exactly d kind pin .0 m .carried)
