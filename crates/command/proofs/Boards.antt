@@ -80,6 +80,10 @@ device (suc (suc (suc (suc (suc (suc (suc n))))))) = no-device
 
 -- ---- a command: 6 and 23 are what the drive has, and nothing else is
 
+-- they come before 7 and 8, whatever those say
+pub drive-first : (later : BlockFault) → (ifPresent presence.BoardMissing later ≡ BoardMissing) × (ifPresent presence.Never later ≡ NotOnDrive)
+drive-first later = (refl, refl)
+
 apart : {A : Type 0} (f g : BlockFault) → (blockFaultNumber f ≡ blockFaultNumber g → ⊥) → f ≡ g → A
 apart f g n e = absurd (n (ap blockFaultNumber e))
 
@@ -103,11 +107,11 @@ module _ (r : Row) (count : ℕ) (b : List ℕ) (c : Command) where
   missing : (p : Presence) → ifPresent p (operandFault r count b c) ≡ BoardMissing → p ≡ presence.BoardMissing
   missing presence.Present e = absurd (never-23 e)
   missing presence.BoardMissing e = refl
-  missing presence.Never e = apart NotOnDrive BoardMissing (λ i. omega arith) e
+  missing presence.Never e = apart NotOnDrive BoardMissing (λ i. omega arith) (sym (drive-first (operandFault r count b c) .1) ∙ e)
 
   barred : (p : Presence) → ifPresent p (operandFault r count b c) ≡ NotOnDrive → p ≡ presence.Never
   barred presence.Present e = absurd (never-6 e)
-  barred presence.BoardMissing e = apart BoardMissing NotOnDrive (λ i. omega arith) e
+  barred presence.BoardMissing e = apart BoardMissing NotOnDrive (λ i. omega arith) (sym (drive-first (operandFault r count b c) .0) ∙ e)
   barred presence.Never e = refl
 
 -- ---- a block

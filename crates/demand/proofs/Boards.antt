@@ -2,14 +2,16 @@
 -- never 23. What a block by itself gives stands in command/proofs/Boards.antt. Assumes nothing.
 use Prim.Native.Nat.{ℕ}
 use native.Mathlib.Omega.{arith}
-use mathlib.Core.Path.{_≡_, refl, sym, _∙_}
-use mathlib.Core.Bool.{false, and-false}
-use mathlib.Core.Logic.{_⊎_, inl, inr, ⊎-elim}
+use mathlib.Core.Path.{_≡_, refl, sym, ap, subst, _∙_}
+use mathlib.Core.Bool.{Bool, false, _||_, and-false}
+use mathlib.Core.Logic.{_↔_}
 use mathlib.Core.List.{List}
+use lib.Dec.{T, eqb}
+use lib.ListN.{length}
 use borrow.Author.Tests.{ne-eqb}
 use Rattle.le.specs.LittleEndian.{Bytes}
 use Rattle.drive.specs.Types.{type631}
-use Rattle.outcome.specs.Outcome.{numberOf, done}
+use Rattle.outcome.specs.Outcome.{numberOf}
 use Rattle.outcome.specs.declared.Outcome.{Outcome}
 use Rattle.outcome.specs.declared.Outcome.the-variants.{Done, EndsEarly, NotShortest, OutOfRange, LeftOver, NoRoom}
 use Rattle.image.specs.Scan.{headerOf, blocksOf}
@@ -18,15 +20,18 @@ use Rattle.command.specs.Judged.{blockFaultNumber}
 use Rattle.command.specs.Boards.{Buyable, OtherDrive}
 use Rattle.command.specs.declared.BlockFault.{BlockFault}
 use Rattle.command.specs.declared.BlockFault.the-variants as block
+use Rattle.command.proofs.Numbers.{number-tells}
 use Rattle.command.proofs.Boards.{buyable, by-6-exactly, never-on-631}
 use Rattle.fault.specs.Fault.{faultNumber}
 use Rattle.fault.specs.declared.Fault.{Fault}
 use Rattle.fault.specs.declared.Fault.the-variants as fault
 use Rattle.walk.specs.Program.{blockAt, blockFaultAt, blockNumber, faultAt}
 use Rattle.walk.specs.Says.{Says, Judges}
-use Rattle.walk.specs.Verdict.{verdictNumber, verdictPlace}
+use Rattle.walk.specs.Verdict.{verdictNumber}
 use Rattle.walk.specs.declared.Verdict.{Verdict}
+use Rattle.walk.specs.declared.Verdict.the-variants as verdict
 use Rattle.state.specs.State.{taskAt}
+use Rattle.layout.specs.Layout.{bufferLength}
 use Rattle.layout.specs.Decoded.{decoded}
 use Rattle.machine.specs.Given.{Inputs}
 use Rattle.machine.specs.Engine.{pointOf, fits}
@@ -35,55 +40,41 @@ use Rattle.machine.specs.declared.Cause.{Cause}
 use Rattle.machine.specs.declared.Cause.the-variants.{ZeroDivisor, BadContent}
 use Rattle.machine.specs.declared.Motion.the-variants.{None}
 use Rattle.machine.specs.declared.Answer.the-variants.{Differs}
-use Rattle.border.specs.Border.{answerFor}
+use Rattle.border.specs.Border.{verdictFor, answerFor}
 use Rattle.border.specs.declared.BiasAnswer.{BiasAnswer}
 use Rattle.border.specs.declared.BiasVerdict.{BiasVerdict}
 use Rattle.bias.specs.Load.{load}
 use Rattle.bias.specs.Step.{stepped}
+use Rattle.demand.specs.Boards.{FirstFault}
 use Rattle.demand.specs.Every.{Running, Way}
 use Rattle.demand.specs.Theorem.{Loads}
 use Rattle.demand.proofs.Every.{every-step}
-use Rattle.demand.proofs.Loads.{loads}
+use Rattle.demand.proofs.Loads.{loads, loads-only}
 
 -- ---- 6 and 23 come from blocks alone
 
-abbrev OfDrive : ℕ → Type 0
-OfDrive m = (m ≡ 6) ⊎ (m ≡ 23)
+abbrev ofDrive : ℕ → Bool
+ofDrive m = eqb m 6 || eqb m 23
 
-neither : {A : Type 0} (k : ℕ) {m : ℕ} → (k ≡ 6 → ⊥) → (k ≡ 23 → ⊥) → OfDrive m → k ≡ m → A
-neither k {m} six missing o e = absurd (⊎-elim (λ (i : m ≡ 6). six (e ∙ i)) (λ (i : m ≡ 23). missing (e ∙ i)) o)
+not-header : (o : Outcome) → T (ofDrive (numberOf o)) → ⊥
+not-header Done t = t
+not-header (EndsEarly p) t = t
+not-header (NotShortest p) t = t
+not-header (OutOfRange p) t = t
+not-header (LeftOver p) t = t
+not-header (NoRoom p) t = t
 
-not-header : (o : Outcome) {m : ℕ} → OfDrive m → numberOf o ≡ m → ⊥
-not-header Done o e = neither 0 (λ i. omega arith) (λ i. omega arith) o e
-not-header (EndsEarly p) o e = neither 1 (λ i. omega arith) (λ i. omega arith) o e
-not-header (NotShortest p) o e = neither 2 (λ i. omega arith) (λ i. omega arith) o e
-not-header (OutOfRange p) o e = neither 3 (λ i. omega arith) (λ i. omega arith) o e
-not-header (LeftOver p) o e = neither 4 (λ i. omega arith) (λ i. omega arith) o e
-not-header (NoRoom p) o e = neither 14 (λ i. omega arith) (λ i. omega arith) o e
+not-walk : (f : Fault) → T (ofDrive (faultNumber f)) → ⊥
+not-walk fault.Fine t = t
+not-walk fault.Foreign t = t
+not-walk fault.Forbidden t = t
+not-walk fault.TooDeep t = t
+not-walk fault.NoCall t = t
+not-walk fault.PastEnd t = t
 
-not-walk : (f : Fault) {m : ℕ} → OfDrive m → faultNumber f ≡ m → ⊥
-not-walk fault.Fine o e = neither 0 (λ i. omega arith) (λ i. omega arith) o e
-not-walk fault.Foreign o e = neither 7 (λ i. omega arith) (λ i. omega arith) o e
-not-walk fault.Forbidden o e = neither 9 (λ i. omega arith) (λ i. omega arith) o e
-not-walk fault.TooDeep o e = neither 10 (λ i. omega arith) (λ i. omega arith) o e
-not-walk fault.NoCall o e = neither 11 (λ i. omega arith) (λ i. omega arith) o e
-not-walk fault.PastEnd o e = neither 12 (λ i. omega arith) (λ i. omega arith) o e
-
-is-6 : (f : BlockFault) → blockFaultNumber f ≡ 6 → f ≡ block.NotOnDrive
-is-6 block.Fine e = absurd (omega arith)
-is-6 block.NotCarried e = absurd (omega arith)
-is-6 block.NotOnDrive e = refl
-is-6 block.BoardMissing e = absurd (omega arith)
-is-6 block.OutOfRange e = absurd (omega arith)
-is-6 block.NotZero e = absurd (omega arith)
-
-is-23 : (f : BlockFault) → blockFaultNumber f ≡ 23 → f ≡ block.BoardMissing
-is-23 block.Fine e = absurd (omega arith)
-is-23 block.NotCarried e = absurd (omega arith)
-is-23 block.NotOnDrive e = absurd (omega arith)
-is-23 block.BoardMissing e = refl
-is-23 block.OutOfRange e = absurd (omega arith)
-is-23 block.NotZero e = absurd (omega arith)
+-- a fault with such a number is no passing
+refused : (f : BlockFault) → T (ofDrive (blockFaultNumber f)) → blockFaultNumber f ≡ 0 → ⊥
+refused f t e = subst (λ (m : ℕ). T (ofDrive m)) e t
 
 -- ---- loads
 
@@ -98,30 +89,59 @@ module _ (image : List ℕ) (n : ℕ) (b : List ℕ) where
   abbrev named : ℕ
   named = load image n b .verdict .place
 
-  of-verdict : {v : Verdict} → Judges image n v → {m : ℕ} → OfDrive m → verdictNumber v ≡ m → blockNumber h bs (verdictPlace v) ≡ m
-  of-verdict (Judges.marks short) o e = neither 13 (λ i. omega arith) (λ i. omega arith) o e
-  of-verdict (Judges.header room d) o e = absurd (not-header (headerOf image .outcome) o e)
-  of-verdict (Judges.block room d k l all bad) o e = e
-  of-verdict (Judges.walks room d all v (Says.accepted f g)) o e = neither 0 (λ i. omega arith) (λ i. omega arith) o e
-  of-verdict (Judges.walks room d all v (Says.foreign p f g)) o e = neither 7 (λ i. omega arith) (λ i. omega arith) o e
-  of-verdict (Judges.walks room d all v (Says.bad f p q g)) o e = absurd (not-walk (faultAt h bs p) o e)
+  -- the first such block is told, with its number
+  told-back : (f : BlockFault) (k : ℕ) → T (ofDrive (blockFaultNumber f)) → FirstFault image n b k f → load image n b .verdict ≡ verdictFor (verdict.Block f k)
+  told-back f k t i =
+      sym
+      (ap (λ (g : BlockFault). verdictFor (verdict.Block g k)) (sym (i .fault))
+      ∙ loads-only image n b _
+      (Loads.judged (i .marks) (i .buffer) _
+      (Judges.block (i .marks) (i .header) k (i .block) (i .before) (λ z. refused f t (ap blockFaultNumber (sym (i .fault)) ∙ z)))))
 
-  of-load : {v : BiasVerdict} → Loads image n b v → {m : ℕ} → OfDrive m → v .number ≡ m → blockNumber h bs (v .place) ≡ m
-  of-load (Loads.marks short) o e = neither 13 (λ i. omega arith) (λ i. omega arith) o e
-  of-load (Loads.buffer room wrong) o e = neither 16 (λ i. omega arith) (λ i. omega arith) o e
-  of-load (Loads.judged room right v j) o e = of-verdict j o e
+  -- what such a number says of the block beside it
+  First : BiasVerdict → Type 0
+  First v = FirstFault image n b (v .place) (blockFaultAt h bs (v .place)) × (blockNumber h bs (v .place) ≡ v .number)
+
+  of-verdict : length b ≡ bufferLength → {v : Verdict} → Judges image n v → T (ofDrive (verdictNumber v)) → First (verdictFor v)
+  unfolding First
+  of-verdict right (Judges.marks short) t = absurd t
+  of-verdict right (Judges.header room d) t = absurd (not-header (headerOf image .outcome) t)
+  of-verdict right (Judges.block room d k l all bad) t =
+      (record { marks = room; buffer = right; header = d; block = l; before = all; fault = refl }, refl)
+  of-verdict right (Judges.walks room d all v (Says.accepted f g)) t = absurd t
+  of-verdict right (Judges.walks room d all v (Says.foreign p f g)) t = absurd t
+  of-verdict right (Judges.walks room d all v (Says.bad f p q g)) t = absurd (not-walk (faultAt h bs p) t)
+
+  of-load : {v : BiasVerdict} → Loads image n b v → T (ofDrive (v .number)) → First v
+  of-load (Loads.marks short) t = absurd t
+  of-load (Loads.buffer room wrong) t = absurd t
+  of-load (Loads.judged room right v j) t = of-verdict right j t
+
+  told : (f : BlockFault) → T (ofDrive (blockFaultNumber f)) → load image n b .verdict .number ≡ blockFaultNumber f → FirstFault image n b named f
+  unfolding First
+  told f t e =
+      let r = of-load (loads image n b) (subst (λ (m : ℕ). T (ofDrive m)) (sym e) t) in
+      subst (FirstFault image n b named) (number-tells (blockFaultAt h bs named) f (r .1 ∙ e)) (r .0)
+
+  -- 6 or 23 is answered, with block k, exactly where k is the first block that is refused by itself, and by that
+  pub told-exactly : (f : BlockFault) (k : ℕ) → T (ofDrive (blockFaultNumber f))
+      → ((load image n b .verdict .number ≡ blockFaultNumber f) × (named ≡ k)) ↔ FirstFault image n b k f
+  told-exactly f k t = (
+    λ e. subst (λ (m : ℕ). FirstFault image n b m f) (e .1) (told f t (e .0)),
+    λ i. let v = told-back f k t i in (ap (λ (w : BiasVerdict). w .number) v, ap (λ (w : BiasVerdict). w .place) v),
+  )
 
   -- 23: the block named misses a board that can be bought
   pub load-by-23 : load image n b .verdict .number ≡ 23 → Buyable h (blockAt bs named)
-  load-by-23 e = buyable h (blockAt bs named) (is-23 (blockFaultAt h bs named) (of-load (loads image n b) (inr refl) e))
+  load-by-23 e = buyable h (blockAt bs named) (told block.BoardMissing tt e .fault)
 
   -- 6: the block named asks for another drive
   pub load-by-6 : load image n b .verdict .number ≡ 6 → OtherDrive h (blockAt bs named)
-  load-by-6 e = by-6-exactly h (blockAt bs named) .0 (is-6 (blockFaultAt h bs named) (of-load (loads image n b) (inl refl) e))
+  load-by-6 e = by-6-exactly h (blockAt bs named) .0 (told block.NotOnDrive tt e .fault)
 
   -- 23 is no answer to a program for a 631
   pub no-23-on-631 : h .drive .model ≡ type631 → load image n b .verdict .number ≡ 23 → ⊥
-  no-23-on-631 z e = never-on-631 h (blockAt bs named) z (is-23 (blockFaultAt h bs named) (of-load (loads image n b) (inr refl) e))
+  no-23-on-631 z e = never-on-631 h (blockAt bs named) z (told block.BoardMissing tt e .fault)
 
 -- ---- steps
 

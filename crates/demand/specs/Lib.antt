@@ -1,3 +1,4 @@
 pub mod Every
 pub mod Run
 pub mod Theorem
+pub mod Boards

@@ -161,6 +161,17 @@ module _ (d : Drive) where
 -- ---- pins
 
 module _ (d : Drive) (kind : PinKind) (pin : ℕ) where
+  -- not both, on a drive whose own boards its type may carry: the board that would bring the pin is one of those that do not
+  pub missing-or-never : Carries d (d .b) (d .c) → Missing d kind pin → NeverThere d kind pin → ⊥
+  missing-or-never own m n = at (homeOf kind pin) (m .carried) (m .bought)
+    where
+      at : (h : Home) → mayCarry (d .model) h ≡ true → pinOf (fitted d h) kind pin ≡ Present → ⊥
+      at Nowhere e p = never-true e
+      at Only631 e p = never-true e
+      at Others e p = never-true e
+      at (SlotB k) e p = n .none k (d .c) (record { inB = and-true (not (eqb k 0)) (takesB (d .model) k) e .1; inC = own .inC }) p
+      at (SlotC k) e p = n .none (d .b) k (record { inB = own .inB; inC = and-true (not (eqb k 0)) (takesC (d .model) k) e .1 }) p
+
   missing-back : Missing d kind pin → pinOf d kind pin ≡ BoardMissing
   unfolding pinOf
   missing-back m = carried-at d (homeOf kind pin) (m .carried) (m .absent)
@@ -192,17 +203,17 @@ module _ (d : Drive) (kind : PinKind) (pin : ℕ) where
 
 -- ---- the 631
 
+zero-board : (b : ℕ) (could : Bool) → (could ≡ true → b ≡ 0) → (not (eqb b 0) && could) ≡ true → ⊥
+zero-board b could zeroed e =
+    let t = and-true (not (eqb b 0)) could e in never-true (sym (ap (λ (k : ℕ). not (eqb k 0)) (zeroed (t .1))) ∙ t .0)
+
 -- it may carry no board
 pub no-board : (h : Home) → mayCarry type631 h ≡ true → ⊥
 no-board Nowhere e = never-true e
 no-board Only631 e = never-true e
 no-board Others e = never-true e
-no-board (SlotB b) e =
-    let t = and-true (not (eqb b 0)) (takesB type631 b) e in
-    never-true (sym (ap (λ (k : ℕ). not (eqb k 0)) (no-board-on-631 b .0 (t .1))) ∙ t .0)
-no-board (SlotC c) e =
-    let t = and-true (not (eqb c 0)) (takesC type631 c) e in
-    never-true (sym (ap (λ (k : ℕ). not (eqb k 0)) (no-board-on-631 c .1 (t .1))) ∙ t .0)
+no-board (SlotB b) e = zero-board b (takesB type631 b) (no-board-on-631 b .0) e
+no-board (SlotC c) e = zero-board c (takesC type631 c) (no-board-on-631 c .1) e
 
 -- so none is missing
 pub none-on-631 : (d : Drive) (kind : PinKind) (pin : ℕ) → d .model ≡ type631 → pinOf d kind pin ≡ BoardMissing → ⊥

@@ -5,6 +5,7 @@ use mathlib.Core.Bool.{Bool, _&&_, cond}
 use mathlib.Core.List.{List, [], _∷_}
 use lib.ListN.{getD}
 use lib.Dec.{eqb, ltb, leb}
+use Rattle.drive.specs.Boards.{withBoards}
 use Rattle.drive.specs.Types.{types, takesB, takesC}
 use Rattle.drive.specs.declared.Drive.{Drive}
 use Rattle.image.specs.declared.Header.{Header}
@@ -45,10 +46,10 @@ abbrev pub withModel : ℕ → Drive → Drive
 withModel v d = record { model = v; b = d .b; c = d .c }
 
 abbrev pub withB : ℕ → Drive → Drive
-withB v d = record { model = d .model; b = v; c = d .c }
+withB v d = withBoards d v (d .c)
 
 abbrev pub withC : ℕ → Drive → Drive
-withC v d = record { model = d .model; b = d .b; c = v }
+withC v d = withBoards d (d .b) v
 
 abbrev pub withBlocks : ℕ → ℕ → Header → Header
 withBlocks start count h = record { format = h .format; drive = h .drive; start = start; count = count }

@@ -9,17 +9,24 @@ use Rattle.state.specs.declared.Values.{Values}
 use Rattle.machine.specs.Given.{Given}
 use Rattle.machine.specs.Effect.{started}
 
-pub started-exactly : (g : Given) (v : Values) → (started g v ≡ true) ↔ ((v .mark ≡ 0 → ⊥) ⊎ ((g .start ≡ 0 → ⊥) × (v .notes .level ≡ 0)))
-started-exactly g v = (to (eqb (v .mark) 0) refl (eqb (g .start) 0) refl (eqb (v .notes .level) 0) refl, from)
+-- the mark, or the start input and the level noted before
+abbrev pub Starts : Given → Values → Type 0
+Starts g v = (v .mark ≡ 0 → ⊥) ⊎ ((g .start ≡ 0 → ⊥) × (v .notes .level ≡ 0))
+
+starts-for : (g : Given) (v : Values) → started g v ≡ true → Starts g v
+starts-for g v = to (eqb (v .mark) 0) refl (eqb (g .start) 0) refl (eqb (v .notes .level) 0) refl
   where
     to : (a : Bool) → eqb (v .mark) 0 ≡ a → (b : Bool) → eqb (g .start) 0 ≡ b → (c : Bool) → eqb (v .notes .level) 0 ≡ c
-        → (not a || (not b && c)) ≡ true → (v .mark ≡ 0 → ⊥) ⊎ ((g .start ≡ 0 → ⊥) × (v .notes .level ≡ 0))
+        → (not a || (not b && c)) ≡ true → Starts g v
     to false i b j c k e = inl (eqb-false (v .mark) 0 i)
     to true i false j true k e = inr (eqb-false (g .start) 0 j, eqb-true (v .notes .level) 0 k)
     to true i false j false k e = clash (sym e)
     to true i true j c k e = clash (sym e)
 
-    from : (v .mark ≡ 0 → ⊥) ⊎ ((g .start ≡ 0 → ⊥) × (v .notes .level ≡ 0)) → started g v ≡ true
+pub started-exactly : (g : Given) (v : Values) → (started g v ≡ true) ↔ Starts g v
+started-exactly g v = (starts-for g v, from)
+  where
+    from : Starts g v → started g v ≡ true
     from (inl n) = rw (ne-eqb (v .mark) 0 n) refl
     from (inr (n, e)) = rw (ne-eqb (g .start) 0 n, eq-eqb (v .notes .level) 0 e) (always (eqb (v .mark) 0))
       where
