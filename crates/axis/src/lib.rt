@@ -1,7 +1,7 @@
 // Commands of motion (00, 01, 03, 04, 0E, 0F, 1F) and of the stored parameters (20 to 23, 30 to 33, 40 to 43): one function for each, and the one that
 // finds it.
-use command::ranges::MOST_RAMP;
-use command::ranges::MOST_SPEED;
+use limits::MOST_RAMP;
+use limits::MOST_SPEED;
 use machine::Cause;
 use machine::Effect;
 use machine::Moment;
@@ -13,8 +13,8 @@ ghost use mathlib.Core.Path.{_≡_};
 ghost use mathlib.Core.Bool.{true, cond};
 ghost use mathlib.Core.List.{[]};
 ghost use lib.IntN.{pos};
+ghost use Rattle.limits.specs.Limits.{mostSpeed, mostRamp};
 ghost use Rattle.state.specs.State.{withAxis, withMark, withPosition, withSpeed, withAcceleration, withDeceleration};
-ghost use Rattle.command.specs.Judged.{mostSpeed, mostRamp};
 ghost use Rattle.machine.specs.Given.{givenAt};
 ghost use Rattle.machine.specs.Effect.{effect, sets, flows, halts, assigns, variable, within, natural, started, axisRows, deedIn};
 ghost use Rattle.machine.specs.declared.Cause.the-variants.{BadContent};

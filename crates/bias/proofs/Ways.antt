@@ -6,15 +6,13 @@ use mathlib.Core.List.{List}
 use lib.ListN.{length}
 use lib.Dec.{eqb}
 use borrow.Author.Tests.{lt-ltb, le-ltb, eq-eqb, ne-eqb, eqb-true, eqb-false}
+use Rattle.limits.specs.Limits.{taskCount, cells, marksLength, stateLength}
 use Rattle.number.proofs.Choice.{by}
-use Rattle.flow.specs.Flow.{taskCount}
-use Rattle.state.specs.State.{cells}
 use Rattle.state.specs.declared.State.{State}
-use Rattle.walk.specs.Index.{marksLength}
 use Rattle.walk.specs.Verdict.{verdictOf, isAccepted}
 use Rattle.walk.specs.declared.Verdict.{Verdict}
 use Rattle.walk.specs.declared.Verdict.the-variants.{MarksShort}
-use Rattle.layout.specs.Layout.{bufferLength, unusedLength}
+use Rattle.layout.specs.Layout.{unusedLength}
 use Rattle.layout.specs.Decoded.{decoded}
 use Rattle.layout.specs.Encoded.{encoded}
 use Rattle.layout.specs.Test.{unusedZero, stateIs, isState}
@@ -36,13 +34,13 @@ module _ (image : List ℕ) (n : ℕ) (b : List ℕ) where
   unfolding load
   marks-short h = rw (lt-ltb n marksLength h)
 
-  pub no-buffer : marksLength ≤ n → (length b ≡ bufferLength → ⊥) → load image n b ≡ refuseLoad (numbered noState 0) b
+  pub no-buffer : marksLength ≤ n → (length b ≡ stateLength → ⊥) → load image n b ≡ refuseLoad (numbered noState 0) b
   unfolding load
-  no-buffer h d = rw (le-ltb n marksLength h, ne-eqb (length b) bufferLength d)
+  no-buffer h d = rw (le-ltb n marksLength h, ne-eqb (length b) stateLength d)
 
-  pub of-image : marksLength ≤ n → length b ≡ bufferLength → load image n b ≡ judgedLoad image (verdictOf image n) b
+  pub of-image : marksLength ≤ n → length b ≡ stateLength → load image n b ≡ judgedLoad image (verdictOf image n) b
   unfolding load
-  of-image h e = rw (le-ltb n marksLength h, eq-eqb (length b) bufferLength e)
+  of-image h e = rw (le-ltb n marksLength h, eq-eqb (length b) stateLength e)
 
 module _ (image : List ℕ) (v : Verdict) (b : List ℕ) where
   pub verdict-is : judgedLoad image v b .verdict ≡ verdictFor v
@@ -110,19 +108,19 @@ module _ (b copy : List ℕ) (same : copy ≡ b) where
   state-of s e t q = sym (q ∙ ap stateIs (read-of s e))
 
 module _ (b : List ℕ) where
-  pub wrong-length : (length b ≡ bufferLength → ⊥) → isState b ≡ false
+  pub wrong-length : (length b ≡ stateLength → ⊥) → isState b ≡ false
   unfolding isState
-  wrong-length d = rw (ne-eqb (length b) bufferLength d)
+  wrong-length d = rw (ne-eqb (length b) stateLength d)
 
-  module _ (e : length b ≡ bufferLength) where
+  module _ (e : length b ≡ stateLength) where
     pub unused-not-zero : unusedZero b unusedLength ≡ false → isState b ≡ false
     unfolding isState
-    unused-not-zero u = rw (eq-eqb (length b) bufferLength e, u)
+    unused-not-zero u = rw (eq-eqb (length b) stateLength e, u)
 
     pub judged-no-state : unusedZero b unusedLength ≡ true → stateIs (decoded b) ≡ false → isState b ≡ false
     unfolding isState
-    judged-no-state u s = rw (eq-eqb (length b) bufferLength e, u, s)
+    judged-no-state u s = rw (eq-eqb (length b) stateLength e, u, s)
 
     pub judged-state : unusedZero b unusedLength ≡ true → stateIs (decoded b) ≡ true → isState b ≡ true
     unfolding isState
-    judged-state u s = rw (eq-eqb (length b) bufferLength e, u, s)
+    judged-state u s = rw (eq-eqb (length b) stateLength e, u, s)

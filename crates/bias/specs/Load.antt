@@ -5,11 +5,10 @@ use mathlib.Core.Bool.{cond}
 use mathlib.Core.List.{List}
 use lib.Dec.{eqb, ltb}
 use lib.ListN.{length}
-use Rattle.walk.specs.Index.{marksLength}
+use Rattle.limits.specs.Limits.{marksLength, stateLength}
 use Rattle.walk.specs.Verdict.{verdictOf, isAccepted}
 use Rattle.walk.specs.declared.Verdict.{Verdict}
 use Rattle.walk.specs.declared.Verdict.the-variants.{MarksShort}
-use Rattle.layout.specs.Layout.{bufferLength}
 use Rattle.layout.specs.Encoded.{encoded}
 use Rattle.machine.specs.Theorem.{loaded}
 use Rattle.border.specs.Border.{noState, numbered, verdictFor}
@@ -31,4 +30,4 @@ judgedLoad image v b = record { verdict = verdictFor v; buffer = cond (isAccepte
 unfoldable pub load : List ℕ → ℕ → List ℕ → Load
 load image n b =
     cond (ltb n marksLength) (refuseLoad (verdictFor (MarksShort n)) b)
-    (cond (eqb (length b) bufferLength) (judgedLoad image (verdictOf image n) b) (refuseLoad (numbered noState 0) b))
+    (cond (eqb (length b) stateLength) (judgedLoad image (verdictOf image n) b) (refuseLoad (numbered noState 0) b))

@@ -5,8 +5,7 @@ use mathlib.Core.Bool.{cond}
 use mathlib.Core.List.{List}
 use lib.Dec.{eqb, ltb}
 use lib.ListN.{length}
-use Rattle.flow.specs.Flow.{taskCount}
-use Rattle.state.specs.State.{cells}
+use Rattle.limits.specs.Limits.{taskCount, cells}
 use Rattle.layout.specs.Decoded.{decoded}
 use Rattle.layout.specs.Encoded.{encoded}
 use Rattle.layout.specs.Test.{isState}

@@ -5,20 +5,20 @@ use border::BiasVerdict;
 use image::reader;
 use machine::Answer;
 use machine::Motion;
-use places::LENGTH;
-use program::MARKS_LENGTH;
-use state::CELLS;
+use limits::STATE_LENGTH;
+use limits::TASK_COUNT;
+use limits::MARKS_LENGTH;
+use limits::INPUTS_LENGTH;
 use state::State;
 use walk::Verdict;
 ghost use mathlib.Core.Path.{_≡_};
 ghost use mathlib.Core.List.{[], _∷_};
 ghost use lib.ListN.{length};
-ghost use Rattle.walk.specs.Index.{marksLength};
+ghost use Rattle.limits.specs.Limits.{marksLength, stateLength};
 ghost use Rattle.walk.specs.Verdict.{verdictOf};
 ghost use Rattle.loader.specs.After.{After};
 ghost use Rattle.writer.specs.Writer.{written, outAfter};
 ghost use Rattle.state.specs.Good.{Good};
-ghost use Rattle.layout.specs.Layout.{bufferLength};
 ghost use Rattle.layout.specs.Encoded.{encoded};
 ghost use Rattle.machine.specs.Given.{inputsOf};
 ghost use Rattle.machine.specs.Engine.{step};
@@ -26,8 +26,6 @@ ghost use Rattle.machine.specs.Theorem.{loaded};
 ghost use Rattle.border.specs.Border.{writtenFor};
 ghost use Rattle.bias.specs.Load.{load, judgedLoad};
 ghost use Rattle.bias.specs.Step.{handed, stepState, stepped};
-
-const TASK_COUNT: u32 = flow::TASK_COUNT as u32;
 
 // Loads an image: judges it, in the first MARKS_LENGTH bytes of marks, and puts its fresh state into the buffer where it is accepted.
 #[no_mangle]
@@ -40,7 +38,7 @@ pub extern "C" fn bias_load(image: &[u8], marks: &mut [u8], state: &mut [u8]) ->
     if n < MARKS_LENGTH {
         return border::verdict(Verdict::MarksShort(n));
     }
-    if state.len() != LENGTH {
+    if state.len() != STATE_LENGTH {
         return border::numbered(border::NO_STATE, 0);
     }
     load_image(image, marks, state)
@@ -48,7 +46,7 @@ pub extern "C" fn bias_load(image: &[u8], marks: &mut [u8], state: &mut [u8]) ->
 
 // Judges an image, and puts its fresh state into the buffer where it is accepted.
 fn load_image(image: &[u8], marks: &mut [u8], state: &mut [u8]) -> BiasVerdict
-    requires { ⌜ length (now state) ≡ bufferLength ⌝ }
+    requires { ⌜ length (now state) ≡ stateLength ⌝ }
     ensures { λ r. ⌜ r ≡ judgedLoad (now (image .entry)) (verdictOf (now (image .entry)) (length (now (marks .entry)))) (now (state .entry)) .verdict ⌝ }
     ensures { λ _. ⌜ now (state .exit) ≡ judgedLoad (now (image .entry)) (verdictOf (now (image .entry)) (length (now (marks .entry)))) (now (state .entry)) .buffer ⌝ }
     ensures { λ _. ⌜ After marksLength (now (marks .entry)) (now (marks .exit)) ⌝ }
@@ -71,7 +69,7 @@ fn fresh(image: &[u8]) -> State
 
 // The bytes of a state into the buffer.
 fn put_state(state: &mut [u8], s: State)
-    requires { ⌜ length (now state) ≡ bufferLength ⌝ }
+    requires { ⌜ length (now state) ≡ stateLength ⌝ }
     ensures { λ _. ⌜ now (state .exit) ≡ encoded s ⌝ }
 {
     let b = writing::encode(s);
@@ -95,10 +93,10 @@ pub extern "C" fn bias_step(
         return border::answer(Motion::None, Answer::NoTask(task));
     }
     let n = inputs.len();
-    if n != CELLS {
+    if n != INPUTS_LENGTH {
         return border::answer(Motion::None, Answer::Inputs(n));
     }
-    if state.len() != LENGTH {
+    if state.len() != STATE_LENGTH {
         return border::no_state();
     }
     step_buffer(image, state, task, inputs, start, reached)
@@ -113,7 +111,7 @@ fn step_buffer(
     start: u8,
     reached: u8,
 ) -> BiasAnswer
-    requires { ⌜ length (now state) ≡ bufferLength ⌝ }
+    requires { ⌜ length (now state) ≡ stateLength ⌝ }
     ensures { λ r. ⌜ r ≡ stepState (now (image .entry)) (now (state .entry)) (inputsOf task (now (inputs .entry)) start reached) .answer ⌝ }
     ensures { λ _. ⌜ now (state .exit) ≡ stepState (now (image .entry)) (now (state .entry)) (inputsOf task (now (inputs .entry)) start reached) .buffer ⌝ }
 {
@@ -138,7 +136,7 @@ fn step_state(
     start: u8,
     reached: u8,
 ) -> BiasAnswer
-    requires { ⌜ length (now state) ≡ bufferLength ⌝ }
+    requires { ⌜ length (now state) ≡ stateLength ⌝ }
     requires { ⌜ Good s ⌝ }
     ensures { λ r. ⌜ r ≡ handed (step (now (image .entry)) s (inputsOf task (now (inputs .entry)) start reached)) .answer ⌝ }
     ensures { λ _. ⌜ now (state .exit) ≡ handed (step (now (image .entry)) s (inputsOf task (now (inputs .entry)) start reached)) .buffer ⌝ }

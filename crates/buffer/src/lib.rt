@@ -1,35 +1,27 @@
 // 16: which buffers are a state.
 use drive::Drive;
 use image::Header;
-use places::LENGTH;
-use state::CELLS;
-use state::STACK_LENGTH;
+use limits::STATE_LENGTH;
+use limits::CELLS;
+use limits::STACK_LENGTH;
 use state::State;
 use state::Task;
 use state::Values;
 ghost use mathlib.Core.Path.{_≡_};
 ghost use lib.Dec.{eqb};
 ghost use lib.ListN.{length};
-ghost use Rattle.command.specs.Judged.{upTo};
-ghost use Rattle.point.specs.Fault.{mostDepth};
-ghost use Rattle.state.specs.State.{cells};
-ghost use Rattle.layout.specs.Layout.{bufferLength, unusedLength};
+ghost use Rattle.limits.specs.Limits.{mostDepth, cells, stateLength};
+ghost use Rattle.layout.specs.Layout.{unusedLength};
 ghost use Rattle.layout.specs.Test.{allOf, levelIs, entryIs, headerIs, waitIs, taskIs, valuesAre, stateIs, unusedZero, isState};
 
-// Limits.
 const FORMAT_1: u8 = image::reader::FORMAT_1 as u8;
-
-const MOST_BLOCKS: u16 = image::reader::MOST_BLOCKS as u16;
 
 const UNUSED_AT: usize = layout::UNUSED_AT as usize;
 
-const UNUSED_LENGTH: usize = LENGTH - UNUSED_AT;
-
-// The longest wait in ms.
-const LONGEST: u32 = 2 * state::MOST_TIME;
+const UNUSED_LENGTH: usize = STATE_LENGTH - UNUSED_AT;
 
 // Whether a buffer is a state.
-pub fn is_state(b: &[u8; LENGTH]) -> bool
+pub fn is_state(b: &[u8; STATE_LENGTH]) -> bool
     ensures { λ r. ⌜ r ≡ isState (now (b .entry)) ⌝ }
 {
     let s = reading::decode(b);
@@ -37,13 +29,13 @@ pub fn is_state(b: &[u8; LENGTH]) -> bool
 }
 
 fn length_is(b: &[u8]) -> bool
-    ensures { λ r. ⌜ r ≡ eqb (length (now (b .entry))) bufferLength ⌝ }
+    ensures { λ r. ⌜ r ≡ eqb (length (now (b .entry))) stateLength ⌝ }
 {
-    b.len() == LENGTH
+    b.len() == STATE_LENGTH
 }
 
 // Whether the unused bytes are 0.
-pub fn unused_zero(b: &[u8; LENGTH]) -> bool
+pub fn unused_zero(b: &[u8; STATE_LENGTH]) -> bool
     ensures { λ r. ⌜ r ≡ unusedZero (now (b .entry)) unusedLength ⌝ }
 {
     let mut zero = true;
@@ -79,7 +71,7 @@ fn header_is(h: Header) -> bool
         & ((model < Drive::TYPES)
             & (Drive::takes_b(model, h.drive.b as u32)
                 & (Drive::takes_c(model, h.drive.c as u32)
-                    & (up_to(MOST_BLOCKS, h.count) & (h.start < h.count)))))
+                    & (limits::up_to(limits::MOST_BLOCKS, h.count) & (h.start < h.count)))))
 }
 
 // Flags and outputs 0 or 1, parameters in their ranges, start mark and preceding start level 0 or 1.
@@ -88,11 +80,11 @@ fn values_are(v: Values) -> bool
 {
     levels_are(&v.flags)
         & (levels_are(&v.outputs)
-            & (up_to(command::ranges::MOST_SPEED, v.axis.speed)
-                & (up_to(command::ranges::MOST_RAMP, v.axis.acceleration)
-                    & (up_to(command::ranges::MOST_RAMP, v.axis.deceleration)
-                        & ((v.mark <= command::ranges::MOST_LEVEL)
-                            & (v.notes.level <= command::ranges::MOST_LEVEL))))))
+            & (limits::up_to(limits::MOST_SPEED, v.axis.speed)
+                & (limits::up_to(limits::MOST_RAMP, v.axis.acceleration)
+                    & (limits::up_to(limits::MOST_RAMP, v.axis.deceleration)
+                        & ((v.mark <= limits::MOST_LEVEL)
+                            & (v.notes.level <= limits::MOST_LEVEL))))))
 }
 
 fn levels_are(levels: &[u8; CELLS]) -> bool
@@ -101,17 +93,10 @@ fn levels_are(levels: &[u8; CELLS]) -> bool
     let mut pass = true;
     let mut k: usize = 0;
     while k < CELLS {
-        pass = pass & (levels[k] <= command::ranges::MOST_LEVEL);
+        pass = pass & (levels[k] <= limits::MOST_LEVEL);
         k += 1;
     }
     pass
-}
-
-// 1 to the most.
-fn up_to(most: u16, v: u16) -> bool
-    ensures { λ r. ⌜ r ≡ upTo most v ⌝ }
-{
-    (0 < v) & (v <= most)
 }
 
 // Status, block and start, depth, call stack and wait of a task.
@@ -121,7 +106,7 @@ fn task_is(h: Header, k: Task) -> bool
     (k.status <= state::HALTED)
         & ((k.block < h.count)
             & ((k.start < h.count)
-                & ((k.depth <= point::MOST_DEPTH)
+                & ((k.depth <= limits::MOST_DEPTH)
                     & (stack_is(h.count, k.depth as usize, &k.stack)
                         & wait_is(h.drive, k.time, k.turns)))))
 }
@@ -150,5 +135,5 @@ fn wait_is(drive: Drive, time: u32, turns: u32) -> bool
     ensures { λ r. ⌜ r ≡ waitIs (drive .model) time turns ⌝ }
 {
     ((time == 0) & (turns == 0))
-        | ((0 < time) & ((time <= LONGEST) & !state::is_due(drive, time, turns)))
+        | ((0 < time) & ((time <= limits::LONGEST) & !state::is_due(drive, time, turns)))
 }

@@ -2,6 +2,7 @@
 use mathlib.Core.Path.{_≡_, refl, sym, _∙_}
 use mathlib.Core.List.{List, map}
 use lib.ListN.{getD}
+use Rattle.limits.specs.Limits.{marksLength}
 use Rattle.drive.specs.Types as types
 use Rattle.number.specs.Number as number
 use Rattle.image.specs.Rows as header
@@ -14,7 +15,7 @@ use Rattle.flow.specs.Flow as flow
 use Rattle.flow.specs.Tasks as tasks
 use Rattle.point.specs.Fault as fault
 use Rattle.walk.specs.Program as program
-use Rattle.walk.specs.Index.{marksLength, indexOf, pointAt}
+use Rattle.walk.specs.Index.{indexOf, pointAt}
 use Rattle.walk.specs.Successors as successors
 use Rattle.walk.specs.Graph.{least}
 use Rattle.walk.specs.Verdict as verdict

@@ -4,6 +4,7 @@ use mathlib.Core.Path.{_≡_, refl, ap, sym, _∙_}
 use mathlib.Core.Logic.{inl, inr}
 use mathlib.Core.List.{List, [], _∷_, map, tail}
 use lib.ListN.{getD}
+use Rattle.limits.specs.Limits.{marksLength}
 use Rattle.arith.specs.Wrap as wrap
 use Rattle.arith.specs.Ops as ops
 use Rattle.drive.specs.Types as types
@@ -19,7 +20,7 @@ use Rattle.flow.specs.Flow as flow
 use Rattle.flow.specs.Tasks as tasks
 use Rattle.point.specs.Fault as fault
 use Rattle.walk.specs.Program as program
-use Rattle.walk.specs.Index.{marksLength, indexOf, pointAt}
+use Rattle.walk.specs.Index.{indexOf, pointAt}
 use Rattle.walk.specs.Successors as successors
 use Rattle.walk.specs.Graph.{In, least}
 use Rattle.walk.specs.Verdict as verdict

@@ -3,9 +3,10 @@
 use Prim.Native.Nat.{ℕ}
 use mathlib.Core.List.{List, [], _∷_, map}
 use lib.ListN.{replicate}
+use Rattle.limits.specs.Limits.{cells}
 use Rattle.rows.specs.Rows.{hex}
 use Rattle.point.specs.Fault.{point}
-use Rattle.state.specs.State.{cells, runs}
+use Rattle.state.specs.State.{runs}
 use Rattle.machine.specs.Given.{Inputs}
 use Rattle.machine.specs.declared.Cause.the-variants.{ZeroDivisor}
 use Rattle.machine.specs.declared.Answer.{Answer}

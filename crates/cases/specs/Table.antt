@@ -4,6 +4,7 @@ use Prim.Native.Nat.{ℕ}
 use mathlib.Core.List.{List, [], _∷_, map}
 use lib.ListN.{replicate}
 use lib.IntN.{ℤ, pos, negsuc}
+use Rattle.limits.specs.Limits.{bias, cells, marksLength}
 use Rattle.rows.specs.Rows.{hex}
 use Rattle.number.specs.Number.{numberAt}
 use Rattle.number.specs.declared.Number.{Number}
@@ -12,11 +13,9 @@ use Rattle.outcome.specs.Outcome.{numberOf}
 use Rattle.outcome.specs.declared.Outcome.the-variants as outcome
 use Rattle.operands.specs.Operands.{command}
 use Rattle.operands.specs.declared.Command.{Command}
-use Rattle.walk.specs.Index.{marksLength}
 use Rattle.walk.specs.Verdict.{verdictOf, verdictNumber, verdictPlace, verdictTask, verdictDepth}
 use Rattle.walk.specs.declared.Verdict.{Verdict}
-use Rattle.flow.specs.Flow.{bias}
-use Rattle.state.specs.State.{cells, startAxis, freshValues, withVariable, taskAt}
+use Rattle.state.specs.State.{startAxis, freshValues, withVariable, taskAt}
 use Rattle.state.specs.declared.Task.{Task}
 use Rattle.state.specs.declared.State.{State}
 use Rattle.machine.specs.Given.{Given, Inputs}

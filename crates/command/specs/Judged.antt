@@ -6,6 +6,7 @@ use mathlib.Core.List.{List, [], _∷_}
 use lib.ListN.{getD}
 use lib.Dec.{eqb, ltb, leb}
 use lib.IntN.{pos}
+use Rattle.limits.specs.Limits.{cells, mostLevel, mostRun, mostSpeed, mostRamp, upTo}
 use Rattle.arith.specs.Ops.{eqZ}
 use Rattle.drive.specs.Types.{type637Plus}
 use Rattle.drive.specs.Pins.{pinOf}
@@ -44,10 +45,6 @@ devicePresence n = getD devices n (λ d x y. presence.Present)
 
 -- ---- 7: the operands' ranges, by the row's ranges
 
--- levels of flags and pins
-abbrev pub mostLevel : ℕ
-mostLevel = 1
-
 -- 0 equal, 1 unequal: the conditions of 61, 6E, 70, 71
 abbrev pub mostEquality : ℕ
 mostEquality = 1
@@ -68,25 +65,6 @@ mostBit = 31
 abbrev pub mostCondition : ℕ
 mostCondition = 7
 
--- flags that 86 may read
-abbrev pub mostRun : ℕ
-mostRun = 32
-
-abbrev pub flagCount : ℕ
-flagCount = 256
-
--- in rpm
-abbrev pub mostSpeed : ℕ
-mostSpeed = 12000
-
--- in 5 rpm/s
-abbrev pub mostRamp : ℕ
-mostRamp = 64000
-
--- a number from 1 on
-abbrev pub upTo : ℕ → ℕ → Bool
-upTo most v = ltb 0 v && leb v most
-
 abbrev pub levelJump : ℕ → ℕ → ℕ → ℕ → Bool
 levelJump count y z word = leb y mostEquality && (leb z mostLevel && ltb word count)
 
@@ -97,7 +75,7 @@ abbrev pub conditionJump : ℕ → ℕ → ℕ → Bool
 conditionJump count y word = leb y mostCondition && ltb word count
 
 abbrev pub flagRun : ℕ → ℕ → Bool
-flagRun y z = upTo mostRun z && leb (y + z) flagCount
+flagRun y z = upTo mostRun z && leb (y + z) cells
 
 abbrev pub axis : ℕ → ℕ → Bool
 axis x y = eqb x 0 && eqb y 0

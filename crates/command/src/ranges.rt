@@ -1,10 +1,8 @@
 // The ranges of the operands (document 01, refusal 7), by the ranges of a code's row: one small test for each.
 use operands::Command;
 ghost use mathlib.Core.Path.{_≡_};
-ghost use Rattle.command.specs.Judged.{upTo, levelJump, bitJump, conditionJump, flagRun, axis, stop, rampStop, inRange};
-
-// Levels of flags and pins.
-pub const MOST_LEVEL: u8 = 1;
+ghost use Rattle.limits.specs.Limits.{upTo};
+ghost use Rattle.command.specs.Judged.{levelJump, bitJump, conditionJump, flagRun, axis, stop, rampStop, inRange};
 
 // 0 equal, 1 unequal: the conditions of 61, 6E, 70, 71.
 pub const MOST_EQUALITY: u8 = 1;
@@ -21,16 +19,7 @@ pub const MOST_BIT: u8 = 31;
 // Conditions of 81 and 89.
 pub const MOST_CONDITION: u8 = 7;
 
-// Flags that 86 may read.
-pub const MOST_RUN: u16 = 32;
-
-pub const FLAG_COUNT: u16 = 256;
-
-// In rpm.
-pub const MOST_SPEED: u16 = 12000;
-
-// In 5 rpm/s.
-pub const MOST_RAMP: u16 = 64000;
+const FLAGS: u16 = limits::CELLS as u16;
 
 // Whether the operands of a command are in range, in an image of this many blocks.
 pub fn in_range(ranges: u8, count: u16, c: Command) -> bool
@@ -44,7 +33,7 @@ pub fn in_range(ranges: u8, count: u16, c: Command) -> bool
     match ranges {
         rows::ADDRESS => word < count,
         rows::MODE => x <= MOST_MODE,
-        rows::LEVEL => y <= MOST_LEVEL,
+        rows::LEVEL => y <= limits::MOST_LEVEL,
         rows::LEVEL_JUMP => level_jump(count, y, z, word),
         rows::BIT_JUMP => bit_jump(count, y, z, word),
         rows::CONDITION_JUMP => condition_jump(count, y, word),
@@ -53,8 +42,8 @@ pub fn in_range(ranges: u8, count: u16, c: Command) -> bool
         rows::AXIS => axis(x, y),
         rows::STOP => stop(x, y),
         rows::RAMP_STOP => ramp_stop(x, word),
-        rows::SPEED => up_to(MOST_SPEED, word),
-        rows::RAMP => up_to(MOST_RAMP, word),
+        rows::SPEED => limits::up_to(limits::MOST_SPEED, word),
+        rows::RAMP => limits::up_to(limits::MOST_RAMP, word),
         // ANY: no row has a number past these (proofs/Columns.antt)
         _ => true,
     }
@@ -66,7 +55,7 @@ fn level_jump(count: u16, y: u8, z: u8, word: u16) -> bool
     if y > MOST_EQUALITY {
         return false;
     }
-    z <= MOST_LEVEL && word < count
+    z <= limits::MOST_LEVEL && word < count
 }
 
 fn bit_jump(count: u16, y: u8, z: u8, word: u16) -> bool
@@ -88,7 +77,7 @@ fn condition_jump(count: u16, y: u8, word: u16) -> bool
 fn flag_run(y: u8, z: u8) -> bool
     ensures { λ r. ⌜ r ≡ flagRun y z ⌝ }
 {
-    up_to(MOST_RUN, z as u16) && y as u16 + z as u16 <= FLAG_COUNT
+    limits::up_to(limits::MOST_RUN, z as u16) && y as u16 + z as u16 <= FLAGS
 }
 
 fn axis(x: u8, y: u8) -> bool
@@ -106,12 +95,5 @@ fn stop(x: u8, y: u8) -> bool
 fn ramp_stop(x: u8, word: u16) -> bool
     ensures { λ r. ⌜ r ≡ rampStop x word ⌝ }
 {
-    x <= MOST_STOP && up_to(MOST_RAMP, word)
-}
-
-// 1 to the most.
-fn up_to(most: u16, v: u16) -> bool
-    ensures { λ r. ⌜ r ≡ upTo most v ⌝ }
-{
-    0 < v && v <= most
+    x <= MOST_STOP && limits::up_to(limits::MOST_RAMP, word)
 }

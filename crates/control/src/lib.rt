@@ -11,8 +11,8 @@ ghost use mathlib.Core.Bool.{cond};
 ghost use mathlib.Core.List.{[]};
 ghost use Prim.Native.Nat.{_*_, _<_};
 ghost use lib.Dec.{eqb};
-ghost use Rattle.flow.specs.Flow.{bias, plc, mathematics};
-ghost use Rattle.state.specs.Wait.{due, mostTime};
+ghost use Rattle.limits.specs.Limits.{bias, plc, mathematics, mostTime};
+ghost use Rattle.state.specs.Wait.{due};
 ghost use Rattle.machine.specs.Given.{givenAt};
 ghost use Rattle.machine.specs.Effect.{sets, flows, halts, variable, within, natural, isSet, waits, waitsVariable, timeOf, controlRows, deedIn};
 ghost use Rattle.machine.specs.declared.Outcome.the-variants.{GoOn, Stay, Jump, Call, Return, Start, Restart, End};
@@ -67,7 +67,7 @@ fn come_back(v: Values) -> Effect
 fn start_plc(c: Command, v: Values) -> Effect
     ensures { λ r. ⌜ r ≡ flows v (Start plc (c .word)) ⌝ }
 {
-    effect::flows(v, Outcome::Start(flow::PLC, c.word))
+    effect::flows(v, Outcome::Start(limits::PLC, c.word))
 }
 
 // 55: a jump.
@@ -81,14 +81,14 @@ fn jump(c: Command, v: Values) -> Effect
 fn start_bias(c: Command, v: Values) -> Effect
     ensures { λ r. ⌜ r ≡ flows v (Start bias (c .word)) ⌝ }
 {
-    effect::flows(v, Outcome::Start(flow::BIAS, c.word))
+    effect::flows(v, Outcome::Start(limits::BIAS, c.word))
 }
 
 // 90: mathematics is started.
 fn start_mathematics(c: Command, v: Values) -> Effect
     ensures { λ r. ⌜ r ≡ flows v (Start mathematics (c .word)) ⌝ }
 {
-    effect::flows(v, Outcome::Start(flow::MATHEMATICS, c.word))
+    effect::flows(v, Outcome::Start(limits::MATHEMATICS, c.word))
 }
 
 // 58: on when the position is reached.
@@ -146,7 +146,7 @@ fn wait_or_pass(drive: Drive, time: u32, turns: u32) -> Outcome
 fn is_time(content: i32) -> bool
     ensures { λ r. ⌜ r ≡ within 0 mostTime content ⌝ }
 {
-    (0 <= content) & (content <= state::MOST_TIME as i32)
+    (0 <= content) & (content <= limits::MOST_TIME as i32)
 }
 
 // A content as a natural number; a negative one, which is no time, as 0.

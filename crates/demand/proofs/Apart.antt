@@ -7,11 +7,10 @@ use mathlib.Core.Bool.{true, false}
 use mathlib.Core.Logic.{_↔_, _⊎_}
 use mathlib.Core.List.{List, _∷_}
 use lib.ListN.{getD}
+use Rattle.limits.specs.Limits.{taskCount, mostDepth}
 use Rattle.le.specs.LittleEndian.{Bytes}
 use Rattle.number.proofs.Choice.{clash}
 use Rattle.image.specs.Scan.{headerOf, blocksOf}
-use Rattle.point.specs.Fault.{mostDepth}
-use Rattle.flow.specs.Flow.{taskCount}
 use Rattle.point.specs.declared.Point.{Point}
 use Rattle.walk.specs.Program.{faultAt}
 use Rattle.walk.specs.Says.{BadAt, NoForeign, Says, Judges}

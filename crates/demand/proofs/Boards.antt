@@ -9,6 +9,7 @@ use mathlib.Core.List.{List}
 use lib.Dec.{T, eqb}
 use lib.ListN.{length}
 use borrow.Author.Tests.{ne-eqb}
+use Rattle.limits.specs.Limits.{stateLength}
 use Rattle.le.specs.LittleEndian.{Bytes}
 use Rattle.drive.specs.Types.{type631}
 use Rattle.outcome.specs.Outcome.{numberOf}
@@ -31,7 +32,6 @@ use Rattle.walk.specs.Verdict.{verdictNumber}
 use Rattle.walk.specs.declared.Verdict.{Verdict}
 use Rattle.walk.specs.declared.Verdict.the-variants as verdict
 use Rattle.state.specs.State.{taskAt}
-use Rattle.layout.specs.Layout.{bufferLength}
 use Rattle.layout.specs.Decoded.{decoded}
 use Rattle.machine.specs.Given.{Inputs}
 use Rattle.machine.specs.Engine.{pointOf, fits}
@@ -102,7 +102,7 @@ module _ (image : List ℕ) (n : ℕ) (b : List ℕ) where
   First : BiasVerdict → Type 0
   First v = FirstFault image n b (v .place) (blockFaultAt h bs (v .place)) × (blockNumber h bs (v .place) ≡ v .number)
 
-  of-verdict : length b ≡ bufferLength → {v : Verdict} → Judges image n v → T (ofDrive (verdictNumber v)) → First (verdictFor v)
+  of-verdict : length b ≡ stateLength → {v : Verdict} → Judges image n v → T (ofDrive (verdictNumber v)) → First (verdictFor v)
   unfolding First
   of-verdict right (Judges.marks short) t = absurd t
   of-verdict right (Judges.header room d) t = absurd (not-header (headerOf image .outcome) t)

@@ -9,14 +9,14 @@ use mathlib.Core.List.{List}
 use lib.Dec.{eqb}
 use lib.ListN.{length, set}
 use borrow.Author.Tests.{lt-ltb, eq-eqb, ne-eqb, eqb-true, eqb-false}
+use Rattle.limits.specs.Limits.{taskCount, cells}
 use Rattle.le.specs.LittleEndian.{Bytes}
 use Rattle.number.proofs.Choice.{clash, both}
 use Rattle.image.specs.Scan.{blocksOf}
 use Rattle.rows.specs.Rows.{hex}
 use Rattle.operands.specs.declared.Command.{Command}
-use Rattle.flow.specs.Flow.{taskCount}
 use Rattle.point.specs.declared.Point.{Point}
-use Rattle.state.specs.State.{cells, runs, halted, task, taskAt}
+use Rattle.state.specs.State.{runs, halted, task, taskAt}
 use Rattle.state.specs.Good.{Good, GoodWait}
 use Rattle.state.specs.declared.Task.{Task}
 use Rattle.state.specs.declared.Values.{Values}

@@ -9,6 +9,7 @@ use mathlib.Core.List.{List}
 use lib.Dec.{eqb}
 use lib.ListN.{length}
 use borrow.Author.Tests.{eqb-true, eqb-false}
+use Rattle.limits.specs.Limits.{marksLength, stateLength}
 use Rattle.outcome.specs.Outcome.{numberOf, done}
 use Rattle.outcome.specs.declared.Outcome.{Outcome}
 use Rattle.outcome.specs.declared.Outcome.the-variants.{Done, EndsEarly, NotShortest, OutOfRange, LeftOver, NoRoom}
@@ -19,14 +20,12 @@ use Rattle.number.proofs.Choice.{clash, by}
 use Rattle.fault.specs.Fault.{isBad, faultNumber}
 use Rattle.fault.specs.declared.Fault.{Fault}
 use Rattle.fault.specs.declared.Fault.the-variants as fault
-use Rattle.walk.specs.Index.{marksLength}
 use Rattle.walk.specs.Program.{faultAt}
 use Rattle.walk.specs.Says.{NoForeign, Says, Judges}
 use Rattle.walk.specs.Verdict.{verdictNumber, verdictOf, isAccepted}
 use Rattle.walk.specs.declared.Verdict.{Verdict}
 use Rattle.walk.specs.declared.Verdict.the-variants as verdict
 use Rattle.walk.proofs.Judged.{verdict-judges, exactly}
-use Rattle.layout.specs.Layout.{bufferLength}
 use Rattle.layout.specs.Encoded.{encoded}
 use Rattle.machine.specs.Theorem.{loaded}
 use Rattle.border.specs.Border.{verdictFor}
@@ -37,10 +36,10 @@ use Rattle.bias.proofs.Ways.{marks-short, no-buffer, of-image, verdict-is, stay
 
 module _ (image : List ℕ) (n : ℕ) (b : List ℕ) where
   -- by cases: 13, 16, or the image
-  ways : {P : Type 0} → (n < marksLength → P) → (marksLength ≤ n → (length b ≡ bufferLength → ⊥) → P) → (marksLength ≤ n → length b ≡ bufferLength → P) → P
-  ways {P} short wrong right = by n marksLength short (λ room. go room (eqb (length b) bufferLength) refl)
+  ways : {P : Type 0} → (n < marksLength → P) → (marksLength ≤ n → (length b ≡ stateLength → ⊥) → P) → (marksLength ≤ n → length b ≡ stateLength → P) → P
+  ways {P} short wrong right = by n marksLength short (λ room. go room (eqb (length b) stateLength) refl)
     where
-      go : marksLength ≤ n → (t : Bool) → eqb (length b) bufferLength ≡ t → P
+      go : marksLength ≤ n → (t : Bool) → eqb (length b) stateLength ≡ t → P
       go room true e = right room (eqb-true _ _ e)
       go room false e = wrong room (eqb-false _ _ e)
 
@@ -98,11 +97,11 @@ module _ (image : List ℕ) (n : ℕ) (b : List ℕ) where
   accepted-says (Judges.walks room d all v (Says.bad f p q g)) e = absurd (bad-number (faultAt (headerOf image .header) (blocksOf image) p) (q .1) e)
 
   -- the number of a load that comes to the image is that of its verdict
-  number-is : marksLength ≤ n → length b ≡ bufferLength → load image n b .verdict .number ≡ verdictNumber (verdictOf image n)
+  number-is : marksLength ≤ n → length b ≡ stateLength → load image n b .verdict .number ≡ verdictNumber (verdictOf image n)
   number-is room right = ap (λ (v : BiasVerdict). v .number) (answered _ (of-image image n b room right) ∙ verdict-is image (verdictOf image n) b)
 
   -- a load that answers 0 comes to the image
-  zero-way : {P : Type 0} → load image n b .verdict .number ≡ 0 → (marksLength ≤ n → length b ≡ bufferLength → P) → P
+  zero-way : {P : Type 0} → load image n b .verdict .number ≡ 0 → (marksLength ≤ n → length b ≡ stateLength → P) → P
   zero-way z f =
       ways
       (λ short. let e = ap (λ (v : BiasVerdict). v .number) (answered _ (marks-short image n b short)) in absurd (omega arith))
@@ -130,7 +129,7 @@ module _ (image : List ℕ) (n : ℕ) (b : List ℕ) where
   load-of = record { answer = λ v. (loads-only v, λ e. rw e loads); accepted = fresh-load; refused = kept-load }
 
   -- what a load answers 0 to is well formed, in both readings
-  fits-well : marksLength ≤ n → length b ≡ bufferLength → {v : Verdict} → Judges image n v → verdictNumber v ≡ 0
+  fits-well : marksLength ≤ n → length b ≡ stateLength → {v : Verdict} → Judges image n v → verdictNumber v ≡ 0
       → WellFormed image n b × NoForeign (headerOf image .header) (blocksOf image)
   fits-well room right (Judges.marks short) e = absurd (omega arith)
   fits-well room right (Judges.header m d) e = absurd (not-zero (headerOf image .outcome) d e)

@@ -6,16 +6,16 @@ use mathlib.Core.Bool.{true, false}
 use mathlib.Core.List.{List, [], _∷_}
 use lib.Dec.{eqb, ltb}
 use lib.ListN.{length, getD}
+use Rattle.limits.specs.Limits.{taskCount, cells}
 use Rattle.le.specs.LittleEndian.{Bytes}
 use Rattle.number.proofs.Choice.{clash, either}
 use Rattle.image.specs.Scan.{headerOf, blocksOf}
 use Rattle.rows.specs.Rows.{rowOf}
-use Rattle.flow.specs.Flow.{taskCount}
 use Rattle.point.specs.declared.Point.{Point}
 use Rattle.walk.specs.Program.{commandAt}
 use Rattle.walk.specs.Verdict.{verdictOf}
 use Rattle.walk.specs.declared.Verdict.the-variants as verdict
-use Rattle.state.specs.State.{cells, runs, taskAt}
+use Rattle.state.specs.State.{runs, taskAt}
 use Rattle.state.specs.Good.{Good}
 use Rattle.state.specs.declared.State.{State}
 use Rattle.layout.specs.Decoded.{decoded}

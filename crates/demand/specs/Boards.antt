@@ -5,18 +5,17 @@ use mathlib.Core.Path.{_≡_}
 use mathlib.Core.Bool.{true}
 use mathlib.Core.List.{List}
 use lib.ListN.{length}
+use Rattle.limits.specs.Limits.{marksLength, stateLength}
 use Rattle.outcome.specs.Outcome.{done}
 use Rattle.image.specs.Scan.{headerOf, blocksOf}
 use Rattle.command.specs.declared.BlockFault.{BlockFault}
 use Rattle.walk.specs.Program.{blockFaultAt}
-use Rattle.walk.specs.Index.{marksLength}
 use Rattle.walk.specs.Says.{BlockPasses}
-use Rattle.layout.specs.Layout.{bufferLength}
 
 pub record FirstFault (image : List ℕ) (n : ℕ) (b : List ℕ) (k : ℕ) (f : BlockFault) : Type 0 where
   -- 13, 16 and 1 to 4 let the load pass
   pub marks : marksLength ≤ n
-  pub buffer : length b ≡ bufferLength
+  pub buffer : length b ≡ stateLength
   pub header : done (headerOf image .outcome) ≡ true
   -- this is wrong with block k, and the blocks before it pass
   pub block : k < headerOf image .header .count

@@ -6,9 +6,9 @@ use mathlib.Core.Bool.{true, false}
 use mathlib.Core.Logic.{_↔_}
 use mathlib.Core.List.{List}
 use lib.ListN.{length, set}
+use Rattle.limits.specs.Limits.{taskCount, cells}
 use Rattle.le.specs.LittleEndian.{Bytes}
-use Rattle.flow.specs.Flow.{taskCount}
-use Rattle.state.specs.State.{cells, runs, halted, task, taskAt}
+use Rattle.state.specs.State.{runs, halted, task, taskAt}
 use Rattle.state.specs.declared.Task.{Task}
 use Rattle.state.specs.declared.State.{State}
 use Rattle.layout.specs.Decoded.{decoded}

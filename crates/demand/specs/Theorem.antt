@@ -6,17 +6,15 @@ use mathlib.Core.Bool.{Bool, true, false}
 use mathlib.Core.Logic.{_↔_, _⊎_}
 use mathlib.Core.List.{List, [], _∷_}
 use lib.ListN.{length}
+use Rattle.limits.specs.Limits.{taskCount, marksLength, stateLength}
 use Rattle.le.specs.LittleEndian.{Bytes}
 use Rattle.outcome.specs.Outcome.{done}
 use Rattle.image.specs.Scan.{headerOf, blocksOf}
-use Rattle.flow.specs.Flow.{taskCount}
 use Rattle.point.specs.declared.Point.{Point}
-use Rattle.walk.specs.Index.{marksLength}
 use Rattle.walk.specs.Says.{BadAt, ForeignAt, NoForeign, BlockPasses, Judges}
 use Rattle.walk.specs.declared.Verdict.{Verdict}
 use Rattle.walk.specs.declared.Verdict.the-variants.{MarksShort}
 use Rattle.state.specs.State.{runs, taskAt}
-use Rattle.layout.specs.Layout.{bufferLength}
 use Rattle.layout.specs.Decoded.{decoded}
 use Rattle.layout.specs.Encoded.{encoded}
 use Rattle.layout.specs.Test.{isState}
@@ -98,8 +96,8 @@ EveryRun = (image : List ℕ) (n : ℕ) (b : List ℕ) → Bytes image → load 
 -- 13, then 16, then what the image comes to (walk/specs/Says.antt): the header, the first block that 5 to 8 or 23 refuse, and else what walks say
 pub data Loads (image : List ℕ) (n : ℕ) (b : List ℕ) : BiasVerdict → Type 0 where
   marks : n < marksLength → Loads image n b (verdictFor (MarksShort n))
-  buffer : marksLength ≤ n → (length b ≡ bufferLength → ⊥) → Loads image n b (numbered noState 0)
-  judged : marksLength ≤ n → length b ≡ bufferLength → (v : Verdict) → Judges image n v → Loads image n b (verdictFor v)
+  buffer : marksLength ≤ n → (length b ≡ stateLength → ⊥) → Loads image n b (numbered noState 0)
+  judged : marksLength ≤ n → length b ≡ stateLength → (v : Verdict) → Judges image n v → Loads image n b (verdictFor v)
 
 pub record LoadOf (image : List ℕ) (n : ℕ) (b : List ℕ) : Type 0 where
   -- the answer is that, and nothing else is
@@ -115,7 +113,7 @@ EveryLoad = (image : List ℕ) (n : ℕ) (b : List ℕ) → LoadOf image n b
 pub record WellFormed (image : List ℕ) (n : ℕ) (b : List ℕ) : Type 0 where
   -- 13, 16, 1 to 4 and, of each block by itself, 5 to 8 and 23 let them pass
   pub marks : marksLength ≤ n
-  pub buffer : length b ≡ bufferLength
+  pub buffer : length b ≡ stateLength
   pub header : done (headerOf image .outcome) ≡ true
   pub blocks : (k : ℕ) → k < headerOf image .header .count → BlockPasses (headerOf image .header) (blocksOf image) k
 

@@ -6,10 +6,9 @@ use mathlib.Core.List.{List, []}
 use native.Mathlib.Omega.{arith}
 use lib.ListN.{length}
 use borrow.Author.Tests.{eq-eqb, ne-eqb, lt-ltb, le-ltb}
+use Rattle.limits.specs.Limits.{taskCount, mostBlocks, mostDepth, cells}
 use Rattle.operands.specs.declared.Command.{Command}
-use Rattle.flow.specs.Flow.{taskCount}
-use Rattle.point.specs.Fault.{mostDepth}
-use Rattle.state.specs.State.{cells, runs, taskAt}
+use Rattle.state.specs.State.{runs, taskAt}
 use Rattle.state.specs.Good.{Good}
 use Rattle.state.proofs.Bounds.{wait-fits}
 use Rattle.state.specs.declared.Task.{Task}
@@ -42,7 +41,7 @@ same-effect s x k start reached c d i j e = rw (i, j, e) refl
 
 -- what a good state's task has room for
 pub record Ready (k : Task) : Type 0 where
-  pub block : k .block < 65535
+  pub block : k .block < mostBlocks
   pub depth : k .depth ≤ mostDepth
   pub turns : k .turns < 4294967295
 

@@ -17,7 +17,7 @@ ghost use mathlib.Core.Path.{_≡_};
 ghost use mathlib.Core.List.{[]};
 ghost use mathlib.Core.Bool.{true};
 ghost use Prim.Native.Nat.{_<_, _≤_};
-ghost use Rattle.point.specs.Fault.{mostDepth};
+ghost use Rattle.limits.specs.Limits.{taskCount, mostBlocks, mostDepth};
 ghost use Rattle.walk.specs.Program.{commandAt};
 ghost use Rattle.state.specs.State.{taskAt};
 ghost use Rattle.state.specs.Good.{Good};
@@ -86,7 +86,7 @@ fn answer_to(outcome: Outcome, p: Point) -> Answer
 fn noted(t: u8, start: u8, v: Values) -> Values
     ensures { λ r. ⌜ r ≡ noted t start v ⌝ }
 {
-    if t == flow::BIAS {
+    if t == limits::BIAS {
         let notes = Notes {
             level: effect::level(start),
         };
@@ -139,7 +139,7 @@ fn wait_fits(blocks: &[u8], k: Task) -> bool
 
 // What a command comes to: the values with the start level noted, the tasks after its outcome, its request, its answer.
 fn performed(mut state: State, t: u8, start: u8, k: Task, e: Effect) -> Out
-    requires { ⌜ k .block < 65535 ⌝ }
+    requires { ⌜ k .block < mostBlocks ⌝ }
     requires { ⌜ Deep (k .depth) (e .outcome) ⌝ }
     ensures { λ r. ⌜ r ≡ performed state (inputsOf t [] start 0) k e ⌝ }
 {
@@ -160,7 +160,7 @@ fn performed(mut state: State, t: u8, start: u8, k: Task, e: Effect) -> Out
 
 // The command at the task's block, carried out.
 fn carry_out(image: &[u8], s: State, t: u8, inputs: &[u8], start: u8, reached: u8, k: Task) -> Out
-    requires { ⌜ k .block < 65535 ⌝ }
+    requires { ⌜ k .block < mostBlocks ⌝ }
     requires { ⌜ k .depth ≤ mostDepth ⌝ }
     requires { ⌜ k .turns < 4294967295 ⌝ }
     requires { ⌜ fits (now image) (s .header) t k ≡ true ⌝ }
@@ -184,7 +184,7 @@ fn carry_out(image: &[u8], s: State, t: u8, inputs: &[u8], start: u8, reached: u
 // 18, then 17, then the command.
 fn task_step(image: &[u8], s: State, t: u8, inputs: &[u8], start: u8, reached: u8) -> Out
     requires { ⌜ Good s ⌝ }
-    requires { ⌜ t < 3 ⌝ }
+    requires { ⌜ t < taskCount ⌝ }
     ensures { λ r. ⌜ r ≡ taskStep (now (image .entry)) s (inputsOf t (now (inputs .entry)) start reached) (taskAt s t) ⌝ }
 {
     let tasks = s.tasks;
@@ -203,11 +203,11 @@ pub fn step(image: &[u8], s: State, task: u32, inputs: &[u8], start: u8, reached
     requires { ⌜ Good s ⌝ }
     ensures { λ r. ⌜ r ≡ step (now (image .entry)) s (inputsOf task (now (inputs .entry)) start reached) ⌝ }
 {
-    if task >= 3 {
+    if task >= limits::TASK_COUNT {
         return refuse(s, Answer::NoTask(task));
     }
     let n = inputs.len();
-    if n != state::CELLS {
+    if n != limits::INPUTS_LENGTH {
         return refuse(s, Answer::Inputs(n));
     }
     task_step(image, s, task as u8, inputs, start, reached)

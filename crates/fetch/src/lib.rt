@@ -28,7 +28,7 @@ pub fn command_at(blocks: &[u8], b: u16) -> Command
 pub fn block_at(blocks: &[u8], b: u16) -> [u8; 8]
     ensures { λ r. ⌜ r ≡ blockAt (now (blocks .entry)) b ⌝ }
 {
-    let at = reader::BLOCK_LENGTH * (b as usize);
+    let at = limits::BLOCK_LENGTH * (b as usize);
     [
         byte_at(blocks, at),
         byte_at(blocks, at + 1),

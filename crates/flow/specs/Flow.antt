@@ -5,23 +5,11 @@ use mathlib.Core.Bool.{cond}
 use mathlib.Core.List.{List, [], _∷_}
 use lib.ListN.{getD}
 use lib.Dec.{eqb}
+use Rattle.limits.specs.Limits.{bias, plc, mathematics}
 use Rattle.rows.specs.Rows.{rowOf}
 use Rattle.operands.specs.declared.Command.{Command}
 use Rattle.flow.specs.declared.Flow.{Flow}
 use Rattle.flow.specs.declared.Flow.the-variants.{Next, Wait, Jump, Branch, Call, Return, Start, Restart, End}
-
--- the tasks by document 01's numbers, and how many there are
-abbrev pub bias : ℕ
-bias = 0
-
-abbrev pub plc : ℕ
-plc = 1
-
-abbrev pub mathematics : ℕ
-mathematics = 2
-
-abbrev pub taskCount : ℕ
-taskCount = 3
 
 -- 51, by its mode
 abbrev pub endingBy : ℕ → Flow

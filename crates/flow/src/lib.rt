@@ -4,15 +4,6 @@ ghost use mathlib.Core.Path.{_≡_};
 ghost use Rattle.flow.specs.Flow.{flowBy, endingBy, flowOf};
 ghost use Rattle.flow.specs.Tasks.{foreign, permitted};
 
-// The tasks: BIAS, the PLC, mathematics; and how many there are.
-pub const BIAS: u8 = 0;
-
-pub const PLC: u8 = 1;
-
-pub const MATHEMATICS: u8 = 2;
-
-pub const TASK_COUNT: u8 = 3;
-
 // What a command may continue with; the blocks named are those of its operands.
 pub enum Flow {
     // the next block
@@ -67,9 +58,9 @@ pub fn permitted(code: u8, task: u8) -> bool
     let row = rows::find(code);
     let tasks = row.tasks;
     match task {
-        BIAS => tasks / rows::B % 2 == 1,
-        PLC => tasks / rows::P % 2 == 1,
-        MATHEMATICS => tasks / rows::M % 2 == 1,
+        limits::BIAS => tasks / rows::B % 2 == 1,
+        limits::PLC => tasks / rows::P % 2 == 1,
+        limits::MATHEMATICS => tasks / rows::M % 2 == 1,
         _ => false,
     }
 }
@@ -84,9 +75,9 @@ fn flow_by(flow: u8, x: u8, word: u16) -> Flow
         rows::BRANCH => Flow::Branch(word),
         rows::CALL => Flow::Call(word),
         rows::RETURN => Flow::Return,
-        rows::START_BIAS => Flow::Start(BIAS, word),
-        rows::START_PLC => Flow::Start(PLC, word),
-        rows::START_MATHEMATICS => Flow::Start(MATHEMATICS, word),
+        rows::START_BIAS => Flow::Start(limits::BIAS, word),
+        rows::START_PLC => Flow::Start(limits::PLC, word),
+        rows::START_MATHEMATICS => Flow::Start(limits::MATHEMATICS, word),
         rows::ENDING => ending(x),
         // 0, of a code that is not carried: no row has a number past these (proofs/Columns.antt)
         _ => Flow::End,

@@ -5,9 +5,10 @@ use mathlib.Core.List.{List}
 use Prim.Native.Nat.{ℕ, _*_}
 use native.Mathlib.Omega.{arith}
 use lib.ListN.{length, length-drop}
+use Rattle.limits.specs.Limits.{blockLength}
 use Rattle.outcome.specs.Outcome.{done}
 use Rattle.image.specs.Good.{Good}
-use Rattle.image.specs.Scan.{fromImage, headerOf, blocksOf, blockLength}
+use Rattle.image.specs.Scan.{fromImage, headerOf, blocksOf}
 use Rattle.outcome.specs.declared.Outcome.the-variants.{Done}
 use Rattle.image.specs.declared.reader.HeaderRead.{HeaderRead}
 use Rattle.image.proofs.Accepted.{value, accepted-header, headerWith}

@@ -8,13 +8,14 @@ use native.Mathlib.Omega.{arith}
 use lib.ListN.{length, getD}
 use lib.Dec.{eqb, ltb}
 use borrow.Author.Tests.{ltb-false, eqb-false, le-ltb}
+use Rattle.limits.specs.Limits.{blockLength}
 use Rattle.drive.specs.Types.{slotB, slotC}
 use Rattle.drive.proofs.Laws.{board-small}
 use Rattle.outcome.specs.Outcome.{done}
 use Rattle.number.specs.Number.{secondByte, firstByte, numberAt}
 use Rattle.number.specs.declared.Number.{Number}
 use Rattle.number.specs.declared.Number as number
-use Rattle.image.specs.Scan.{Source, fromImage, scan, headerOf, rowCount, blockLength}
+use Rattle.image.specs.Scan.{Source, fromImage, scan, headerOf, rowCount}
 use Rattle.image.specs.Longest.{greatest, sizeUpTo, longestHeader, longestImage}
 use Rattle.image.specs.declared.Header.{Header}
 use Rattle.image.proofs.Accepted.{place, value, Accepted, accepted-header}

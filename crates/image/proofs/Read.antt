@@ -9,8 +9,9 @@ use lib.ListN.{length, take, drop, length-drop}
 use lib.Seq.{take-all}
 use lib.Dec.{ltb}
 use borrow.Author.Tests.{ltb-false, le-ltb}
+use Rattle.limits.specs.Limits.{blockLength}
 use Rattle.outcome.specs.Outcome.{done}
-use Rattle.image.specs.Scan.{fromImage, scan, firstRefusal, lengthOutcome, readWith, closed, headerOf, blocksOf, blockLength}
+use Rattle.image.specs.Scan.{fromImage, scan, firstRefusal, lengthOutcome, readWith, closed, headerOf, blocksOf}
 use Rattle.outcome.specs.declared.Outcome.the-variants.{Done, EndsEarly, NotShortest, OutOfRange, LeftOver, NoRoom}
 use Rattle.outcome.specs.declared.Outcome.{Outcome}
 use Rattle.image.specs.declared.reader.Scan.{Scan}

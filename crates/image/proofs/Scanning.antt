@@ -9,6 +9,7 @@ use mir.Syntax.{w16}
 use mir.Val.{Fits}
 use lib.Dec.{eqb, ltb, leb}
 use borrow.Author.Tests.{ltb-true, leb-true}
+use Rattle.limits.specs.Limits.{mostBlocks}
 use Rattle.drive.specs.Types.{takesB, takesC}
 use Prim.Native.Nat.{ℕ, zero, suc, _+_, _*_, _<_, _≤_}
 use native.Mathlib.Numerals.{add-one}
@@ -16,7 +17,7 @@ use Rattle.outcome.specs.Outcome.{done}
 use Rattle.number.specs.Number.{numberAt, firstByte, secondByte}
 use Rattle.number.proofs.Choice.{both, either}
 use Rattle.image.specs.Scan.{Source, fromImage, taken, more, scan}
-use Rattle.image.specs.Rows.{judged, formatRow, typeRow, slotBRow, slotCRow, mostBlocks, countInRange, countRow}
+use Rattle.image.specs.Rows.{judged, formatRow, typeRow, slotBRow, slotCRow, countInRange, countRow}
 use Rattle.number.specs.declared.Number.{Number}
 use Rattle.number.specs.declared.Number as number
 use Rattle.image.specs.declared.reader.Scan.{Scan}

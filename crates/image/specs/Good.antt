@@ -2,8 +2,9 @@
 use Prim.Native.Nat.{_<_, _≤_}
 use mathlib.Core.Path.{_≡_}
 use mathlib.Core.Bool.{true}
+use Rattle.limits.specs.Limits.{mostBlocks}
 use Rattle.drive.specs.Types.{types, takesB, takesC}
-use Rattle.image.specs.Rows.{format1, mostBlocks}
+use Rattle.image.specs.Rows.{format1}
 use Rattle.image.specs.declared.Header.{Header}
 
 pub record Good (h : Header) : Type 0 where

@@ -4,9 +4,10 @@ use mathlib.Core.Bool.{cond}
 use mathlib.Core.List.{List, [], _∷_}
 use lib.Dec.{ltb}
 use lib.ListN.{length, getD}
+use Rattle.limits.specs.Limits.{mostBlocks, blockLength}
 use Rattle.drive.specs.Types.{types, slotB, slotC}
-use Rattle.image.specs.Rows.{format1, mostBlocks}
-use Rattle.image.specs.Scan.{rowCount, blockLength}
+use Rattle.image.specs.Rows.{format1}
+use Rattle.image.specs.Scan.{rowCount}
 
 -- the greatest that each number may be: format, type, slots B and C, start, count
 abbrev pub greatest : List ℕ

@@ -5,6 +5,7 @@ use mathlib.Core.Bool.{Bool, _&&_, cond}
 use mathlib.Core.List.{List, [], _∷_}
 use lib.ListN.{getD}
 use lib.Dec.{eqb, ltb, leb}
+use Rattle.limits.specs.Limits.{mostBlocks}
 use Rattle.drive.specs.Boards.{withBoards}
 use Rattle.drive.specs.Types.{types, takesB, takesC}
 use Rattle.drive.specs.declared.Drive.{Drive}
@@ -16,9 +17,6 @@ use Rattle.image.specs.declared.reader.Scan.{Scan}
 -- limits: the one format, the most blocks
 abbrev pub format1 : ℕ
 format1 = 1
-
-abbrev pub mostBlocks : ℕ
-mostBlocks = 1500
 
 -- all numbers 0
 abbrev pub noHeader : Header

@@ -5,6 +5,7 @@ use mathlib.Core.Bool.{cond}
 use mathlib.Core.List.{List, []}
 use lib.ListN.{length, drop}
 use lib.Dec.{ltb}
+use Rattle.limits.specs.Limits.{blockLength}
 use Rattle.outcome.specs.Outcome.{done}
 use Rattle.number.specs.Number.{numberAt}
 use Rattle.image.specs.Rows.{noHeader, stopped, judged}
@@ -49,10 +50,6 @@ rowCount = 6
 -- the most bytes that the numbers take
 abbrev pub mostHeaderBytes : ℕ
 mostHeaderBytes = 12
-
--- the bytes of a block
-abbrev pub blockLength : ℕ
-blockLength = 8
 
 -- of two judgements, one after the other, the refusal that comes first
 unfoldable pub firstRefusal : Outcome → Outcome → Outcome

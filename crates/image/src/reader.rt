@@ -25,12 +25,10 @@ pub const COUNT: u8 = 5;
 
 pub const ROWS: u8 = 6;
 
-// The one format, the most blocks of an image, and the bytes of a block.
+// The one format.
 pub const FORMAT_1: u32 = 1;
 
-pub const MOST_BLOCKS: u32 = 1500;
-
-pub const BLOCK_LENGTH: usize = 8;
+const MOST_BLOCKS: u32 = limits::MOST_BLOCKS as u32;
 
 // A header as read: the outcome; the header, all 0 when refused; the place of the blocks, 0 when refused.
 pub struct HeaderRead {
@@ -130,7 +128,7 @@ fn judge_length(at: usize, count: u16, length: usize) -> Outcome
     requires { ⌜ at ≤ mostHeaderBytes ⌝ }
     ensures { λ r. ⌜ r ≡ lengthOutcome at count length ⌝ }
 {
-    let end = at + BLOCK_LENGTH * (count as usize);
+    let end = at + limits::BLOCK_LENGTH * (count as usize);
     if length < end {
         return Outcome::EndsEarly(length);
     }

@@ -7,7 +7,7 @@ use walk::Verdict;
 ghost use mathlib.Core.Path.{_≡_};
 ghost use Prim.Native.Nat.{_+_, _*_, _%_, _<_};
 ghost use lib.ListN.{length};
-ghost use Rattle.walk.specs.Index.{marksLength};
+ghost use Rattle.limits.specs.Limits.{marksLength};
 ghost use Rattle.walk.specs.Verdict.{verdictOf, acceptedBlocks};
 ghost use Rattle.hex.specs.Hex.{allBytes};
 ghost use Rattle.hex.specs.Lines.{linesOf};

@@ -3,10 +3,10 @@ use Prim.Native.Nat.{ℕ, _<_}
 use native.Mathlib.Omega.{arith}
 use mathlib.Core.Path.{_≡_}
 use lib.ListN.{length, getD}
+use Rattle.limits.specs.Limits.{mostDepth}
 use Rattle.image.specs.Good.{Good as GoodHeader}
 use Rattle.image.specs.declared.Header.{Header}
 use Rattle.number.proofs.Choice.{by}
-use Rattle.point.specs.Fault.{mostDepth}
 use Rattle.state.specs.Good.{GoodTask}
 use Rattle.state.specs.declared.Task.{Task}
 use Rattle.state.proofs.Bounds.{wait-fits}

@@ -13,18 +13,16 @@ use borrow.Author.Count.{below-more}
 use borrow.Author.Tests.{ltb-true, leb-true, eqb-true, not-true, lt-ltb, le-leb, eq-eqb}
 use mir.Syntax.{w32}
 use mir.Val.{SFits}
-use Rattle.command.specs.Judged.{mostSpeed, mostRamp, mostLevel, upTo}
+use Rattle.limits.specs.Limits.{bias, plc, mathematics, taskCount, mostDepth, cells, mostLevel, mostSpeed, mostRamp, longest, upTo}
 use Rattle.drive.specs.Types.{types, takesB, takesC}
-use Rattle.flow.specs.Flow.{bias, plc, mathematics, taskCount}
 use Rattle.image.specs.Good.{Good as GoodHeader}
 use Rattle.image.specs.Rows.{format1, countInRange}
 use Rattle.image.specs.declared.Header.{Header}
 use Rattle.image.proofs.Scanning.{count-range}
 use Rattle.number.proofs.Choice.{by, both}
-use Rattle.point.specs.Fault.{mostDepth}
 use Rattle.state.specs.Good.{GoodWait, GoodTask, InRange, GoodValues, Good}
-use Rattle.state.specs.State.{cells, halted, taskAt}
-use Rattle.state.specs.Wait.{due, longest}
+use Rattle.state.specs.State.{halted, taskAt}
+use Rattle.state.specs.Wait.{due}
 use Rattle.state.specs.declared.Task.{Task}
 use Rattle.state.specs.declared.Values.{Values}
 use Rattle.state.specs.declared.State.{State}

@@ -7,14 +7,13 @@ use lib.IntN.{ℤ, pos}
 use lib.ListN.{length, getD}
 use mir.Syntax.{w32}
 use mir.Val.{SFits}
+use Rattle.limits.specs.Limits.{mostDepth, cells}
 use Rattle.image.specs.Good.{Good as GoodHeader}
 use Rattle.image.specs.declared.Header.{Header}
 use Rattle.le.specs.LittleEndian.{leBytes}
-use Rattle.point.specs.Fault.{mostDepth}
 use Rattle.places.specs.Places.{numberAt, signedAt, signedBytes}
 use Rattle.places.proofs.Has.{Has, left, right, head, number, signed, each}
 use Rattle.places.proofs.Tables.{table-is}
-use Rattle.state.specs.State.{cells}
 use Rattle.state.specs.Good.{GoodAxis}
 use Rattle.state.specs.declared.Task.{Task}
 use Rattle.state.specs.declared.Axis.{Axis}

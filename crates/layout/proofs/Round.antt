@@ -11,17 +11,16 @@ use lib.ListN.{length, getD, replicate, length-replicate, getD-replicate, List·
 use borrow.Author.Tests.{eqb-true, eq-eqb}
 use mir.Syntax.{w32}
 use mir.Val.{SFits}
-use Rattle.flow.specs.Flow.{bias, plc, mathematics, taskCount}
+use Rattle.limits.specs.Limits.{bias, plc, mathematics, taskCount, mostDepth, cells, stateLength}
 use Rattle.le.specs.LittleEndian.{Bytes, leBytes}
 use Rattle.number.proofs.Choice.{by, both}
-use Rattle.point.specs.Fault.{mostDepth}
 use Rattle.places.specs.Places.{numberAt, signedAt}
 use Rattle.places.proofs.Has.{Has, whole, left, right, number, signed-fits}
 use Rattle.places.proofs.Tables.{length-table, getD-table}
 use Rattle.state.specs.Good.{Good}
-use Rattle.state.specs.State.{cells, noTask, taskAt}
+use Rattle.state.specs.State.{noTask, taskAt}
 use Rattle.state.specs.declared.State.{State}
-use Rattle.layout.specs.Layout.{bufferLength, variablesAt, flagsAt, outputsAt, axisAt, startsAt, stackAt, taskPlace, unusedAt, unusedLength}
+use Rattle.layout.specs.Layout.{variablesAt, flagsAt, outputsAt, axisAt, startsAt, stackAt, taskPlace, unusedAt, unusedLength}
 use Rattle.layout.specs.Decoded.{variablesIn, levelsIn, headerIn, stackIn, decoded}
 use Rattle.layout.specs.Encoded.{encoded}
 use Rattle.layout.specs.Test.{stateIs, unusedZero, isState}
@@ -32,7 +31,7 @@ use Rattle.layout.proofs.Reading.{variables-back, levels-back, header-b
 use Rattle.layout.proofs.Writing.{stretches-of}
 use Rattle.layout.proofs.Judged.{Shaped, good-judged, judged-good}
 
-pub encoded-length : (s : State) → Good s → length (encoded s) ≡ bufferLength
+pub encoded-length : (s : State) → Good s → length (encoded s) ≡ stateLength
 encoded-length s g = encoded-long s (g .values .flags) (g .values .outputs)
 
 -- ---- a state written and read
@@ -102,7 +101,7 @@ zeros b n h =
 pub good-state : (s : State) → Good s → isState (encoded s) ≡ true
 unfolding isState
 good-state s g =
-    rw (eq-eqb (length (encoded s)) bufferLength (encoded-length s g), zeros (encoded s) unusedLength (own s g .unused), decode-encode s g, good-judged s g)
+    rw (eq-eqb (length (encoded s)) stateLength (encoded-length s g), zeros (encoded s) unusedLength (own s g .unused), decode-encode s g, good-judged s g)
 
 -- ---- a buffer read and written
 
@@ -149,12 +148,12 @@ module _ (b : List ℕ) (bytes : Bytes b) where
       stacks (suc (suc (suc t))) l = absurd (omega arith)
 
   module _ (e : isState b ≡ true) where
-    parts : (length b ≡ bufferLength) × ((unusedZero b unusedLength ≡ true) × (stateIs (decoded b) ≡ true))
+    parts : (length b ≡ stateLength) × ((unusedZero b unusedLength ≡ true) × (stateIs (decoded b) ≡ true))
     unfolding isState
     parts =
-        let r1 = both (eqb (length b) bufferLength) _ e in
+        let r1 = both (eqb (length b) stateLength) _ e in
         let r2 = both (unusedZero b unusedLength) (stateIs (decoded b)) (r1 .1) in
-        (eqb-true (length b) bufferLength (r1 .0), (r2 .0, r2 .1))
+        (eqb-true (length b) stateLength (r1 .0), (r2 .0, r2 .1))
 
     pub state-good : Good (decoded b)
     state-good = judged-good (decoded b) shaped (parts .1 .1)

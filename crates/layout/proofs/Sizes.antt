@@ -5,15 +5,14 @@ use mathlib.Core.Path.{_≡_, refl, sym, ap, _∙_}
 use mathlib.Core.List.{List, _++_, append-assoc}
 use lib.IntN.{ℤ, pos}
 use lib.ListN.{length, getD, replicate, length-append, length-replicate}
-use Rattle.flow.specs.Flow.{bias, plc, mathematics}
+use Rattle.limits.specs.Limits.{bias, plc, mathematics, mostDepth, stateLength}
 use Rattle.le.specs.LittleEndian.{leBytes}
-use Rattle.point.specs.Fault.{mostDepth}
 use Rattle.places.specs.Places.{signedBytes, puts}
 use Rattle.places.proofs.Runs.{length-runs, next, into-zeros}
 use Rattle.state.specs.State.{taskAt}
 use Rattle.state.specs.declared.Task.{Task}
 use Rattle.state.specs.declared.State.{State}
-use Rattle.layout.specs.Layout.{bufferLength, taskLength, unusedAt, unusedLength}
+use Rattle.layout.specs.Layout.{taskLength, unusedAt, unusedLength}
 use Rattle.layout.specs.Encoded.{variableBytes, headerBytes, axisBytes, startBytes, stackBytes, taskBytes, encoded}
 
 pub length-variables : (l : List ℤ) → length (variableBytes l) ≡ 1024
@@ -67,10 +66,10 @@ module _ (s : State) where
         (taskBytes (taskAt s bias)) (taskBytes (taskAt s plc)) (taskBytes (taskAt s mathematics))
         ∙ rw (length-variables (s .values .variables), flags, outputs, length-task (taskAt s bias), length-task (taskAt s plc), length-task (taskAt s mathematics))
 
-    pub written : (l : List ℕ) → l ≡ puts (replicate bufferLength 0) 0 (used s) → l ≡ encoded s
-    written l e = into-zeros unusedAt unusedLength bufferLength l (used s) length-used refl e ∙ used-rest
+    pub written : (l : List ℕ) → l ≡ puts (replicate stateLength 0) 0 (used s) → l ≡ encoded s
+    written l e = into-zeros unusedAt unusedLength stateLength l (used s) length-used refl e ∙ used-rest
 
-    pub encoded-long : length (encoded s) ≡ bufferLength
+    pub encoded-long : length (encoded s) ≡ stateLength
     encoded-long =
         ap length (sym used-rest) ∙ length-append (used s) (replicate unusedLength 0)
         ∙ (let a = length-used in let b = length-replicate {A = ℕ} unusedLength 0 in omega arith)

@@ -5,9 +5,9 @@ use mathlib.Core.Path.{_≡_, refl, sym, ap, _∙_, subst}
 use mathlib.Core.List.{List, _++_}
 use lib.ListN.{length, getD, replicate}
 use lib.Seq.{ext-getD}
-use Rattle.flow.specs.Flow.{bias, plc, mathematics}
+use Rattle.limits.specs.Limits.{bias, plc, mathematics, cells}
 use Rattle.places.proofs.Has.{Has, left, right, join}
-use Rattle.state.specs.State.{cells, taskAt}
+use Rattle.state.specs.State.{taskAt}
 use Rattle.state.specs.declared.State.{State}
 use Rattle.layout.specs.Layout.{variablesAt, flagsAt, outputsAt, headerAt, headerLength, axisAt, axisLength, startsAt, startsLength, taskLength, taskPlace, unusedAt, unusedLength}
 use Rattle.layout.specs.Encoded.{variableBytes, headerBytes, axisBytes, startBytes, taskBytes, encoded}

@@ -9,14 +9,12 @@ use lib.IntN.{ℤ, pos}
 use lib.ListN.{length, getD, replicate, length-replicate, getD-replicate}
 use borrow.Author.Count.{below-more}
 use borrow.Author.Tests.{eqb-true}
-use Rattle.flow.specs.Flow.{bias, plc, mathematics}
+use Rattle.limits.specs.Limits.{bias, plc, mathematics, mostDepth, cells}
 use Rattle.le.specs.LittleEndian.{Bytes, leBytes}
 use Rattle.number.proofs.Choice.{both}
-use Rattle.point.specs.Fault.{mostDepth}
 use Rattle.places.specs.Places.{numberAt, signedAt, signedBytes}
 use Rattle.places.proofs.Has.{Has, nil, cons, join, run, of-number, of-signed}
 use Rattle.places.proofs.Tables.{length-table, getD-table}
-use Rattle.state.specs.State.{cells}
 use Rattle.state.specs.declared.Task.{Task}
 use Rattle.layout.specs.Layout.{variablesAt, flagsAt, outputsAt, headerAt, axisAt, startsAt, stackAt, timeAt, taskPlace, unusedAt, unusedLength}
 use Rattle.layout.specs.Decoded.{variablesIn, levelsIn, headerIn, valuesIn, stackIn, taskIn, decoded}

@@ -4,11 +4,9 @@ use Prim.Native.Nat.{ℕ, _+_, _*_}
 use mathlib.Core.List.{List, [], _∷_}
 use lib.ListN.{getD}
 use lib.IntN.{ℤ}
+use Rattle.limits.specs.Limits.{bias, plc, mathematics, mostDepth, cells}
 use Rattle.image.specs.declared.Header.{Header}
-use Rattle.point.specs.Fault.{mostDepth}
-use Rattle.flow.specs.Flow.{bias, plc, mathematics}
 use Rattle.places.specs.Places.{numberAt, signedAt, table}
-use Rattle.state.specs.State.{cells}
 use Rattle.state.specs.declared.Task.{Task}
 use Rattle.state.specs.declared.Axis.{Axis}
 use Rattle.state.specs.declared.Values.{Values}

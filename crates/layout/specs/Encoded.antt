@@ -3,12 +3,11 @@ use Prim.Native.Nat.{ℕ}
 use mathlib.Core.List.{List, [], _∷_, _++_}
 use lib.ListN.{getD, replicate}
 use lib.IntN.{ℤ, pos}
+use Rattle.limits.specs.Limits.{bias, plc, mathematics, mostDepth, cells}
 use Rattle.image.specs.declared.Header.{Header}
 use Rattle.le.specs.LittleEndian.{leBytes}
-use Rattle.flow.specs.Flow.{bias, plc, mathematics}
-use Rattle.point.specs.Fault.{mostDepth}
 use Rattle.places.specs.Places.{signedBytes, runs}
-use Rattle.state.specs.State.{cells, taskAt}
+use Rattle.state.specs.State.{taskAt}
 use Rattle.state.specs.declared.Task.{Task}
 use Rattle.state.specs.declared.Values.{Values}
 use Rattle.state.specs.declared.State.{State}

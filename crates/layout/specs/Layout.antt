@@ -1,12 +1,6 @@
 -- The places of the state buffer (docs/STATE.md): each stretch stands behind the one before it. Assumes nothing.
 use Prim.Native.Nat.{ℕ, _+_, _-_, _*_}
-use Rattle.flow.specs.Flow.{taskCount}
-use Rattle.point.specs.Fault.{mostDepth}
-use Rattle.state.specs.State.{cells}
-
--- the whole buffer
-abbrev pub bufferLength : ℕ
-bufferLength = 2048
+use Rattle.limits.specs.Limits.{taskCount, mostDepth, cells, stateLength}
 
 -- a variable has four bytes, a flag and an output one each
 abbrev pub variablesAt : ℕ
@@ -60,4 +54,4 @@ abbrev pub unusedAt : ℕ
 unusedAt = tasksAt + taskLength * taskCount
 
 abbrev pub unusedLength : ℕ
-unusedLength = bufferLength - unusedAt
+unusedLength = stateLength - unusedAt

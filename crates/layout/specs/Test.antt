@@ -5,18 +5,16 @@ use mathlib.Core.Bool.{Bool, true, _&&_, _||_, not}
 use mathlib.Core.List.{List}
 use lib.Dec.{eqb, ltb, leb}
 use lib.ListN.{length, getD}
+use Rattle.limits.specs.Limits.{bias, plc, mathematics, mostDepth, cells, mostLevel, mostSpeed, mostRamp, longest, stateLength, upTo}
 use Rattle.drive.specs.Types.{types, takesB, takesC}
 use Rattle.image.specs.Rows.{format1, countInRange}
 use Rattle.image.specs.declared.Header.{Header}
-use Rattle.command.specs.Judged.{mostSpeed, mostRamp, mostLevel, upTo}
-use Rattle.flow.specs.Flow.{bias, plc, mathematics}
-use Rattle.point.specs.Fault.{mostDepth}
-use Rattle.state.specs.State.{cells, halted, taskAt}
-use Rattle.state.specs.Wait.{due, longest}
+use Rattle.state.specs.State.{halted, taskAt}
+use Rattle.state.specs.Wait.{due}
 use Rattle.state.specs.declared.Task.{Task}
 use Rattle.state.specs.declared.Values.{Values}
 use Rattle.state.specs.declared.State.{State}
-use Rattle.layout.specs.Layout.{bufferLength, unusedAt, unusedLength}
+use Rattle.layout.specs.Layout.{unusedAt, unusedLength}
 use Rattle.layout.specs.Decoded.{decoded}
 
 -- each of the first n of a list passes a test of its place and content
@@ -60,4 +58,4 @@ unusedZero b zero = true
 unusedZero b (suc n) = unusedZero b n && eqb (getD b (unusedAt + n) 0) 0
 
 unfoldable pub isState : List ℕ → Bool
-isState b = eqb (length b) bufferLength && (unusedZero b unusedLength && stateIs (decoded b))
+isState b = eqb (length b) stateLength && (unusedZero b unusedLength && stateIs (decoded b))

@@ -4,11 +4,11 @@
 // Places of the stretches, each behind the one before it.
 pub const VARIABLES_AT: u16 = 0;
 
-pub const FLAGS_AT: u16 = VARIABLES_AT + 4 * state::CELLS as u16;
+pub const FLAGS_AT: u16 = VARIABLES_AT + 4 * limits::CELLS as u16;
 
-pub const OUTPUTS_AT: u16 = FLAGS_AT + state::CELLS as u16;
+pub const OUTPUTS_AT: u16 = FLAGS_AT + limits::CELLS as u16;
 
-pub const HEADER_AT: u16 = OUTPUTS_AT + state::CELLS as u16;
+pub const HEADER_AT: u16 = OUTPUTS_AT + limits::CELLS as u16;
 
 pub const HEADER_LENGTH: u16 = 8;
 
@@ -25,8 +25,8 @@ pub const TASKS_AT: u16 = STARTS_AT + STARTS_LENGTH;
 // In a task's record: its call stack, its wait, its length.
 pub const STACK_AT: u16 = 4;
 
-pub const TIME_AT: u16 = STACK_AT + 2 * state::STACK_LENGTH as u16;
+pub const TIME_AT: u16 = STACK_AT + 2 * limits::STACK_LENGTH as u16;
 
 pub const TASK_LENGTH: u16 = TIME_AT + 8;
 
-pub const UNUSED_AT: u16 = TASKS_AT + 3 * TASK_LENGTH;
+pub const UNUSED_AT: u16 = TASKS_AT + limits::TASK_COUNT as u16 * TASK_LENGTH;

@@ -1,24 +1,24 @@
 // The lent state buffer as an array by value, and back.
-use places::LENGTH;
+use limits::STATE_LENGTH;
 ghost use mathlib.Core.Path.{_≡_};
 ghost use lib.ListN.{length};
+ghost use Rattle.limits.specs.Limits.{stateLength};
 ghost use Rattle.le.specs.LittleEndian.{Bytes};
-ghost use Rattle.layout.specs.Layout.{bufferLength};
 
 // The slice's bytes as an array.
-pub fn copy_in(s: &[u8]) -> [u8; LENGTH]
-    requires { ⌜ length (now s) ≡ bufferLength ⌝ }
+pub fn copy_in(s: &[u8]) -> [u8; STATE_LENGTH]
+    requires { ⌜ length (now s) ≡ stateLength ⌝ }
     ensures { λ r. ⌜ r ≡ now (s .entry) ⌝ }
     ensures { λ r. ⌜ Bytes r ⌝ }
 {
-    let mut r = [0u8; LENGTH];
+    let mut r = [0u8; STATE_LENGTH];
     bytes::copy(s, &mut r);
     r
 }
 
 // The array's bytes into the slice.
-pub fn copy_out(s: &mut [u8], b: &[u8; LENGTH])
-    requires { ⌜ length (now s) ≡ bufferLength ⌝ }
+pub fn copy_out(s: &mut [u8], b: &[u8; STATE_LENGTH])
+    requires { ⌜ length (now s) ≡ stateLength ⌝ }
     ensures { λ _. ⌜ now (s .exit) ≡ now (b .entry) ⌝ }
 {
     bytes::copy(b, s);

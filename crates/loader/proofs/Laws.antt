@@ -13,12 +13,13 @@ use lib.Seq.{getD-set-same, getD-set-other}
 use lib.Dec.{eqb}
 use borrow.Author.Count.{below-more}
 use borrow.Author.Tests.{eqb-true, eqb-false}
+use Rattle.limits.specs.Limits.{marksLength}
 use Rattle.number.proofs.Choice.{clash}
 use Rattle.image.specs.declared.Header.{Header}
 use Rattle.point.specs.declared.Point.{Point}
 use Rattle.program.specs.Numbers.{numbers}
 use Rattle.program.specs.declared.Following.{Following}
-use Rattle.walk.specs.Index.{marksLength, pointAt}
+use Rattle.walk.specs.Index.{pointAt}
 use Rattle.walk.specs.Successors.{successors, indices, nextOf}
 use Rattle.walk.specs.Graph.{In, Reach, has, lesser}
 use Rattle.walk.specs.Verdict.{rootOf, reached}

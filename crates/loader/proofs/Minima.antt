@@ -9,13 +9,13 @@ use lib.ListN.{getD}
 use lib.Dec.{ltb}
 use borrow.Author.Tests.{ltb-true, ltb-false, lt-ltb, le-ltb}
 use borrow.Author.Count.{below-more}
-use Rattle.image.specs.Rows.{mostBlocks}
+use Rattle.limits.specs.Limits.{mostBlocks, marksLength}
 use Rattle.image.specs.declared.Header.{Header}
 use Rattle.number.proofs.Choice.{clash, by}
 use Rattle.point.specs.declared.Point.{Point}
 use Rattle.fault.specs.declared.Fault.{Fault}
 use Rattle.walk.specs.Program.{faultAt}
-use Rattle.walk.specs.Index.{marksLength, pointAt}
+use Rattle.walk.specs.Index.{pointAt}
 use Rattle.walk.specs.Graph.{In, Reach, has, lesser, least}
 use Rattle.walk.proofs.Choice.{test, has-in, in-has}
 use Rattle.walk.specs.Successors.{nextOf}

@@ -7,11 +7,11 @@ use native.Mathlib.Omega.{arith}
 use lib.ListN.{length, take}
 use lib.Seq.{take-length}
 use borrow.Author.Tests.{le-ltb}
+use Rattle.limits.specs.Limits.{marksLength}
 use Rattle.outcome.specs.Outcome.{done}
 use Rattle.image.specs.Scan.{headerOf, blocksOf}
 use Rattle.image.specs.declared.reader.HeaderRead.{HeaderRead}
 use Rattle.image.proofs.HeaderLaws.{header-good}
-use Rattle.walk.specs.Index.{marksLength}
 use Rattle.walk.specs.Verdict.{blocksVerdict, readVerdict, verdictOf, isAccepted, acceptedBlocks}
 use Rattle.number.proofs.Choice.{either}
 use Rattle.walk.specs.declared.Verdict.{Verdict}

@@ -6,11 +6,11 @@ use mathlib.Core.Bool.{cond}
 use mathlib.Core.List.{List, [], _∷_}
 use lib.ListN.{length, getD, set}
 use lib.Dec.{eqb}
-use Rattle.image.specs.Rows.{mostBlocks}
+use Rattle.limits.specs.Limits.{mostBlocks, marksLength}
 use Rattle.image.specs.declared.Header.{Header}
 use Rattle.fault.specs.Fault.{isForeign}
 use Rattle.walk.specs.Program.{blockNumber, faultAt}
-use Rattle.walk.specs.Index.{marksLength, pointAt}
+use Rattle.walk.specs.Index.{pointAt}
 use Rattle.walk.specs.Graph.{In, Reach, has, lesser}
 use Rattle.walk.specs.Verdict.{reached}
 

@@ -1,13 +1,13 @@
 // The loader (document 01, "Refused because of the input"): which images are accepted, and which refusal with which place all else gets.
 use image::Header;
 use image::reader;
-use program::MARKS_LENGTH;
+use limits::MARKS_LENGTH;
 use walk::Verdict;
 ghost use mathlib.Core.Path.{_≡_};
 ghost use mathlib.Core.Bool.{cond};
 ghost use Prim.Native.Nat.{_≤_};
 ghost use lib.ListN.{length};
-ghost use Rattle.walk.specs.Index.{marksLength};
+ghost use Rattle.limits.specs.Limits.{marksLength};
 ghost use Rattle.walk.specs.Verdict.{blocksVerdict, verdictOf, acceptedBlocks, isAccepted};
 ghost use Rattle.loader.specs.After.{After};
 ghost use Rattle.loader.specs.Search.{Ready, FirstRefused};

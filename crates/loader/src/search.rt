@@ -5,12 +5,13 @@ use image::Header;
 use image::reader;
 use point::Point;
 use program::Following;
-use program::MARKS_LENGTH;
+use limits::MARKS_LENGTH;
 use walk::Verdict;
 ghost use mathlib.Core.Path.{_≡_};
 ghost use Prim.Native.Nat.{_<_, _≤_};
 ghost use lib.ListN.{length, getD};
-ghost use Rattle.walk.specs.Index.{marksLength, pointAt};
+ghost use Rattle.limits.specs.Limits.{marksLength};
+ghost use Rattle.walk.specs.Index.{pointAt};
 ghost use Rattle.walk.specs.Successors.{nextOf};
 ghost use Rattle.walk.specs.Verdict.{rootOf, reached, leastForeign, leastBad, verdictBy, walksVerdict};
 ghost use Rattle.loader.specs.After.{After};
@@ -56,7 +57,7 @@ fn search(header: Header, blocks: &[u8], marks: &mut [u8]) -> Verdict
 fn root(header: Header) -> usize
     ensures { λ r. ⌜ r ≡ rootOf header ⌝ }
 {
-    program::number(flow::BIAS, header.start as u32, 0)
+    program::number(limits::BIAS, header.start as u32, 0)
 }
 
 // Clears the marks and marks the first point as pending.
@@ -158,11 +159,11 @@ fn point_at(i: usize) -> Point
     requires { ⌜ i < marksLength ⌝ }
     ensures { λ r. ⌜ r ≡ pointAt i ⌝ }
 {
-    let pair = i / program::DEPTHS;
+    let pair = i / limits::DEPTHS;
     Point {
-        task: (pair % program::TASKS) as u8,
-        block: (pair / program::TASKS) as u16,
-        depth: (i % program::DEPTHS) as u8,
+        task: (pair % limits::TASKS) as u8,
+        block: (pair / limits::TASKS) as u16,
+        depth: (i % limits::DEPTHS) as u8,
     }
 }
 
@@ -183,7 +184,7 @@ fn least_foreign(header: Header, blocks: &[u8], marks: &[u8]) -> usize
     requires { ⌜ Searched header (now blocks) (now marks) ⌝ }
     ensures { λ r. ⌜ r ≡ leastForeign header (now (blocks .entry)) (reached header (now (blocks .entry))) ⌝ }
 {
-    let mut found = reader::MOST_BLOCKS as usize;
+    let mut found = limits::MOST_BLOCKS as usize;
     let mut i = 0;
     while i < MARKS_LENGTH {
         if marks[i] != NOT_SEEN {
@@ -233,7 +234,7 @@ fn least_bad(header: Header, blocks: &[u8], marks: &[u8]) -> usize
 fn verdict_by(header: Header, blocks: &[u8], foreign: usize, bad: usize) -> Verdict
     ensures { λ r. ⌜ r ≡ verdictBy header (now (blocks .entry)) foreign bad ⌝ }
 {
-    if foreign < reader::MOST_BLOCKS as usize {
+    if foreign < limits::MOST_BLOCKS as usize {
         return Verdict::Foreign(foreign);
     }
     if bad < MARKS_LENGTH {

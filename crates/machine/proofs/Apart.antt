@@ -9,13 +9,12 @@ use native.Mathlib.Omega.{arith}
 use lib.Dec.{eqb}
 use lib.ListN.{length, getD}
 use borrow.Author.Tests.{eqb-true, eq-eqb}
+use Rattle.limits.specs.Limits.{taskCount, mostDepth}
 use Rattle.image.specs.Scan.{headerOf, blocksOf}
 use Rattle.number.proofs.Choice.{clash}
 use Rattle.rows.specs.Rows.{hex}
 use Rattle.fault.specs.Fault.{faultNumber}
 use Rattle.fault.specs.declared.Fault.{Fault}
-use Rattle.flow.specs.Flow.{taskCount}
-use Rattle.point.specs.Fault.{mostDepth}
 use Rattle.walk.specs.Walk.{starts}
 use Rattle.state.specs.State.{runs, ended, halted, taskAt}
 use Rattle.state.specs.declared.Task.{Task}

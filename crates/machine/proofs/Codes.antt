@@ -7,11 +7,12 @@ use native.Mathlib.Omega.{arith}
 use native.Mathlib.Decide.{ℕ-discrete}
 use lib.Dec.{eqb}
 use borrow.Author.Tests.{eqb-true, eqb-false, eq-eqb, not-true}
+use Rattle.limits.specs.Limits.{bias, plc, mathematics}
 use Rattle.number.proofs.Choice.{clash, both}
 use Rattle.rows.specs.Rows.{hex, rowOf, return, startBias, startPlc, startMathematics, ending}
 use Rattle.rows.specs.Rows.{call as called}
 use Rattle.operands.specs.declared.Command.{Command}
-use Rattle.flow.specs.Flow.{bias, plc, mathematics, flowBy, flowOf}
+use Rattle.flow.specs.Flow.{flowBy, flowOf}
 use Rattle.flow.specs.Tasks.{foreign}
 use Rattle.flow.specs.declared.Flow.{Flow}
 use Rattle.flow.specs.declared.Flow.the-variants as flow

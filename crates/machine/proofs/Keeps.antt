@@ -9,15 +9,15 @@ use lib.Dec.{eqb, ltb}
 use lib.ListN.{length, getD, set, drop, length-set}
 use lib.Seq.{getD-set-same, getD-set-other, getD-drop}
 use borrow.Author.Tests.{eqb-true, eqb-false, leb-false, ltb-true}
+use Rattle.limits.specs.Limits.{bias, taskCount, mostDepth, cells}
 use Rattle.le.specs.LittleEndian.{Bytes}
 use Rattle.outcome.specs.Outcome.{done}
 use Rattle.image.specs.Scan.{headerOf, blocksOf}
 use Rattle.image.specs.declared.Header.{Header}
 use Rattle.number.proofs.Choice.{both}
 use Rattle.operands.specs.declared.Command.{Command}
-use Rattle.flow.specs.Flow.{bias, taskCount, flowOf}
+use Rattle.flow.specs.Flow.{flowOf}
 use Rattle.fault.specs.Fault.{faultNumber}
-use Rattle.point.specs.Fault.{mostDepth}
 use Rattle.point.specs.declared.Point.{Point}
 use Rattle.fault.specs.declared.Fault.{Fault}
 use Rattle.fault.specs.declared.Fault.the-variants.{Fine, Foreign, Forbidden, TooDeep, NoCall, PastEnd}
@@ -25,7 +25,7 @@ use Rattle.walk.specs.Program.{blockAt, commandAt, faultAt, blockNumber}
 use Rattle.walk.specs.Graph.{In}
 use Rattle.walk.specs.Successors.{goes as walked, successors}
 use Rattle.walk.proofs.Within.{Within, Passes, passes, successors-within}
-use Rattle.state.specs.State.{runs, ended, halted, noTask, taskAt, cells, withNotes}
+use Rattle.state.specs.State.{runs, ended, halted, noTask, taskAt, withNotes}
 use Rattle.state.specs.Good.{GoodWait, GoodTask, GoodValues, Good}
 use Rattle.state.specs.declared.Task.{Task}
 use Rattle.state.specs.declared.Values.{Values}

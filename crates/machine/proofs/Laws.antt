@@ -10,6 +10,7 @@ use lib.Signed.{quotZ}
 use borrow.Author.Tests.{eqb-true, eqb-false, not-false}
 use mir.Syntax.{w32}
 use mir.Val.{SFits}
+use Rattle.limits.specs.Limits.{mostTime, longest}
 use Rattle.arith.specs.Wrap.{wrap}
 use Rattle.arith.specs.Ops.{quotient, eqZ}
 use Rattle.arith.proofs.Cut.{wrap-fits}
@@ -21,7 +22,7 @@ use Rattle.operands.specs.declared.Command.{Command}
 use Rattle.command.specs.Judged.{inRange}
 use Rattle.flow.specs.Flow.{flowBy}
 use Rattle.state.specs.State.{withAxis, withMark}
-use Rattle.state.specs.Wait.{due, longest, mostTime}
+use Rattle.state.specs.Wait.{due}
 use Rattle.state.specs.Good.{GoodWait, GoodAxis, GoodValues, InRange}
 use Rattle.state.specs.declared.Axis.{Axis}
 use Rattle.state.specs.declared.Values.{Values}

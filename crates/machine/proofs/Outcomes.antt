@@ -6,7 +6,8 @@ use mathlib.Core.Logic.{inl, inr}
 use mathlib.Core.List.{[], _∷_}
 use lib.Dec.{eqb, leb}
 use borrow.Author.Tests.{ne-eqb}
-use Rattle.point.specs.Fault.{point, tooDeep, noCall, mostDepth}
+use Rattle.limits.specs.Limits.{mostDepth}
+use Rattle.point.specs.Fault.{point, tooDeep, noCall}
 use Rattle.point.specs.declared.Point.{Point}
 use Rattle.flow.specs.declared.Flow.{Flow}
 use Rattle.walk.specs.Graph.{In}

@@ -6,13 +6,13 @@ use mathlib.Core.List.{List}
 use native.Mathlib.Omega.{arith}
 use lib.Dec.{eqb}
 use borrow.Author.Tests.{eqb-true, eqb-false, leb-false}
+use Rattle.limits.specs.Limits.{mostDepth}
 use Rattle.number.proofs.Choice.{both}
 use Rattle.image.specs.Scan.{blocksOf}
 use Rattle.image.specs.declared.Header.{Header}
 use Rattle.operands.specs.declared.Command.{Command}
 use Rattle.flow.specs.Flow.{flowOf}
 use Rattle.fault.specs.Fault.{faultNumber}
-use Rattle.point.specs.Fault.{mostDepth}
 use Rattle.walk.specs.Program.{commandAt, faultAt, blockNumber}
 use Rattle.walk.proofs.Within.{Passes, passes}
 use Rattle.state.specs.declared.Task.{Task}

@@ -8,16 +8,16 @@ use lib.ListN.{getD}
 use lib.IntN.{ℤ, pos, negsuc, _+ℤ_, _-ℤ_, _*ℤ_}
 use borrow.Author.Tests.{leb-true}
 use mir.Syntax.{w32}
+use Rattle.limits.specs.Limits.{bias, plc, mathematics, mostLevel, mostSpeed, mostRamp, mostTime, longest}
 use Rattle.arith.specs.Wrap.{wrap}
 use Rattle.arith.specs.Ops.{holds, bitAt, eqZ}
 use Rattle.arith.proofs.Cut.{wrap-fits}
 use Rattle.number.proofs.Choice.{clash, both}
 use Rattle.rows.specs.Rows.{hex, rows, rowIn, rowOf}
 use Rattle.operands.specs.declared.Command.{Command}
-use Rattle.command.specs.Judged.{mostSpeed, mostRamp, mostLevel, inRange}
-use Rattle.flow.specs.Flow.{bias, plc, mathematics, flowBy}
+use Rattle.command.specs.Judged.{inRange}
+use Rattle.flow.specs.Flow.{flowBy}
 use Rattle.state.specs.State.{withFlag, withOutput, withAxis, withMark, withPosition, withSpeed, withAcceleration, withDeceleration}
-use Rattle.state.specs.Wait.{longest, mostTime}
 use Rattle.state.specs.declared.Values.{Values}
 use Rattle.machine.specs.Given.{Given, inputAt}
 use Rattle.machine.specs.Effect.{Deed, row, effectOf, compares, flag, output, bit, isSet, variable, within, natural, waits, timeOf, flagNumber}

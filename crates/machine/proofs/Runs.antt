@@ -4,8 +4,8 @@ use mathlib.Core.Path.{_≡_, refl}
 use mathlib.Core.List.{List, [], _∷_}
 use native.Mathlib.Omega.{arith}
 use lib.ListN.{getD}
+use Rattle.limits.specs.Limits.{taskCount}
 use Rattle.le.specs.LittleEndian.{Bytes}
-use Rattle.flow.specs.Flow.{taskCount}
 use Rattle.walk.specs.Walk.{Walk}
 use Rattle.state.specs.State.{runs, noTask, taskAt, fresh, freshValues, running, neverStarted}
 use Rattle.state.specs.declared.Values.{Values}

@@ -10,8 +10,8 @@ use lib.IntN.{ℤ, pos, negsuc}
 use borrow.Author.Tests.{leb-true, ltb-true}
 use mir.Syntax.{w32}
 use mir.Val.{SFits}
+use Rattle.limits.specs.Limits.{mostLevel, mostSpeed, mostRamp, upTo}
 use Rattle.number.proofs.Choice.{clash, both}
-use Rattle.command.specs.Judged.{mostLevel, mostSpeed, mostRamp, upTo}
 use Rattle.state.specs.State.{withVariable, withFlag, withOutput, withAxis, withMark, withNotes, withPosition, withSpeed, withAcceleration, withDeceleration}
 use Rattle.state.specs.Good.{InRange, GoodAxis, GoodValues}
 use Rattle.state.specs.declared.Axis.{Axis}

@@ -10,9 +10,9 @@ use lib.Dec.{eqb}
 use lib.ListN.{length, getD, set, length-set}
 use lib.Seq.{getD-set-same, getD-set-other}
 use borrow.Author.Tests.{eqb-true}
+use Rattle.limits.specs.Limits.{bias, mostDepth}
 use Rattle.image.specs.declared.Header.{Header}
-use Rattle.flow.specs.Flow.{bias}
-use Rattle.point.specs.Fault.{point, mostDepth}
+use Rattle.point.specs.Fault.{point}
 use Rattle.walk.specs.Program.{commandAt}
 use Rattle.walk.specs.Walk.{Walk, Reaches}
 use Rattle.state.specs.State.{runs, neverStarted}

@@ -8,19 +8,20 @@ use native.Mathlib.Omega.{arith}
 use lib.Dec.{T, eqb, ltb}
 use lib.ListN.{length, getD}
 use borrow.Author.Tests.{eqb-true, eqb-false, eq-eqb, ne-eqb, not-true, ltb-true, ltb-false, lt-ltb, le-ltb}
+use Rattle.limits.specs.Limits.{taskCount, cells}
 use Rattle.image.specs.Scan.{headerOf, blocksOf}
 use Rattle.image.specs.declared.Header.{Header}
 use Rattle.rows.specs.Rows.{rows, rowIn, rowOf, noRow}
 use Rattle.rows.specs.declared.Row.{Row as Columns}
 use Rattle.rows.proofs.Laws.{every, every-row}
 use Rattle.operands.specs.declared.Command.{Command}
-use Rattle.flow.specs.Flow.{taskCount, flowOf}
+use Rattle.flow.specs.Flow.{flowOf}
 use Rattle.flow.specs.Tasks.{permitted}
 use Rattle.walk.specs.Program.{commandAt}
 use Rattle.walk.specs.Walk.{Reaches}
 use Rattle.walk.proofs.Moves.{carried}
 use Rattle.walk.proofs.Within.{Passes}
-use Rattle.state.specs.State.{cells, runs, taskAt}
+use Rattle.state.specs.State.{runs, taskAt}
 use Rattle.state.specs.declared.Task.{Task}
 use Rattle.state.specs.declared.State.{State}
 use Rattle.machine.specs.Given.{Inputs, level}

@@ -10,10 +10,11 @@ use lib.Dec.{eqb}
 use lib.ListN.{length, getD, set, length-set}
 use lib.Seq.{getD-set-same, getD-set-other}
 use borrow.Author.Tests.{eqb-false, eq-eqb, ne-eqb}
+use Rattle.limits.specs.Limits.{taskCount}
 use Rattle.number.proofs.Choice.{clash}
 use Rattle.rows.specs.Rows.{hex, rowOf}
 use Rattle.operands.specs.declared.Command.{Command}
-use Rattle.flow.specs.Flow.{taskCount, flowOf}
+use Rattle.flow.specs.Flow.{flowOf}
 use Rattle.point.specs.Fault.{noCall}
 use Rattle.point.specs.declared.Point.{Point}
 use Rattle.flow.specs.declared.Flow.{Flow}

@@ -8,9 +8,10 @@ use native.Mathlib.Decide.{ℕ-discrete}
 use lib.ListN.{length, getD, set, length-set}
 use lib.Seq.{getD-set-same, getD-set-other}
 use borrow.Author.Tests.{eqb-false, leb-false}
+use Rattle.limits.specs.Limits.{taskCount, mostDepth}
 use Rattle.image.specs.declared.Header.{Header}
-use Rattle.flow.specs.Flow.{taskCount, flowOf}
-use Rattle.point.specs.Fault.{point, mostDepth}
+use Rattle.flow.specs.Flow.{flowOf}
+use Rattle.point.specs.Fault.{point}
 use Rattle.point.specs.declared.Point.{Point}
 use Rattle.walk.specs.Program.{commandAt}
 use Rattle.walk.specs.Walk.{Reaches}

@@ -6,9 +6,10 @@ use mathlib.Core.Logic.{_↔_}
 use native.Mathlib.Omega.{arith}
 use lib.Dec.{ltb}
 use borrow.Author.Tests.{leb-false, ltb-false, ltb-true, ne-eqb}
+use Rattle.limits.specs.Limits.{longest}
 use Rattle.drive.specs.Types.{type637Plus, cycleOf}
 use Rattle.number.proofs.Choice.{clash}
-use Rattle.state.specs.Wait.{due, longest}
+use Rattle.state.specs.Wait.{due}
 use Rattle.state.specs.Good.{GoodWait}
 use Rattle.state.proofs.Wait.{due-exactly}
 use Rattle.machine.specs.Given.{Given}

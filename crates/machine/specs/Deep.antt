@@ -1,6 +1,6 @@
 -- What an outcome needs of a task's depth: room for a call, and something to return to. Assumes nothing.
 use Prim.Native.Nat.{ℕ, _<_, _≤_}
-use Rattle.point.specs.Fault.{mostDepth}
+use Rattle.limits.specs.Limits.{mostDepth}
 use Rattle.machine.specs.declared.Outcome.{Outcome}
 use Rattle.machine.specs.declared.Outcome.the-variants.{GoOn, Stay, Jump, Call, Return, Start, Restart, End, Halt}
 

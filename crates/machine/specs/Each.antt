@@ -7,18 +7,16 @@ use mathlib.Core.Logic.{_⊎_}
 use mathlib.Core.List.{List, [], _∷_}
 use lib.Dec.{eqb}
 use lib.IntN.{pos}
+use Rattle.limits.specs.Limits.{bias, plc, mathematics, taskCount, mostSpeed, mostRamp, mostTime}
 use Rattle.image.specs.Scan.{blocksOf}
 use Rattle.rows.specs.Rows.{hex}
-use Rattle.command.specs.Judged.{mostSpeed, mostRamp}
 use Rattle.operands.specs.declared.Command.{Command}
-use Rattle.flow.specs.Flow.{bias, plc, mathematics, taskCount}
 use Rattle.walk.specs.Program.{commandAt}
 use Rattle.walk.specs.Walk.{starts}
 use Rattle.state.specs.State.{runs, ended, halted, taskAt}
 use Rattle.state.specs.declared.Values.{Values}
 use Rattle.state.specs.declared.State.{State}
 use Rattle.machine.specs.Given.{Inputs}
-use Rattle.state.specs.Wait.{mostTime}
 use Rattle.machine.specs.Effect.{variable, within}
 use Rattle.machine.specs.Engine.{step, pointOf, noted, stopped}
 use Rattle.machine.specs.declared.Cause.{Cause}

@@ -9,17 +9,16 @@ use lib.ListN.{getD}
 use lib.IntN.{ℤ, pos, negsuc, _+ℤ_, _-ℤ_, _*ℤ_}
 use lib.Signed.{leZ}
 use mir.Syntax.{w32}
+use Rattle.limits.specs.Limits.{bias, plc, mathematics, mostSpeed, mostRamp, mostTime}
 use Rattle.arith.specs.Wrap.{wrap}
 use Rattle.arith.specs.Ops.{quotient, holds, bitAt}
 use Rattle.arith.specs.declared.Quotient.{Quotient}
 use Rattle.arith.specs.declared.Quotient.the-variants.{Value, ByZero}
 use Rattle.drive.specs.Types.{type637Plus}
 use Rattle.rows.specs.Rows.{hex}
-use Rattle.command.specs.Judged.{mostSpeed, mostRamp}
 use Rattle.operands.specs.declared.Command.{Command}
-use Rattle.flow.specs.Flow.{bias, plc, mathematics}
 use Rattle.state.specs.State.{withVariable, withFlag, withOutput, withAxis, withMark, withPosition, withSpeed, withAcceleration, withDeceleration}
-use Rattle.state.specs.Wait.{due, mostTime}
+use Rattle.state.specs.Wait.{due}
 use Rattle.state.specs.declared.Axis.{Axis}
 use Rattle.state.specs.declared.Values.{Values}
 use Rattle.machine.specs.Given.{Given, inputAt}

@@ -5,16 +5,16 @@ use mathlib.Core.Bool.{Bool, _&&_, _||_, not, cond}
 use mathlib.Core.List.{List}
 use lib.Dec.{eqb, ltb}
 use lib.ListN.{length, getD, set}
+use Rattle.limits.specs.Limits.{bias, taskCount, cells}
 use Rattle.outcome.specs.Outcome.{done}
 use Rattle.image.specs.Scan.{headerOf, blocksOf}
 use Rattle.image.specs.declared.Header.{Header}
 use Rattle.rows.specs.Rows.{hex}
-use Rattle.flow.specs.Flow.{bias, taskCount}
 use Rattle.fault.specs.Fault.{faultNumber}
 use Rattle.point.specs.Fault.{point}
 use Rattle.point.specs.declared.Point.{Point}
 use Rattle.walk.specs.Program.{commandAt, faultAt, blockNumber}
-use Rattle.state.specs.State.{cells, runs, ended, halted, emptyStack, task, taskAt, withNotes}
+use Rattle.state.specs.State.{runs, ended, halted, emptyStack, task, taskAt, withNotes}
 use Rattle.state.specs.declared.Task.{Task}
 use Rattle.state.specs.declared.Values.{Values}
 use Rattle.state.specs.declared.State.{State}

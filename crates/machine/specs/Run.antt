@@ -2,8 +2,8 @@
 use Prim.Native.Nat.{ℕ, _<_, _≤_}
 use mathlib.Core.Path.{_≡_}
 use mathlib.Core.List.{List, [], _∷_}
+use Rattle.limits.specs.Limits.{mostDepth}
 use Rattle.image.specs.Scan.{headerOf, blocksOf}
-use Rattle.point.specs.Fault.{mostDepth}
 use Rattle.fault.specs.declared.Fault.the-variants.{Fine}
 use Rattle.walk.specs.Program.{faultAt, blockNumber}
 use Rattle.state.specs.declared.Task.{Task}

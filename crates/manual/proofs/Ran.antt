@@ -4,8 +4,7 @@ use mathlib.Core.Path.{_≡_, sym, ap, _∙_}
 use mathlib.Core.List.{List, _++_}
 use lib.ListN.{length, take, drop, replicate}
 use borrow.Author.Tests.{eq-eqb, ne-eqb}
-use Rattle.walk.specs.Index.{marksLength}
-use Rattle.layout.specs.Layout.{bufferLength}
+use Rattle.limits.specs.Limits.{marksLength, stateLength}
 use Rattle.report.specs.Input.{inputLength}
 use Rattle.bias.specs.Load.{Load, load}
 use Rattle.hex.specs.Hex.{bytesOf}
@@ -34,9 +33,9 @@ decoded-front digits out space room n r e o =
 
 -- an example, by what was decoded on both sides of its space
 pub example-is : (line i s : List ℕ) (k : ℕ) → k ≡ spaceOf line → i ≡ fitting inputLength (take k line) → s ≡ fitting 4096 (behind line k)
-    → ran i s (replicate bufferLength 0) ≡ example line
+    → ran i s (replicate stateLength 0) ≡ example line
 unfolding example
 example-is line i s k e f g =
     let x = f ∙ ap (λ (j : ℕ). fitting inputLength (take j line)) e in
     let y = g ∙ ap (λ (j : ℕ). fitting 4096 (behind line j)) e in
-    λ ι. ran (x ι) (y ι) (replicate bufferLength 0)
+    λ ι. ran (x ι) (y ι) (replicate stateLength 0)

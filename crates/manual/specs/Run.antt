@@ -4,11 +4,9 @@ use mathlib.Core.Bool.{cond}
 use mathlib.Core.List.{List, [], _∷_}
 use lib.Dec.{eqb}
 use lib.ListN.{length, getD, set, replicate, take, drop}
+use Rattle.limits.specs.Limits.{cells, marksLength, stateLength}
 use Rattle.bytes.specs.Bytes.{indexOf}
-use Rattle.walk.specs.Index.{marksLength}
-use Rattle.state.specs.State.{cells}
 use Rattle.places.specs.Places.{numberAt, puts}
-use Rattle.layout.specs.Layout.{bufferLength}
 use Rattle.machine.specs.Given.{Inputs, inputsOf}
 use Rattle.report.specs.Input.{inputLength}
 use Rattle.bias.specs.Load.{Load, load}
@@ -68,4 +66,4 @@ fitting room digits = bytesOf digits (min (length digits / 2) room)
 
 -- the buffer at the end of an example
 unfoldable pub example : List ℕ → List ℕ
-example line = ran (fitting inputLength (take (spaceOf line) line)) (fitting 4096 (behind line (spaceOf line))) (replicate bufferLength 0)
+example line = ran (fitting inputLength (take (spaceOf line) line)) (fitting 4096 (behind line (spaceOf line))) (replicate stateLength 0)

@@ -2,13 +2,13 @@
 // held to the file stdout, which comes from other readings of the papers and not from this code; docs/EXAMPLES.md says which, and names the examples.
 use libc::STDIN_FILENO;
 use libc::STDOUT_FILENO;
-use places::LENGTH;
-use state::CELLS;
+use limits::STATE_LENGTH;
+use limits::CELLS;
 ghost use mathlib.Core.Path.{_≡_};
 ghost use Prim.Native.Nat.{_+_, _/_, _≤_};
 ghost use lib.ListN.{length, set};
+ghost use Rattle.limits.specs.Limits.{stateLength};
 ghost use Rattle.hex.specs.Lines.{linesOf};
-ghost use Rattle.layout.specs.Layout.{bufferLength};
 ghost use Rattle.machine.specs.Given.{inputsOf};
 ghost use Rattle.bias.specs.Step.{stepped};
 ghost use Rattle.manual.specs.Run.{recordLength, levelsAt, repeated, withByte, recorded, after, ran, spaceOf, behind, example};
@@ -47,7 +47,7 @@ fn examples(text: &[u8]) -> usize
 }
 
 // Runs the image and the steps of a line: digits, a space, digits. Gives the state buffer at the end.
-fn example(line: &[u8]) -> [u8; LENGTH]
+fn example(line: &[u8]) -> [u8; STATE_LENGTH]
     ensures { λ r. ⌜ r ≡ example (now (line .entry)) ⌝ }
 {
     io::write_all(STDOUT_FILENO, b"\n");
@@ -56,7 +56,7 @@ fn example(line: &[u8]) -> [u8; LENGTH]
     let k = space_of(line);
     let n = hex::decode(&line[..k], &mut image);
     let m = hex::decode(behind(line, k), &mut steps);
-    let mut state = [0u8; LENGTH];
+    let mut state = [0u8; STATE_LENGTH];
     run(&image[..n], &steps[..m], &mut state);
     state
 }
@@ -81,7 +81,7 @@ fn behind(line: &[u8], k: usize) -> &[u8]
 
 // Loads an image and carries out the steps, if it is accepted.
 fn run(image: &[u8], steps: &[u8], state: &mut [u8])
-    requires { ⌜ length (now state) ≡ bufferLength ⌝ }
+    requires { ⌜ length (now state) ≡ stateLength ⌝ }
     ensures { λ _. ⌜ now (state .exit) ≡ ran (now (image .entry)) (now (steps .entry)) (now (state .entry)) ⌝ }
 {
     let mut marks = report::marks();
@@ -94,7 +94,7 @@ fn run(image: &[u8], steps: &[u8], state: &mut [u8])
 
 // The records of steps, one after the other.
 fn run_records(image: &[u8], steps: &[u8], state: &mut [u8])
-    requires { ⌜ length (now state) ≡ bufferLength ⌝ }
+    requires { ⌜ length (now state) ≡ stateLength ⌝ }
     ensures { λ _. ⌜ now (state .exit) ≡ after (now (image .entry)) (now (steps .entry)) (length (now (steps .entry)) / recordLength) (now (state .entry)) ⌝ }
 {
     let n = steps.len() / RECORD_LENGTH;
@@ -107,7 +107,7 @@ fn run_records(image: &[u8], steps: &[u8], state: &mut [u8])
 
 // The record at a place: its steps, or the byte that it puts.
 fn run_record(image: &[u8], steps: &[u8], at: usize, state: &mut [u8])
-    requires { ⌜ length (now state) ≡ bufferLength ⌝ }
+    requires { ⌜ length (now state) ≡ stateLength ⌝ }
     requires { ⌜ at + recordLength ≤ length (now steps) ⌝ }
     ensures { λ _. ⌜ now (state .exit) ≡ recorded (now (image .entry)) (now (steps .entry)) at (now (state .entry)) ⌝ }
 {
@@ -129,7 +129,7 @@ fn run_record(image: &[u8], steps: &[u8], at: usize, state: &mut [u8])
 
 // The byte of the record at a place, put into the state buffer; none is put past its end.
 fn put_byte(steps: &[u8], at: usize, state: &mut [u8])
-    requires { ⌜ length (now state) ≡ bufferLength ⌝ }
+    requires { ⌜ length (now state) ≡ stateLength ⌝ }
     requires { ⌜ at + recordLength ≤ length (now steps) ⌝ }
     ensures { λ _. ⌜ now (state .exit) ≡ withByte (now (steps .entry)) at (now (state .entry)) ⌝ }
 {
@@ -171,7 +171,7 @@ fn repeat(
     reached: u8,
     state: &mut [u8],
 )
-    requires { ⌜ length (now state) ≡ bufferLength ⌝ }
+    requires { ⌜ length (now state) ≡ stateLength ⌝ }
     ensures { λ _. ⌜ now (state .exit) ≡ repeated (now (image .entry)) (inputsOf task (now (inputs .entry)) start reached) n (now (state .entry)) ⌝ }
 {
     let mut i = 0;
@@ -183,7 +183,7 @@ fn repeat(
 
 // One step and its line.
 fn step(image: &[u8], task: u32, inputs: &[u8], start: u8, reached: u8, state: &mut [u8])
-    requires { ⌜ length (now state) ≡ bufferLength ⌝ }
+    requires { ⌜ length (now state) ≡ stateLength ⌝ }
     ensures { λ _. ⌜ now (state .exit) ≡ stepped (now (image .entry)) (now (state .entry)) (inputsOf task (now (inputs .entry)) start reached) .buffer ⌝ }
 {
     let a = lend::copy_in(state);

@@ -199,7 +199,7 @@ pub fn unused_zero(layout: u8, block: [u8; 8]) -> bool
     ensures { λ r. ⌜ r ≡ unusedZero layout block ⌝ }
 {
     let mut k = 1 + used_bytes(layout);
-    while k < reader::BLOCK_LENGTH {
+    while k < limits::BLOCK_LENGTH {
         if block[k] != 0 {
             return false;
         }

@@ -4,6 +4,7 @@ use Prim.Native.Nat.{ℕ}
 use mathlib.Core.Bool.{Bool, false, _||_, cond}
 use mathlib.Core.List.{List, [], _∷_}
 use lib.Dec.{eqb, leb}
+use Rattle.limits.specs.Limits.{mostDepth}
 use Rattle.image.specs.declared.Header.{Header}
 use Rattle.operands.specs.declared.Command.{Command}
 use Rattle.flow.specs.Flow.{flowOf, continues}
@@ -13,10 +14,6 @@ use Rattle.flow.specs.declared.Flow.{Flow}
 use Rattle.flow.specs.declared.Flow.the-variants.{Next, Wait, Jump, Branch, Call, Return, Start, Restart, End}
 use Rattle.fault.specs.declared.Fault.{Fault}
 use Rattle.fault.specs.declared.Fault.the-variants.{Fine, Foreign, Forbidden, TooDeep, NoCall, PastEnd}
-
--- the limit on depth (document 01, "depth (0 to 8)"; change request 6, "Make 5 the limit"): the most calls that a task may be inside of
-abbrev pub mostDepth : ℕ
-mostDepth = 5
 
 -- a point of a walk
 abbrev pub point : ℕ → ℕ → ℕ → Point

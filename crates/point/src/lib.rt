@@ -9,9 +9,6 @@ ghost use mathlib.Core.List.{[], _∷_};
 ghost use Rattle.flow.specs.Flow.{continues};
 ghost use Rattle.point.specs.Fault.{tooDeep, noCall, anyPast, flowFault, faultOf};
 
-// The limit on depth: the most calls that a task may be inside of.
-pub const MOST_DEPTH: u8 = 5;
-
 // A point of a walk (document 01: place): a task at a block, inside this many calls.
 pub struct Point {
     pub task: u8,
@@ -56,7 +53,7 @@ fn too_deep(f: Flow, depth: u8) -> bool
     ensures { λ r. ⌜ r ≡ tooDeep f depth ⌝ }
 {
     match f {
-        Flow::Call(_) => depth >= MOST_DEPTH,
+        Flow::Call(_) => depth >= limits::MOST_DEPTH,
         Flow::Next => false,
         Flow::Wait => false,
         Flow::Jump(_) => false,

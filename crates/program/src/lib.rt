@@ -11,16 +11,6 @@ ghost use Rattle.walk.specs.Index.{indexOf};
 ghost use Rattle.walk.specs.Successors.{goes, successors, indices};
 ghost use Rattle.program.specs.Numbers.{numbers};
 
-// The blocks of an image at most, the tasks, and the depths that a task may have: the factors of a point's number.
-pub const BLOCKS: usize = reader::MOST_BLOCKS as usize;
-
-pub const TASKS: usize = flow::TASK_COUNT as usize;
-
-pub const DEPTHS: usize = point::MOST_DEPTH as usize + 1;
-
-// The marks that a search needs, one for each point.
-pub const MARKS_LENGTH: usize = BLOCKS * TASKS * DEPTHS;
-
 // The points that follow a point, by their numbers in the marks: at most two.
 pub enum Following {
     Nothing,
@@ -44,7 +34,7 @@ pub fn follow(header: Header, blocks: &[u8], p: Point) -> Following
 pub fn number(task: u8, block: u32, depth: u32) -> usize
     ensures { λ r. ⌜ r ≡ indexOf (point task block depth) ⌝ }
 {
-    ((block as usize) * TASKS + task as usize) * DEPTHS + depth as usize
+    ((block as usize) * limits::TASKS + task as usize) * limits::DEPTHS + depth as usize
 }
 
 // The points that a flow leads to.

@@ -1,23 +1,22 @@
 // A buffer read as a state, stretch by stretch.
 use drive::Drive;
 use image::Header;
-use places::LENGTH;
+use limits::STATE_LENGTH;
 use state::Axis;
-use state::CELLS;
+use limits::CELLS;
 use state::Notes;
-use state::STACK_LENGTH;
+use limits::STACK_LENGTH;
 use state::State;
 use state::Task;
 use state::Values;
 ghost use mathlib.Core.Path.{_≡_};
 ghost use Prim.Native.Nat.{_+_, _*_, _≤_};
-ghost use Rattle.point.specs.Fault.{mostDepth};
-ghost use Rattle.state.specs.State.{cells};
-ghost use Rattle.layout.specs.Layout.{bufferLength, taskLength};
+ghost use Rattle.limits.specs.Limits.{mostDepth, cells, stateLength};
+ghost use Rattle.layout.specs.Layout.{taskLength};
 ghost use Rattle.layout.specs.Decoded.{variablesIn, levelsIn, headerIn, axisIn, valuesIn, stackIn, taskIn, decoded};
 
 // The state that a buffer holds.
-pub fn decode(b: &[u8; LENGTH]) -> State
+pub fn decode(b: &[u8; STATE_LENGTH]) -> State
     ensures { λ r. ⌜ r ≡ decoded (now (b .entry)) ⌝ }
 {
     let values = values_in(b);
@@ -41,7 +40,7 @@ pub fn decode(b: &[u8; LENGTH]) -> State
     }
 }
 
-fn values_in(b: &[u8; LENGTH]) -> Values
+fn values_in(b: &[u8; STATE_LENGTH]) -> Values
     ensures { λ r. ⌜ r ≡ valuesIn (now (b .entry)) ⌝ }
 {
     let variables = variables_in(b);
@@ -61,7 +60,7 @@ fn values_in(b: &[u8; LENGTH]) -> Values
     }
 }
 
-fn variables_in(b: &[u8; LENGTH]) -> [i32; CELLS]
+fn variables_in(b: &[u8; STATE_LENGTH]) -> [i32; CELLS]
     ensures { λ r. ⌜ r ≡ variablesIn (now (b .entry)) ⌝ }
 {
     let mut r = [0i32; CELLS];
@@ -74,8 +73,8 @@ fn variables_in(b: &[u8; LENGTH]) -> [i32; CELLS]
 }
 
 // Flags, or outputs.
-fn levels_in(b: &[u8; LENGTH], at: usize) -> [u8; CELLS]
-    requires { ⌜ at + cells ≤ bufferLength ⌝ }
+fn levels_in(b: &[u8; STATE_LENGTH], at: usize) -> [u8; CELLS]
+    requires { ⌜ at + cells ≤ stateLength ⌝ }
     ensures { λ r. ⌜ r ≡ levelsIn (now (b .entry)) at ⌝ }
 {
     let mut r = [0u8; CELLS];
@@ -87,7 +86,7 @@ fn levels_in(b: &[u8; LENGTH], at: usize) -> [u8; CELLS]
     r
 }
 
-fn header_in(b: &[u8; LENGTH]) -> Header
+fn header_in(b: &[u8; STATE_LENGTH]) -> Header
     ensures { λ r. ⌜ r ≡ headerIn (now (b .entry)) ⌝ }
 {
     let drive = Drive {
@@ -103,7 +102,7 @@ fn header_in(b: &[u8; LENGTH]) -> Header
     }
 }
 
-fn axis_in(b: &[u8; LENGTH]) -> Axis
+fn axis_in(b: &[u8; STATE_LENGTH]) -> Axis
     ensures { λ r. ⌜ r ≡ axisIn (now (b .entry)) ⌝ }
 {
     Axis {
@@ -115,8 +114,8 @@ fn axis_in(b: &[u8; LENGTH]) -> Axis
 }
 
 // The task whose record stands at a place.
-fn task_in(b: &[u8; LENGTH], at: u16, start: u16) -> Task
-    requires { ⌜ at + taskLength ≤ bufferLength ⌝ }
+fn task_in(b: &[u8; STATE_LENGTH], at: u16, start: u16) -> Task
+    requires { ⌜ at + taskLength ≤ stateLength ⌝ }
     ensures { λ r. ⌜ r ≡ taskIn (now (b .entry)) at start ⌝ }
 {
     let stack = stack_in(b, at + layout::STACK_AT);
@@ -131,8 +130,8 @@ fn task_in(b: &[u8; LENGTH], at: u16, start: u16) -> Task
     }
 }
 
-fn stack_in(b: &[u8; LENGTH], at: u16) -> [u16; STACK_LENGTH]
-    requires { ⌜ at + 2 * mostDepth ≤ bufferLength ⌝ }
+fn stack_in(b: &[u8; STATE_LENGTH], at: u16) -> [u16; STACK_LENGTH]
+    requires { ⌜ at + 2 * mostDepth ≤ stateLength ⌝ }
     ensures { λ r. ⌜ r ≡ stackIn (now (b .entry)) at ⌝ }
 {
     let mut r = [0u16; STACK_LENGTH];

@@ -4,6 +4,7 @@ use mathlib.Core.List.{List, [], _∷_}
 use Prim.Native.Nat.{ℕ, _^_, _<_, _≤_}
 use native.Mathlib.Omega.{arith}
 use lib.ListN.{length, take, length-append}
+use Rattle.limits.specs.Limits.{marksLength}
 use Rattle.text.specs.Text.{digitsOf, decimalOf}
 use Rattle.text.proofs.Read.{few-digits}
 use Rattle.drive.specs.Types as types
@@ -17,7 +18,7 @@ use Rattle.flow.specs.Flow as flow
 use Rattle.flow.specs.Tasks as tasks
 use Rattle.point.specs.Fault as fault
 use Rattle.walk.specs.Program as program
-use Rattle.walk.specs.Index.{marksLength, indexOf, pointAt}
+use Rattle.walk.specs.Index.{indexOf, pointAt}
 use Rattle.walk.specs.Successors as successors
 use Rattle.walk.specs.Graph.{least}
 use Rattle.walk.specs.Verdict as verdict

@@ -1,13 +1,13 @@
 // The line of a verdict (document 01, on the verdict program), and an image judged with marks of its own.
 use image::reader;
 use libc::STDOUT_FILENO;
-use program::MARKS_LENGTH;
+use limits::MARKS_LENGTH;
 use walk::Verdict;
 ghost use mathlib.Core.Path.{_≡_};
 ghost use Prim.Native.Nat.{_≤_};
 ghost use lib.ListN.{length};
+ghost use Rattle.limits.specs.Limits.{marksLength};
 ghost use Rattle.io.specs.Counts.{Counts};
-ghost use Rattle.walk.specs.Index.{marksLength};
 ghost use Rattle.walk.specs.Verdict.{verdictOf};
 ghost use Rattle.text.specs.Put.{Put};
 ghost use Rattle.report.specs.Input.{inputLength, zeros};
@@ -17,7 +17,7 @@ ghost use Rattle.report.specs.Line.{lineOf, lineRoom, Holds};
 // input no other byte counts (proofs/Beginning.antt).
 pub const HEADER_BYTES: usize = reader::ROWS as usize + 2;
 
-pub const INPUT_LENGTH: usize = HEADER_BYTES + reader::BLOCK_LENGTH * program::BLOCKS + 1;
+pub const INPUT_LENGTH: usize = HEADER_BYTES + limits::BLOCK_LENGTH * limits::MOST_BLOCKS as usize + 1;
 
 // Room for an image, each byte 0: all that is needed of an input.
 pub fn input() -> [u8; INPUT_LENGTH]

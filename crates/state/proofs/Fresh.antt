@@ -7,11 +7,10 @@ use lib.ListN.{getD, replicate}
 use lib.IntN.{pos}
 use mir.Syntax.{w32}
 use mir.Val.{SFits}
+use Rattle.limits.specs.Limits.{taskCount, mostDepth, cells}
 use Rattle.image.specs.Good.{Good as GoodHeader}
 use Rattle.image.specs.declared.Header.{Header}
-use Rattle.flow.specs.Flow.{taskCount}
-use Rattle.point.specs.Fault.{mostDepth}
-use Rattle.state.specs.State.{cells, noTask, fresh, freshValues, running, neverStarted}
+use Rattle.state.specs.State.{noTask, fresh, freshValues, running, neverStarted}
 use Rattle.state.specs.Good.{GoodWait, GoodTask, GoodValues, Good}
 
 -- a list that holds one thing throughout holds it everywhere, where that is also what stands past its end

@@ -7,13 +7,11 @@ use lib.ListN.{length, getD}
 use lib.IntN.{pos}
 use mir.Syntax.{w32}
 use mir.Val.{SFits}
+use Rattle.limits.specs.Limits.{bias, taskCount, mostDepth, cells, mostLevel, mostSpeed, mostRamp, longest}
 use Rattle.image.specs.Good.{Good as GoodHeader}
 use Rattle.image.specs.declared.Header.{Header}
-use Rattle.command.specs.Judged.{mostSpeed, mostRamp, mostLevel}
-use Rattle.flow.specs.Flow.{bias, taskCount}
-use Rattle.point.specs.Fault.{mostDepth}
-use Rattle.state.specs.State.{cells, halted, noTask}
-use Rattle.state.specs.Wait.{due, longest}
+use Rattle.state.specs.State.{halted, noTask}
+use Rattle.state.specs.Wait.{due}
 use Rattle.state.specs.declared.Task.{Task}
 use Rattle.state.specs.declared.Axis.{Axis}
 use Rattle.state.specs.declared.Values.{Values}

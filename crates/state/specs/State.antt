@@ -3,18 +3,13 @@ use Prim.Native.Nat.{ℕ}
 use mathlib.Core.List.{List, [], _∷_}
 use lib.ListN.{replicate, getD, set}
 use lib.IntN.{ℤ, pos}
+use Rattle.limits.specs.Limits.{mostDepth, cells}
 use Rattle.image.specs.declared.Header.{Header}
-use Rattle.command.specs.Judged.{flagCount}
-use Rattle.point.specs.Fault.{mostDepth}
 use Rattle.state.specs.declared.Task.{Task}
 use Rattle.state.specs.declared.Axis.{Axis}
 use Rattle.state.specs.declared.Notes.{Notes}
 use Rattle.state.specs.declared.Values.{Values}
 use Rattle.state.specs.declared.State.{State}
-
--- variables, flags, outputs: as many of each
-abbrev pub cells : ℕ
-cells = flagCount
 
 -- statuses of a task
 abbrev pub never : ℕ

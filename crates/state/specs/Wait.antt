@@ -8,10 +8,3 @@ use Rattle.drive.specs.Types.{cycleOf}
 abbrev pub due : ℕ → ℕ → ℕ → Bool
 due model time turns = leb (1000 * time) (turns * cycleOf model)
 
--- the most that an operand of 59 says, in 2 ms, and a variable of 5A, in ms
-abbrev pub mostTime : ℕ
-mostTime = 65535
-
--- the longest wait in ms
-abbrev pub longest : ℕ
-longest = 2 * mostTime

@@ -2,20 +2,14 @@
 // preceding BIAS step, and a record for each task with its own call stack. The buffer that firmware keeps is read and written by the crates above (docs/STATE.md).
 use drive::Drive;
 use image::Header;
+use limits::CELLS;
+use limits::STACK_LENGTH;
+use limits::TASKS;
 ghost use mathlib.Core.Path.{_≡_};
 ghost use Rattle.state.specs.Wait.{due};
 ghost use Rattle.state.specs.State.{neverStarted, running, freshValues, fresh};
 ghost use Rattle.state.specs.State.{withVariable, withFlag, withOutput, withAxis, withMark, withNotes};
 ghost use Rattle.state.specs.State.{withPosition, withSpeed, withAcceleration, withDeceleration};
-
-// Variables, flags and outputs: 256 of each.
-pub const CELLS: usize = 256;
-
-// The most blocks that a call stack (document 01: return path) holds.
-pub const STACK_LENGTH: usize = point::MOST_DEPTH as usize;
-
-// The most that an operand of 59 says, in 2 ms, and a variable of 5A, in ms.
-pub const MOST_TIME: u32 = 65535;
 
 // What a task does: it was never started, it runs, it ended itself by 51, or 19 or 20 halted it.
 pub const NEVER_STARTED: u8 = 0;
@@ -64,7 +58,7 @@ pub struct Values {
 pub struct State {
     pub values: Values,
     pub header: Header,
-    pub tasks: [Task; 3],
+    pub tasks: [Task; TASKS],
 }
 
 impl Task {

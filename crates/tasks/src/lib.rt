@@ -1,12 +1,15 @@
 // The three tasks after a command: each operation on a task's record by value, and what an outcome makes of the tasks.
+use limits::TASKS;
 use machine::Outcome;
 use state::Task;
 ghost use mathlib.Core.Path.{_≡_};
 ghost use Prim.Native.Nat.{_+_, _-_, _<_, _≤_};
 ghost use lib.ListN.{set};
-ghost use Rattle.point.specs.Fault.{mostDepth};
+ghost use Rattle.limits.specs.Limits.{mostBlocks, mostDepth};
 ghost use Rattle.machine.specs.Deep.{Deep};
 ghost use Rattle.machine.specs.Engine.{goTo, stayWith, callTo, returnFrom, startAnew, restarted, stopped, tasksAfter};
+
+const TASK_COUNT: u8 = limits::TASK_COUNT as u8;
 
 // To a block, with no wait.
 fn go_to(b: u16, mut k: Task) -> Task
@@ -31,7 +34,7 @@ fn stay_with(time: u32, turns: u32, mut k: Task) -> Task
 
 // A call: the block behind it goes on the call stack.
 fn call_to(a: u16, mut k: Task) -> Task
-    requires { ⌜ k .block < 65535 ⌝ }
+    requires { ⌜ k .block < mostBlocks ⌝ }
     requires { ⌜ k .depth < mostDepth ⌝ }
     ensures { λ r. ⌜ r ≡ callTo a k ⌝ }
 {
@@ -68,7 +71,7 @@ fn start_anew(first: u16, u: u8, a: u16) -> Task
     ensures { λ r. ⌜ r ≡ startAnew first u a ⌝ }
 {
     let mut k = Task::running(a);
-    if u == flow::BIAS {
+    if u == limits::BIAS {
         k.start = first;
     }
     k
@@ -92,18 +95,18 @@ fn stopped(status: u8, mut k: Task) -> Task
 }
 
 // A task's record put in its place.
-fn put(mut tasks: [Task; 3], t: u8, k: Task) -> [Task; 3]
+fn put(mut tasks: [Task; TASKS], t: u8, k: Task) -> [Task; TASKS]
     ensures { λ r. ⌜ r ≡ set tasks t k ⌝ }
 {
-    if t < 3 {
+    if t < TASK_COUNT {
         tasks[t as usize] = k;
     }
     tasks
 }
 
 // The tasks after the outcome of a command that task t executed at k; `first` is the program start.
-pub fn after(first: u16, t: u8, k: Task, outcome: Outcome, tasks: [Task; 3]) -> [Task; 3]
-    requires { ⌜ k .block < 65535 ⌝ }
+pub fn after(first: u16, t: u8, k: Task, outcome: Outcome, tasks: [Task; TASKS]) -> [Task; TASKS]
+    requires { ⌜ k .block < mostBlocks ⌝ }
     requires { ⌜ Deep (k .depth) outcome ⌝ }
     ensures { λ r. ⌜ r ≡ tasksAfter first t k outcome tasks ⌝ }
 {

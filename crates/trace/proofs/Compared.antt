@@ -7,9 +7,8 @@ use mathlib.Core.List.{List}
 use lib.ListN.{getD}
 use lib.Dec.{eqb, leb}
 use borrow.Author.Tests.{eq-eqb, eqb-true, leb-true}
+use Rattle.limits.specs.Limits.{bias, plc, mathematics, cells}
 use Rattle.number.proofs.Choice.{by, both}
-use Rattle.flow.specs.Flow.{bias, plc, mathematics}
-use Rattle.state.specs.State.{cells}
 use Rattle.layout.specs.Layout.{variablesAt, flagsAt, outputsAt, headerAt, axisAt, startsAt, tasksAt, taskLength, taskPlace, unusedAt}
 use Rattle.trace.specs.Changes.{same, sameCells, sameAxis, sameStarts, unchanged}
 

@@ -4,9 +4,8 @@ use mathlib.Core.Bool.{Bool, true, _&&_, cond}
 use mathlib.Core.List.{List}
 use lib.Dec.{eqb}
 use lib.ListN.{getD}
-use Rattle.flow.specs.Flow.{bias, plc, mathematics}
+use Rattle.limits.specs.Limits.{bias, plc, mathematics, cells}
 use Rattle.places.specs.Places.{numberAt}
-use Rattle.state.specs.State.{cells}
 use Rattle.layout.specs.Layout.{variablesAt, flagsAt, outputsAt, axisAt, startsAt, taskLength, taskPlace}
 
 -- the n bytes from a place on are the same

@@ -4,24 +4,23 @@ use border::BiasAnswer;
 use border::BiasVerdict;
 use image::reader;
 use libc::STDOUT_FILENO;
-use places::LENGTH;
-use state::CELLS;
+use limits::STATE_LENGTH;
+use limits::TASK_COUNT;
+use limits::CELLS;
 ghost use mathlib.Core.Path.{_≡_};
 ghost use mathlib.Core.Bool.{_&&_};
 ghost use Prim.Native.Nat.{_+_, _*_, _<_, _≤_};
 ghost use lib.Dec.{eqb, ltb};
 ghost use lib.ListN.{length, getD};
+ghost use Rattle.limits.specs.Limits.{taskCount, cells, stateLength};
 ghost use Rattle.image.specs.Scan.{blocksOf};
-ghost use Rattle.flow.specs.Flow.{taskCount};
 ghost use Rattle.walk.specs.Program.{blockAt};
-ghost use Rattle.state.specs.State.{cells, runs};
-ghost use Rattle.layout.specs.Layout.{bufferLength, taskLength, taskPlace};
+ghost use Rattle.state.specs.State.{runs};
+ghost use Rattle.layout.specs.Layout.{taskLength, taskPlace};
 ghost use Rattle.trace.specs.Changes.{same, sameCells, sameAxis, sameStarts, unchanged, valueAt};
 
-const TASK_COUNT: u32 = flow::TASK_COUNT as u32;
-
 // The line of a step; a is the state buffer before it, b the one behind it. Gives whether nothing changed.
-pub fn show_step(image: &[u8], a: &[u8; LENGTH], b: &[u8; LENGTH], task: u32, r: BiasAnswer) -> bool
+pub fn show_step(image: &[u8], a: &[u8; STATE_LENGTH], b: &[u8; STATE_LENGTH], task: u32, r: BiasAnswer) -> bool
     ensures { λ s. ⌜ s ≡ unchanged (now (a .entry)) (now (b .entry)) ⌝ }
 {
     print::show(b"task ", task as u64);
@@ -52,7 +51,7 @@ pub fn show_load(v: BiasVerdict) -> u32
 }
 
 // The block and the command that a running task is at; gives whether it runs.
-fn show_place(image: &[u8], a: &[u8; LENGTH], task: u32) -> bool
+fn show_place(image: &[u8], a: &[u8; STATE_LENGTH], task: u32) -> bool
     ensures { λ s. ⌜ s ≡ ltb task taskCount && eqb (getD (now (a .entry)) (taskPlace task) 0) runs ⌝ }
 {
     if task >= TASK_COUNT {
@@ -96,7 +95,7 @@ fn show_bytes(bytes: &[u8]) -> usize
 }
 
 // What changed from a to b; gives whether nothing did.
-fn show_changes(a: &[u8; LENGTH], b: &[u8; LENGTH]) -> bool
+fn show_changes(a: &[u8; STATE_LENGTH], b: &[u8; STATE_LENGTH]) -> bool
     ensures { λ s. ⌜ s ≡ unchanged (now (a .entry)) (now (b .entry)) ⌝ }
 {
     let variables = show_cells(a, b, layout::VARIABLES_AT, 4, b"variable ", true);
@@ -104,9 +103,9 @@ fn show_changes(a: &[u8; LENGTH], b: &[u8; LENGTH]) -> bool
     let outputs = show_cells(a, b, layout::OUTPUTS_AT, 1, b"output ", flags);
     let axis = show_axis(a, b, outputs);
     let starts = show_starts(a, b, axis);
-    let bias = show_task(a, b, flow::BIAS, starts);
-    let plc = show_task(a, b, flow::PLC, bias);
-    let nothing = show_task(a, b, flow::MATHEMATICS, plc);
+    let bias = show_task(a, b, limits::BIAS, starts);
+    let plc = show_task(a, b, limits::PLC, bias);
+    let nothing = show_task(a, b, limits::MATHEMATICS, plc);
     show_nothing(nothing)
 }
 
@@ -121,14 +120,14 @@ fn show_nothing(nothing: bool) -> bool
 
 // The cells from a place on that changed, each of so many bytes; `nothing` says whether nothing was shown before. Gives whether nothing is shown yet.
 fn show_cells(
-    a: &[u8; LENGTH],
-    b: &[u8; LENGTH],
+    a: &[u8; STATE_LENGTH],
+    b: &[u8; STATE_LENGTH],
     at: u16,
     width: u16,
     text: &[u8],
     nothing: bool,
 ) -> bool
-    requires { ⌜ at + width * cells ≤ bufferLength ⌝ }
+    requires { ⌜ at + width * cells ≤ stateLength ⌝ }
     ensures { λ s. ⌜ s ≡ nothing && sameCells (now (a .entry)) (now (b .entry)) at width cells ⌝ }
 {
     let mut left = nothing;
@@ -142,15 +141,15 @@ fn show_cells(
 
 // A cell, if it changed.
 fn show_cell(
-    a: &[u8; LENGTH],
-    b: &[u8; LENGTH],
+    a: &[u8; STATE_LENGTH],
+    b: &[u8; STATE_LENGTH],
     at: u16,
     width: u16,
     text: &[u8],
     index: u16,
     nothing: bool,
 ) -> bool
-    requires { ⌜ at + width ≤ bufferLength ⌝ }
+    requires { ⌜ at + width ≤ stateLength ⌝ }
     ensures { λ s. ⌜ s ≡ nothing && same (now (a .entry)) (now (b .entry)) at width ⌝ }
 {
     if same(a, b, at, width) {
@@ -163,7 +162,7 @@ fn show_cell(
 }
 
 // The parameters of the axis, the start mark and the noted level, as far as they changed.
-fn show_axis(a: &[u8; LENGTH], b: &[u8; LENGTH], nothing: bool) -> bool
+fn show_axis(a: &[u8; STATE_LENGTH], b: &[u8; STATE_LENGTH], nothing: bool) -> bool
     ensures { λ s. ⌜ s ≡ nothing && sameAxis (now (a .entry)) (now (b .entry)) ⌝ }
 {
     let position = show_part(a, b, layout::AXIS_AT, 4, b"position", nothing);
@@ -175,7 +174,7 @@ fn show_axis(a: &[u8; LENGTH], b: &[u8; LENGTH], nothing: bool) -> bool
 }
 
 // The start blocks of the PLC and of mathematics, as far as they changed.
-fn show_starts(a: &[u8; LENGTH], b: &[u8; LENGTH], nothing: bool) -> bool
+fn show_starts(a: &[u8; STATE_LENGTH], b: &[u8; STATE_LENGTH], nothing: bool) -> bool
     ensures { λ s. ⌜ s ≡ nothing && sameStarts (now (a .entry)) (now (b .entry)) ⌝ }
 {
     let plc = show_cell(
@@ -184,7 +183,7 @@ fn show_starts(a: &[u8; LENGTH], b: &[u8; LENGTH], nothing: bool) -> bool
         layout::STARTS_AT,
         2,
         b"start of task ",
-        flow::PLC as u16,
+        limits::PLC as u16,
         nothing,
     );
     show_cell(
@@ -193,21 +192,21 @@ fn show_starts(a: &[u8; LENGTH], b: &[u8; LENGTH], nothing: bool) -> bool
         layout::STARTS_AT + 2,
         2,
         b"start of task ",
-        flow::MATHEMATICS as u16,
+        limits::MATHEMATICS as u16,
         plc,
     )
 }
 
 // A number with a name of its own, if it changed.
 fn show_part(
-    a: &[u8; LENGTH],
-    b: &[u8; LENGTH],
+    a: &[u8; STATE_LENGTH],
+    b: &[u8; STATE_LENGTH],
     at: u16,
     width: u16,
     text: &[u8],
     nothing: bool,
 ) -> bool
-    requires { ⌜ at + width ≤ bufferLength ⌝ }
+    requires { ⌜ at + width ≤ stateLength ⌝ }
     ensures { λ s. ⌜ s ≡ nothing && same (now (a .entry)) (now (b .entry)) at width ⌝ }
 {
     if same(a, b, at, width) {
@@ -220,7 +219,7 @@ fn show_part(
 }
 
 // A task's record, if it changed.
-fn show_task(a: &[u8; LENGTH], b: &[u8; LENGTH], t: u8, nothing: bool) -> bool
+fn show_task(a: &[u8; STATE_LENGTH], b: &[u8; STATE_LENGTH], t: u8, nothing: bool) -> bool
     requires { ⌜ t < taskCount ⌝ }
     ensures { λ s. ⌜ s ≡ nothing && same (now (a .entry)) (now (b .entry)) (taskPlace t) taskLength ⌝ }
 {
@@ -249,7 +248,7 @@ fn show_comma(nothing: bool) -> bool
 }
 
 // A number of so many bytes: of four bytes a signed one. Gives the bytes as a number.
-fn show_value(b: &[u8; LENGTH], at: u16, width: u16) -> u32
+fn show_value(b: &[u8; STATE_LENGTH], at: u16, width: u16) -> u32
     ensures { λ s. ⌜ s ≡ valueAt (now (b .entry)) at width ⌝ }
 {
     if width == 4 {
@@ -267,8 +266,8 @@ fn show_value(b: &[u8; LENGTH], at: u16, width: u16) -> u32
 }
 
 // Whether the bytes from a place on are the same in both buffers.
-fn same(a: &[u8; LENGTH], b: &[u8; LENGTH], at: u16, width: u16) -> bool
-    requires { ⌜ at + width ≤ bufferLength ⌝ }
+fn same(a: &[u8; STATE_LENGTH], b: &[u8; STATE_LENGTH], at: u16, width: u16) -> bool
+    requires { ⌜ at + width ≤ stateLength ⌝ }
     ensures { λ s. ⌜ s ≡ same (now (a .entry)) (now (b .entry)) at width ⌝ }
 {
     let mut pass = true;

@@ -5,6 +5,7 @@ use mathlib.Core.Bool.{cond}
 use mathlib.Core.List.{List, [], _∷_, map}
 use Prim.Native.Nat.{ℕ}
 use lib.ListN.{length}
+use Rattle.limits.specs.Limits.{marksLength}
 use Rattle.drive.specs.Types as types
 use Rattle.pins.specs.Homes as homes
 use Rattle.drive.specs.Pins as pins
@@ -18,7 +19,7 @@ use Rattle.flow.specs.Flow as flow
 use Rattle.flow.specs.Tasks as tasks
 use Rattle.point.specs.Fault as fault
 use Rattle.walk.specs.Program as program
-use Rattle.walk.specs.Index.{marksLength, indexOf, pointAt}
+use Rattle.walk.specs.Index.{indexOf, pointAt}
 use Rattle.walk.specs.Successors as successors
 use Rattle.walk.specs.Graph.{least}
 use Rattle.walk.specs.Verdict as verdict

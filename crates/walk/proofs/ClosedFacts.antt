@@ -3,10 +3,10 @@
 use mathlib.Core.Path.{_≡_, refl}
 use mathlib.Core.List.{List, [], _∷_}
 use Prim.Native.Nat.{ℕ}
+use Rattle.limits.specs.Limits.{bias, plc, mathematics}
 use Rattle.image.specs.declared.Header.{Header}
 use Rattle.rows.specs.Rows.{hex, rowOf, rowIn, rows}
 use Rattle.operands.specs.Operands.{operands, laidOut}
-use Rattle.flow.specs.Flow.{bias, plc, mathematics}
 use Rattle.point.specs.Fault.{point}
 use Rattle.point.specs.declared.Point.{Point}
 use Rattle.walk.specs.Program.{commandAt}

@@ -8,12 +8,12 @@ use mathlib.Core.List.{List}
 use native.Mathlib.Omega.{arith}
 use lib.Dec.{ltb}
 use borrow.Author.Tests.{ltb-true, ltb-false, le-ltb}
-use Rattle.image.specs.Rows.{mostBlocks}
+use Rattle.limits.specs.Limits.{mostBlocks, marksLength}
 use Rattle.image.specs.declared.Header.{Header}
 use Rattle.point.specs.declared.Point.{Point}
 use Rattle.walk.specs.Program.{faultAt}
 use Rattle.walk.specs.Walk.{Reaches}
-use Rattle.walk.specs.Index.{marksLength, indexOf, pointAt, before}
+use Rattle.walk.specs.Index.{indexOf, pointAt, before}
 use Rattle.walk.specs.Successors.{nextOf}
 use Rattle.walk.specs.Graph.{In, Reach}
 use Rattle.fault.specs.Fault.{isForeign, isBad}

@@ -10,13 +10,13 @@ use native.Mathlib.Decide.{ℕ-discrete}
 use native.Mathlib.Omega.{arith}
 use lib.Dec.{eqb, ltb}
 use borrow.Author.Tests.{eqb-false, eq-eqb, ne-eqb}
+use Rattle.limits.specs.Limits.{marksLength}
 use Rattle.outcome.specs.Outcome.{done}
 use Rattle.image.specs.Scan.{headerOf, blocksOf}
 use Rattle.image.specs.declared.Header.{Header}
 use Rattle.image.specs.declared.reader.HeaderRead.{HeaderRead}
 use Rattle.number.proofs.Choice.{clash}
 use Rattle.walk.specs.Graph.{has, closure}
-use Rattle.walk.specs.Index.{marksLength}
 use Rattle.walk.specs.Successors.{nextOf}
 use Rattle.walk.specs.Program.{blockFaultAt, blockNumber}
 use Rattle.walk.specs.Verdict.{rootOf, fuel, reached, leastForeign, leastBad, verdictBy, walksVerdict, blocksVerdict, readVerdict, verdictOf}

@@ -9,17 +9,17 @@ use native.Mathlib.Omega.{arith}
 use lib.Dec.{eqb}
 use lib.ListN.{length}
 use borrow.Author.Tests.{eqb-true}
-use Rattle.image.specs.Rows.{mostBlocks}
+use Rattle.limits.specs.Limits.{bias, plc, mathematics, mostBlocks, marksLength}
 use Rattle.image.specs.declared.Header.{Header}
 use Rattle.rows.specs.Rows.{hex}
 use Rattle.operands.specs.declared.Command.{Command}
-use Rattle.flow.specs.Flow.{bias, plc, mathematics, flowOf}
+use Rattle.flow.specs.Flow.{flowOf}
 use Rattle.point.specs.Fault.{point}
 use Rattle.point.specs.declared.Point.{Point}
 use Rattle.fault.specs.declared.Fault.the-variants.{Fine}
 use Rattle.walk.specs.Program.{commandAt, faultAt}
 use Rattle.walk.specs.Walk.{Named, starts, latest, startOf, Walk, Reaches}
-use Rattle.walk.specs.Index.{marksLength, Inside, indexOf, pointAt}
+use Rattle.walk.specs.Index.{Inside, indexOf, pointAt}
 use Rattle.walk.specs.Successors.{goes, successors, indices, nextOf}
 use Rattle.walk.specs.Graph.{In, Reach}
 use Rattle.walk.specs.Verdict.{rootOf}

@@ -6,11 +6,11 @@ use mathlib.Core.Bool.{true, false}
 use native.Mathlib.Omega.{arith}
 use lib.Dec.{ltb}
 use borrow.Author.Tests.{lt-ltb, le-ltb, ltb-true, ltb-false}
-use Rattle.flow.specs.Flow.{taskCount}
+use Rattle.limits.specs.Limits.{taskCount, depths, marksLength}
 use Rattle.point.specs.declared.Point.{Point}
 use Rattle.walk.proofs.Choice.{test}
 use Rattle.walk.proofs.Order.{by-true, by-false}
-use Rattle.walk.specs.Index.{depths, marksLength, Inside, indexOf, pointAt, before}
+use Rattle.walk.specs.Index.{Inside, indexOf, pointAt, before}
 
 -- the point gives the number back, and the number the point
 pub index-back : (i : ℕ) → indexOf (pointAt i) ≡ i

@@ -9,12 +9,13 @@ use native.Mathlib.Omega.{arith}
 use lib.ListN.{getD}
 use lib.Dec.{T, eqb, ltb}
 use borrow.Author.Tests.{eqb-true, eqb-false, eq-eqb, ne-eqb, ltb-true, not-true}
+use Rattle.limits.specs.Limits.{bias, plc, mathematics}
 use Rattle.number.proofs.Choice.{clash, both}
 use Rattle.rows.specs.Rows.{hex, noRow, rows, rowIn, rowOf, wait, branch, return, startBias, startPlc, startMathematics, ending}
 use Rattle.rows.specs.Rows.{jump as jumped, call as called}
 use Rattle.rows.specs.declared.Row.{Row}
 use Rattle.rows.proofs.Laws.{every, every-row, same, same-is}
-use Rattle.flow.specs.Flow.{bias, plc, mathematics, flowBy}
+use Rattle.flow.specs.Flow.{flowBy}
 use Rattle.flow.specs.Tasks.{boxes, permitted}
 use Rattle.point.specs.Fault.{point}
 use Rattle.point.specs.declared.Point.{Point}

@@ -9,13 +9,14 @@ use native.Mathlib.Omega.{arith}
 use lib.ListN.{length}
 use lib.Dec.{eqb, leb}
 use borrow.Author.Tests.{leb-false}
+use Rattle.limits.specs.Limits.{taskCount, mostDepth}
 use Rattle.image.specs.declared.Header.{Header}
 use Rattle.number.proofs.Choice.{clash}
 use Rattle.rows.specs.Rows.{rowOf}
 use Rattle.operands.specs.declared.Command.{Command}
-use Rattle.flow.specs.Flow.{taskCount, flowBy, flowOf, continues}
+use Rattle.flow.specs.Flow.{flowBy, flowOf, continues}
 use Rattle.flow.specs.Tasks.{foreign, permitted}
-use Rattle.point.specs.Fault.{mostDepth, point, tooDeep, noCall, anyPast, flowFault, faultOf}
+use Rattle.point.specs.Fault.{point, tooDeep, noCall, anyPast, flowFault, faultOf}
 use Rattle.point.specs.declared.Point.{Point}
 use Rattle.flow.specs.declared.Flow.{Flow}
 use Rattle.flow.specs.declared.Flow.the-variants.{Next, Wait, Jump, Branch, Call, Return, Start, Restart, End}

@@ -3,18 +3,9 @@
 use Prim.Native.Nat.{ℕ, _+_, _*_, _/_, _%_, _<_, _≤_}
 use mathlib.Core.Bool.{Bool, _&&_, _||_}
 use lib.Dec.{eqb, ltb}
-use Rattle.image.specs.Rows.{mostBlocks}
-use Rattle.flow.specs.Flow.{taskCount}
-use Rattle.point.specs.Fault.{mostDepth, point}
+use Rattle.limits.specs.Limits.{taskCount, mostBlocks, mostDepth, depths}
+use Rattle.point.specs.Fault.{point}
 use Rattle.point.specs.declared.Point.{Point}
-
--- depths 0 to the limit
-abbrev pub depths : ℕ
-depths = mostDepth + 1
-
--- the marks' length: 13 asks for it
-abbrev pub marksLength : ℕ
-marksLength = mostBlocks * taskCount * depths
 
 -- the points that have a mark
 pub record Inside (p : Point) : Type 0 where

@@ -2,7 +2,7 @@
 use Prim.Native.Nat.{ℕ, _+_, _*_}
 use mathlib.Core.List.{List, [], _∷_}
 use lib.ListN.{getD}
-use Rattle.image.specs.Scan.{blockLength}
+use Rattle.limits.specs.Limits.{blockLength}
 use Rattle.image.specs.declared.Header.{Header}
 use Rattle.operands.specs.Operands.{operands}
 use Rattle.command.specs.Judged.{blockFault, blockFaultNumber}

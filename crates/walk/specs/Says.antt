@@ -4,6 +4,7 @@ use Prim.Native.Nat.{ℕ, _<_, _≤_}
 use mathlib.Core.Path.{_≡_}
 use mathlib.Core.Bool.{true, false}
 use mathlib.Core.List.{List}
+use Rattle.limits.specs.Limits.{marksLength}
 use Rattle.outcome.specs.Outcome.{done}
 use Rattle.image.specs.Scan.{headerOf, blocksOf}
 use Rattle.image.specs.declared.Header.{Header}
@@ -11,7 +12,7 @@ use Rattle.point.specs.declared.Point.{Point}
 use Rattle.fault.specs.Fault.{isForeign, isBad}
 use Rattle.walk.specs.Program.{blockFaultAt, blockNumber, faultAt}
 use Rattle.walk.specs.Walk.{Reaches}
-use Rattle.walk.specs.Index.{marksLength, before}
+use Rattle.walk.specs.Index.{before}
 use Rattle.walk.specs.declared.Verdict.{Verdict}
 use Rattle.walk.specs.declared.Verdict.the-variants as verdict
 

@@ -4,18 +4,17 @@ use Prim.Native.Nat.{ℕ, zero, suc, _+_, _*_}
 use mathlib.Core.Bool.{Bool, true, false, cond}
 use mathlib.Core.List.{List, [], _∷_}
 use lib.Dec.{eqb, ltb}
+use Rattle.limits.specs.Limits.{bias, mostBlocks, marksLength}
 use Rattle.outcome.specs.Outcome.{numberOf, placeOf, done}
-use Rattle.image.specs.Rows.{mostBlocks}
 use Rattle.image.specs.Scan.{headerOf, blocksOf}
 use Rattle.image.specs.declared.Header.{Header}
 use Rattle.image.specs.declared.reader.HeaderRead.{HeaderRead}
 use Rattle.command.specs.Judged.{blockFaultNumber}
-use Rattle.flow.specs.Flow.{bias}
 use Rattle.fault.specs.Fault.{isForeign, isBad, faultNumber}
 use Rattle.point.specs.Fault.{point}
 use Rattle.fault.specs.declared.Fault.the-variants.{Foreign}
 use Rattle.walk.specs.Program.{blockFaultAt, blockNumber, faultAt}
-use Rattle.walk.specs.Index.{indexOf, pointAt, marksLength}
+use Rattle.walk.specs.Index.{indexOf, pointAt}
 use Rattle.walk.specs.Successors.{nextOf}
 use Rattle.walk.specs.Graph.{closure, least}
 use Rattle.walk.specs.declared.Verdict.{Verdict}

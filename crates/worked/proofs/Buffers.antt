@@ -8,11 +8,10 @@ use mathlib.Core.List.{List, [], _∷_}
 use lib.Dec.{ltb}
 use lib.ListN.{length}
 use borrow.Author.Tests.{ltb-true}
+use Rattle.limits.specs.Limits.{marksLength, stateLength}
 use Rattle.le.specs.LittleEndian.{Bytes}
 use Rattle.number.proofs.Choice.{both}
-use Rattle.walk.specs.Index.{marksLength}
 use Rattle.walk.specs.Verdict.{verdictOf, verdictNumber}
-use Rattle.layout.specs.Layout.{bufferLength}
 use Rattle.border.specs.Border.{numbered}
 use Rattle.bias.specs.Load.{Load, load}
 use Rattle.demand.specs.Theorem.{Run}
@@ -35,7 +34,7 @@ bytes : Bytes program
 bytes = below-bytes program refl
 
 module _ (b : List ℕ) where
-  module _ (e : length b ≡ bufferLength) where
+  module _ (e : length b ≡ stateLength) where
     -- the program is loaded
     pub loads : load program marksLength b .verdict .number ≡ 0
     loads =
@@ -52,5 +51,5 @@ module _ (b : List ℕ) where
   marks-missing = ap (λ (l : Load). l .verdict) (marks-short program (marksLength - 1) b (omega arith))
 
   -- 16: the buffer has another length
-  pub buffer-wrong : (length b ≡ bufferLength → ⊥) → load program marksLength b .verdict ≡ numbered 16 0
+  pub buffer-wrong : (length b ≡ stateLength → ⊥) → load program marksLength b .verdict ≡ numbered 16 0
   buffer-wrong d = ap (λ (l : Load). l .verdict) (no-buffer program marksLength b (omega arith) d)

@@ -6,12 +6,11 @@ use mathlib.Core.Path.{_≡_, refl, _∙_}
 use mathlib.Core.Bool.{Bool, true, false}
 use mathlib.Core.List.{List, [], _∷_}
 use lib.ListN.{length}
+use Rattle.limits.specs.Limits.{bias, taskCount, mostDepth, cells}
 use Rattle.image.specs.Good.{Good as GoodHeader}
 use Rattle.image.specs.declared.Header.{Header}
 use Rattle.le.specs.LittleEndian.{Bytes}
-use Rattle.flow.specs.Flow.{bias, taskCount}
-use Rattle.point.specs.Fault.{mostDepth}
-use Rattle.state.specs.State.{cells, runs, task, emptyStack, neverStarted, freshValues, fresh, taskAt}
+use Rattle.state.specs.State.{runs, task, emptyStack, neverStarted, freshValues, fresh, taskAt}
 use Rattle.state.specs.Good.{GoodTask, GoodWait, Good}
 use Rattle.state.specs.declared.State.{State}
 use Rattle.state.proofs.Fresh.{getD-replicate, values-good, fresh-good}

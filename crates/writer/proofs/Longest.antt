@@ -7,12 +7,13 @@ use native.Mathlib.Omega.{arith}
 use lib.Dec.{ltb}
 use lib.ListN.{length, getD}
 use borrow.Author.Tests.{ltb-false}
+use Rattle.limits.specs.Limits.{mostBlocks, blockLength}
 use Rattle.drive.specs.Types as types
 use Rattle.outcome.specs.Outcome.{done}
 use Rattle.outcome.specs.declared.Outcome.the-variants.{Done}
 use Rattle.number.specs.Number.{numberBytes}
 use Rattle.image.specs.Rows as rows
-use Rattle.image.specs.Scan.{taken, more, scan, firstRefusal, rowCount, blockLength}
+use Rattle.image.specs.Scan.{taken, more, scan, firstRefusal, rowCount}
 use Rattle.image.specs.Longest.{greatest, sizeUpTo, longestImage}
 use Rattle.image.proofs.Longest.{Sized, one-byte, two-bytes, image-end}
 use Rattle.writer.specs.Writer.{given, roomOutcome, writtenWith, fitted, written}
@@ -51,7 +52,7 @@ room-enough numbers b room r ok e =
     ap (λ (w : Written). done (w .outcome)) (fitted-is (scan 0 (given numbers) rowCount) b room ok e (omega arith))
 
 -- header numbers at their greatest and the most blocks are written in just that room
-pub longest-written : written greatest (blockLength * rows.mostBlocks) longestImage ≡ record { outcome = Done; length = longestImage }
+pub longest-written : written greatest (blockLength * mostBlocks) longestImage ≡ record { outcome = Done; length = longestImage }
 unfolding
     types.takes rows.formatRow rows.typeRow rows.slotBRow rows.slotCRow rows.countInRange rows.countRow rows.judged
     numberBytes taken more scan firstRefusal roomOutcome writtenWith fitted written

@@ -9,9 +9,10 @@ use mathlib.Core.List.{List, [], _∷_, _++_}
 use lib.ListN.{length, getD, take, drop, take-append-drop, length-drop}
 use lib.Seq.{take-append-seam, drop-append-seam}
 use borrow.Author.Count.{below-more}
+use Rattle.limits.specs.Limits.{blockLength}
 use Rattle.outcome.specs.Outcome.{done}
 use Rattle.number.specs.Number.{numberBytes, numberAt}
-use Rattle.image.specs.Scan.{Source, fromImage, taken, more, scan, closed, headerOf, blocksOf, blockLength}
+use Rattle.image.specs.Scan.{Source, fromImage, taken, more, scan, closed, headerOf, blocksOf}
 use Rattle.writer.specs.Writer.{given, numbersOf, firstNumbers, imageOf, fitted, written, overlaid, outAfter}
 use Rattle.outcome.specs.declared.Outcome.the-variants.{Done}
 use Rattle.number.specs.declared.Number.{Number}

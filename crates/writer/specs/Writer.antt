@@ -5,9 +5,10 @@ use mathlib.Core.Bool.{cond}
 use mathlib.Core.List.{List, [], _∷_, _++_}
 use lib.ListN.{length, getD, drop}
 use lib.Dec.{ltb}
+use Rattle.limits.specs.Limits.{blockLength}
 use Rattle.outcome.specs.Outcome.{done}
 use Rattle.number.specs.Number.{numberLimit, numberBytes}
-use Rattle.image.specs.Scan.{Source, scan, firstRefusal, rowCount, blockLength}
+use Rattle.image.specs.Scan.{Source, scan, firstRefusal, rowCount}
 use Rattle.number.specs.declared.Number.{Number}
 use Rattle.number.specs.declared.Number.the-variants.{Value}
 use Rattle.outcome.specs.declared.Outcome.{Outcome}

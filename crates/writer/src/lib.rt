@@ -82,7 +82,7 @@ fn judge_room(at: usize, count: u16, blocks: usize, room: usize) -> Outcome
     requires { ⌜ at ≤ mostHeaderBytes ⌝ }
     ensures { λ r. ⌜ r ≡ roomOutcome at count blocks room ⌝ }
 {
-    let whole = reader::BLOCK_LENGTH * (count as usize);
+    let whole = limits::BLOCK_LENGTH * (count as usize);
     if blocks < whole {
         return Outcome::EndsEarly(blocks);
     }

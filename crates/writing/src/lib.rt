@@ -1,24 +1,24 @@
 // A state written as a buffer, stretch by stretch.
 use image::Header;
-use places::LENGTH;
-use state::CELLS;
-use state::STACK_LENGTH;
+use limits::STATE_LENGTH;
+use limits::CELLS;
+use limits::STACK_LENGTH;
 use state::State;
 use state::Task;
 use state::Values;
 ghost use mathlib.Core.Path.{_≡_};
 ghost use Prim.Native.Nat.{_+_, _*_, _≤_};
 ghost use lib.ListN.{length};
-ghost use Rattle.point.specs.Fault.{mostDepth};
+ghost use Rattle.limits.specs.Limits.{mostDepth, stateLength};
 ghost use Rattle.places.specs.Places.{puts};
-ghost use Rattle.layout.specs.Layout.{bufferLength, variablesAt, headerAt, axisAt, taskLength};
+ghost use Rattle.layout.specs.Layout.{variablesAt, headerAt, axisAt, taskLength};
 ghost use Rattle.layout.specs.Encoded.{variableBytes, headerBytes, axisBytes, stackBytes, taskBytes, encoded};
 
 // The bytes of a state.
-pub fn encode(s: State) -> [u8; LENGTH]
+pub fn encode(s: State) -> [u8; STATE_LENGTH]
     ensures { λ r. ⌜ r ≡ encoded s ⌝ }
 {
-    let mut b = [0u8; LENGTH];
+    let mut b = [0u8; STATE_LENGTH];
     let values = s.values;
     put_variables(&mut b, &values.variables);
     put_levels(&mut b, layout::FLAGS_AT as usize, &values.flags);
@@ -41,7 +41,7 @@ pub fn encode(s: State) -> [u8; LENGTH]
     b
 }
 
-fn put_variables(b: &mut [u8; LENGTH], variables: &[i32; CELLS])
+fn put_variables(b: &mut [u8; STATE_LENGTH], variables: &[i32; CELLS])
     ensures { λ _. ⌜ now (b .exit) ≡ puts (now (b .entry)) variablesAt (variableBytes (now (variables .entry))) ⌝ }
 {
     let mut k: usize = 0;
@@ -52,8 +52,8 @@ fn put_variables(b: &mut [u8; LENGTH], variables: &[i32; CELLS])
 }
 
 // Flags, or outputs.
-fn put_levels(b: &mut [u8; LENGTH], at: usize, levels: &[u8])
-    requires { ⌜ at + length (now levels) ≤ bufferLength ⌝ }
+fn put_levels(b: &mut [u8; STATE_LENGTH], at: usize, levels: &[u8])
+    requires { ⌜ at + length (now levels) ≤ stateLength ⌝ }
     ensures { λ _. ⌜ now (b .exit) ≡ puts (now (b .entry)) at (now (levels .entry)) ⌝ }
 {
     let mut k: usize = 0;
@@ -63,7 +63,7 @@ fn put_levels(b: &mut [u8; LENGTH], at: usize, levels: &[u8])
     }
 }
 
-fn put_header(b: &mut [u8; LENGTH], h: Header)
+fn put_header(b: &mut [u8; STATE_LENGTH], h: Header)
     ensures { λ _. ⌜ now (b .exit) ≡ puts (now (b .entry)) headerAt (headerBytes h) ⌝ }
 {
     places::put_byte(b, layout::HEADER_AT, h.format);
@@ -74,7 +74,7 @@ fn put_header(b: &mut [u8; LENGTH], h: Header)
     places::put_word(b, layout::HEADER_AT + 6, h.count);
 }
 
-fn put_axis(b: &mut [u8; LENGTH], v: Values)
+fn put_axis(b: &mut [u8; STATE_LENGTH], v: Values)
     ensures { λ _. ⌜ now (b .exit) ≡ puts (now (b .entry)) axisAt (axisBytes v) ⌝ }
 {
     let axis = v.axis;
@@ -88,8 +88,8 @@ fn put_axis(b: &mut [u8; LENGTH], v: Values)
 }
 
 // A task's record, from a place on.
-fn put_task(b: &mut [u8; LENGTH], at: u16, k: Task)
-    requires { ⌜ at + taskLength ≤ bufferLength ⌝ }
+fn put_task(b: &mut [u8; STATE_LENGTH], at: u16, k: Task)
+    requires { ⌜ at + taskLength ≤ stateLength ⌝ }
     ensures { λ _. ⌜ now (b .exit) ≡ puts (now (b .entry)) at (taskBytes k) ⌝ }
 {
     places::put_byte(b, at, k.status);
@@ -100,8 +100,8 @@ fn put_task(b: &mut [u8; LENGTH], at: u16, k: Task)
     places::put_long(b, at + layout::TIME_AT + 4, k.turns);
 }
 
-fn put_stack(b: &mut [u8; LENGTH], at: u16, stack: &[u16; STACK_LENGTH])
-    requires { ⌜ at + 2 * mostDepth ≤ bufferLength ⌝ }
+fn put_stack(b: &mut [u8; STATE_LENGTH], at: u16, stack: &[u16; STACK_LENGTH])
+    requires { ⌜ at + 2 * mostDepth ≤ stateLength ⌝ }
     ensures { λ _. ⌜ now (b .exit) ≡ puts (now (b .entry)) at (stackBytes (now (stack .entry))) ⌝ }
 {
     let mut i: usize = 0;

@@ -3,7 +3,7 @@ use Prim.Native.Nat.{_-_, _≤_}
 use native.Mathlib.Omega.{arith}
 use native.Mathlib.Numerals.{add-one}
 use mathlib.Core.Path.{_≡_, refl, ap, _∙_}
-use Rattle.point.specs.Fault.{mostDepth}
+use Rattle.limits.specs.Limits.{mostDepth}
 use Rattle.layout.specs.Test.{allOf, entryIs}
 use borrow.Author.Needs.{needs}
 use Rattle.buffer.proofs.stack_is.Statement.{statement}

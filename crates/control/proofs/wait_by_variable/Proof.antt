@@ -4,8 +4,8 @@ use Prim.Native.Nat.{ℕ}
 use mathlib.Core.Bool.{Bool, _||_, cond}
 use mathlib.Core.List.{[]}
 use mir.Syntax.{w32}
+use Rattle.limits.specs.Limits.{mostTime}
 use Rattle.arith.proofs.Range.{got}
-use Rattle.state.specs.Wait.{mostTime}
 use Rattle.machine.specs.Given.{givenAt}
 use Rattle.machine.specs.Effect.{flows, halts, variable, within, natural, isSet, waits, timeOf}
 use Rattle.machine.specs.declared.Cause.the-variants.{BadContent}

@@ -1,7 +1,7 @@
 -- `images::row` meets its contract: the bytes decoded are all of the line's image, or more than the longest image has. Assumes nothing.
 use mathlib.Core.Path.{ap, _∙_}
 use native.Mathlib.Omega.{arith}
-use Rattle.walk.specs.Index.{marksLength}
+use Rattle.limits.specs.Limits.{marksLength}
 use Rattle.hex.proofs.Bytes.{front}
 use Rattle.images.specs.Part.{partOf}
 use Rattle.images.proofs.Enough.{enough, enough-blocks}

@@ -4,8 +4,8 @@ use borrow.Author.Tests.{lt-ltb, not-true, not-false}
 use native.Mathlib.Omega.{arith}
 use lib.ListN.{length}
 use denote.Ref.{now}
-use Rattle.walk.specs.Index.{marksLength}
 use borrow.Author.Needs.{needs}
+use Rattle.limits.specs.Limits.{marksLength}
 use Rattle.walk.specs.Verdict.{verdictOf}
 use Rattle.loader.proofs.Whole.{refused-image, ready, judged-image}
 use Rattle.loader.proofs.judge.Statement.{statement}

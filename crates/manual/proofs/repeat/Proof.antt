@@ -1,10 +1,10 @@
 -- `repeat` meets its contract: after i turns i steps were made. Assumes nothing.
 use borrow.Author.Needs.{needs}
+use Rattle.limits.specs.Limits.{stateLength}
 use Rattle.bias.specs.Step.{stepped}
 use mathlib.Core.List.{List}
 use Rattle.manual.specs.Run.{repeated}
 use Rattle.machine.specs.Given.{inputsOf}
-use Rattle.layout.specs.Layout.{bufferLength}
 use denote.Ref.{now}
 use lib.ListN.{length}
 use mathlib.Core.Path.{_≡_, refl, ap, _∙_}
@@ -16,7 +16,7 @@ use Rattle.manual.proofs.repeat.Tie as tie
 
 abbrev Inv-loop : tie.InvT-loop
 Inv-loop image n task inputs start reached state₀ i₀ state i =
-    (i ≤ n) × (length state ≡ bufferLength) × (state ≡ repeated image (inputsOf task inputs start reached) i state₀)
+    (i ≤ n) × (length state ≡ stateLength) × (state ≡ repeated image (inputsOf task inputs start reached) i state₀)
 
 abbrev μ-loop : tie.MeasureT-loop
 μ-loop image n task inputs start reached state₀ i₀ state i = n - i

@@ -1,7 +1,7 @@
 -- `run_records` meets its contract: after k turns k records were carried out. Assumes nothing.
 use borrow.Author.Needs.{needs}
+use Rattle.limits.specs.Limits.{stateLength}
 use Rattle.manual.specs.Run.{recordLength, recorded, after}
-use Rattle.layout.specs.Layout.{bufferLength}
 use denote.Ref.{now}
 use lib.ListN.{length}
 use mathlib.Core.Path.{_≡_, refl, ap, _∙_}
@@ -12,7 +12,7 @@ use Rattle.manual.proofs.run_records.Statement.{statement}
 use Rattle.manual.proofs.run_records.Tie as tie
 
 abbrev Inv-loop : tie.InvT-loop
-Inv-loop image steps state₀ n k₀ state k = (k ≤ n) × (length state ≡ bufferLength) × (state ≡ after image steps k state₀)
+Inv-loop image steps state₀ n k₀ state k = (k ≤ n) × (length state ≡ stateLength) × (state ≡ after image steps k state₀)
 
 abbrev μ-loop : tie.MeasureT-loop
 μ-loop image steps state₀ n k₀ state k = n - k

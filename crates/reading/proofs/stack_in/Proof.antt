@@ -4,7 +4,7 @@ use native.Mathlib.Omega.{arith}
 use mathlib.Core.Path.{_≡_}
 use denote.Ref.{now}
 use lib.ListN.{length, take, length-set}
-use Rattle.point.specs.Fault.{mostDepth}
+use Rattle.limits.specs.Limits.{mostDepth}
 use Rattle.places.specs.Places.{table, numberAt}
 use Rattle.places.proofs.Tables.{none, more, all}
 use Rattle.layout.specs.Decoded.{stackIn}

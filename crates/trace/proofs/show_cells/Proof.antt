@@ -1,8 +1,8 @@
 -- `show_cells` meets its contract: after k turns the first k cells are compared. Assumes nothing.
 use borrow.Author.Needs.{needs}
+use Rattle.limits.specs.Limits.{cells}
 use Rattle.trace.proofs.Shown.{is-same, then, within}
 use Rattle.trace.specs.Changes.{same, sameCells}
-use Rattle.state.specs.State.{cells}
 use mathlib.Core.Bool.{true, _&&_}
 use mathlib.Core.Path.{_≡_, refl, ap, _∙_}
 use native.Mathlib.Numerals.{add-one}

@@ -1,10 +1,9 @@
 -- `show_changes` meets its contract: eight groups, one behind the other. Assumes nothing.
 use borrow.Author.Needs.{needs}
+use Rattle.limits.specs.Limits.{bias, plc, mathematics, cells}
 use Rattle.trace.proofs.Shown.{then}
 use Rattle.trace.specs.Changes.{same, sameCells, sameAxis, sameStarts, unchanged}
 use Rattle.layout.specs.Layout.{variablesAt, flagsAt, outputsAt, taskLength, taskPlace}
-use Rattle.state.specs.State.{cells}
-use Rattle.flow.specs.Flow.{bias, plc, mathematics}
 use denote.Ref.{now}
 use mathlib.Core.Bool.{true}
 use mathlib.Core.Path.{_∙_}

@@ -1,8 +1,8 @@
 -- `show_place` meets its contract, test by test. Assumes nothing.
 use borrow.Author.Needs.{needs}
+use Rattle.limits.specs.Limits.{taskCount}
 use Rattle.layout.specs.Layout.{taskPlace}
 use Rattle.state.specs.State.{runs}
-use Rattle.flow.specs.Flow.{taskCount}
 use denote.Ref.{now}
 use borrow.Author.Tests.{lt-ltb, le-ltb, eq-eqb, ne-eqb}
 use lib.ListN.{getD}

@@ -3,9 +3,9 @@ use Prim.Native.Nat.{_+_}
 use native.Mathlib.Omega.{arith}
 use mathlib.Core.Path.{_≡_, refl}
 use lib.ListN.{length}
-use Rattle.flow.specs.Flow.{bias, plc}
+use Rattle.limits.specs.Limits.{bias, plc, cells}
 use Rattle.places.proofs.Runs.{next}
-use Rattle.state.specs.State.{cells, taskAt}
+use Rattle.state.specs.State.{taskAt}
 use Rattle.state.specs.declared.State.{State}
 use Rattle.layout.specs.Layout.{variablesAt, flagsAt, outputsAt, headerAt, headerLength, axisAt, axisLength, startsAt, taskPlace}
 use Rattle.layout.proofs.Sizes.{length-variables, behind-task, used, written}

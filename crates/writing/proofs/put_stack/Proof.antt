@@ -2,8 +2,8 @@
 use Prim.Native.Nat.{ℕ, _-_, _≤_}
 use mathlib.Core.Path.{_≡_, refl, _∙_}
 use lib.ListN.{getD}
+use Rattle.limits.specs.Limits.{mostDepth}
 use Rattle.le.specs.LittleEndian.{leBytes}
-use Rattle.point.specs.Fault.{mostDepth}
 use Rattle.places.specs.Places.{puts, runs}
 use Rattle.places.proofs.Runs.{runs-none, runs-more, runs-all}
 use Rattle.layout.specs.Encoded.{stackBytes}

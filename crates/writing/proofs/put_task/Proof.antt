@@ -2,7 +2,7 @@
 use Prim.Native.Nat.{_+_, _*_}
 use native.Mathlib.Omega.{arith}
 use mathlib.Core.Path.{refl}
-use Rattle.point.specs.Fault.{mostDepth}
+use Rattle.limits.specs.Limits.{mostDepth}
 use Rattle.places.proofs.Runs.{next}
 use Rattle.layout.specs.Layout.{stackAt, timeAt}
 use Rattle.layout.proofs.Sizes.{length-stack}

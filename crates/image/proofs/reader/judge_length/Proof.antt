@@ -3,7 +3,8 @@ use Prim.Native.Nat.{_+_, _*_}
 use native.Mathlib.Omega.{arith}
 use borrow.Author.Needs.{needs}
 use borrow.Author.Tests.{lt-ltb, le-ltb}
-use Rattle.image.specs.Scan.{blockLength, lengthOutcome}
+use Rattle.limits.specs.Limits.{blockLength}
+use Rattle.image.specs.Scan.{lengthOutcome}
 use Rattle.image.proofs.reader.judge_length.Statement.{statement}
 use Rattle.image.proofs.reader.judge_length.Tie as tie
 

@@ -5,7 +5,7 @@ use native.Mathlib.Omega.{arith}
 use borrow.Author.Count.{below-more}
 use lib.ListN.{length, getD, length-set}
 use lib.Seq.{getD-set-same, getD-set-other}
-use Rattle.walk.specs.Index.{marksLength}
+use Rattle.limits.specs.Limits.{marksLength}
 use Rattle.loader.proofs.Laws.{cleared}
 use Rattle.loader.proofs.search.clear.Statement.{statement}
 use Rattle.loader.proofs.search.clear.Tie as tie

@@ -4,8 +4,8 @@ use mathlib.Core.Path.{_≡_, sym, _∙_}
 use mathlib.Core.Logic.{⊎-elim}
 use native.Mathlib.Omega.{arith}
 use denote.Ref.{now}
+use Rattle.limits.specs.Limits.{marksLength}
 use Rattle.number.proofs.Choice.{clash}
-use Rattle.walk.specs.Index.{marksLength}
 use Rattle.loader.proofs.Minima.{LeastSo, self, badAt, least-begun, least-kept, bad-is}
 use borrow.Author.Needs.{needs}
 use Rattle.loader.proofs.Minima.{first-bad, fault-bad}

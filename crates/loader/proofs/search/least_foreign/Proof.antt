@@ -4,8 +4,7 @@ use mathlib.Core.Path.{_≡_, _∙_}
 use mathlib.Core.Logic.{⊎-elim}
 use native.Mathlib.Omega.{arith}
 use denote.Ref.{now}
-use Rattle.image.specs.Rows.{mostBlocks}
-use Rattle.walk.specs.Index.{marksLength}
+use Rattle.limits.specs.Limits.{mostBlocks, marksLength}
 use Rattle.loader.proofs.Minima.{LeastSo, blockOf, foreignAt, least-begun, least-kept, lowered-next, foreign-is}
 use borrow.Author.Needs.{needs}
 use mathlib.Core.Path.{_≡_}
