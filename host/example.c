@@ -13,8 +13,10 @@ enum { TASKS = 3, TEXT_ROOM = 96, CHANGES_ROOM = 512, DEFAULT_CYCLES = 3000, EXI
 
 /* Where a trace finds the rest of the state (docs/STATE.md). Firmware has no need of these: they may move. */
 enum {
-    AT_HEADER = 1536, AT_POSITION = 1544, AT_SPEED = 1548, AT_ACCELERATION = 1550, AT_DECELERATION = 1552,
-    AT_START_MARK = 1554, AT_TASKS = 1560, IN_TASK_DEPTH = 1, IN_TASK_BLOCK = 2, IN_TASK_STACK = 4,
+    AT_HEADER = BIAS_STATE_LAYOUT_AT + 1, AT_POSITION = AT_HEADER + 8, AT_SPEED = AT_POSITION + 4,
+    AT_ACCELERATION = AT_SPEED + 2, AT_DECELERATION = AT_ACCELERATION + 2, AT_START_MARK = AT_DECELERATION + 2,
+    AT_START_LEVEL = AT_START_MARK + 1, AT_STARTS = AT_START_LEVEL + 1, AT_TASKS = AT_STARTS + 4,
+    IN_TASK_DEPTH = 1, IN_TASK_BLOCK = 2, IN_TASK_STACK = 4,
     IN_TASK_TIME = IN_TASK_STACK + 2 * BIAS_MOST_DEPTH, TASK_LENGTH = IN_TASK_TIME + 8, STATUS_RUNNING = 1
 };
 
@@ -204,7 +206,7 @@ static void trace(run *program, unsigned task, const uint8_t *before, const bias
 {
     const uint8_t *was = task_record(before, task), *is = task_record(program->state, task);
     const int same = memcmp(was, is, IN_TASK_TIME) == 0 && answer->motion == BIAS_MOTION_NONE
-        && memcmp(before, program->state, AT_HEADER) == 0;
+        && memcmp(before, program->state, BIAS_STATE_LAYOUT_AT) == 0;
     const int waiting = same && answer->number == BIAS_SUCCESS;
     const int shown = program->quiet ? answer->motion != BIAS_MOTION_NONE || answer->number != BIAS_SUCCESS
                                      : !waiting || program->stays[task] == 0;

@@ -194,10 +194,12 @@ static void check_load(bias_verdict verdict)
     check(verdict.number <= BIAS_MARKS_SHORT || verdict.number == BIAS_NO_STATE || verdict.number == BIAS_BOARD_MISSING,
           "load: no such number");
     check((verdict.number == BIAS_MARKS_SHORT) == (marks.length < BIAS_MARKS_LENGTH), "load: 13 by another length");
-    if (verdict.number == BIAS_SUCCESS)
+    if (verdict.number == BIAS_SUCCESS) {
         check(verdict.place == 0 && verdict.task == 0 && verdict.depth == 0, "load: success with a place");
-    else
+        check(state_region.bytes[BIAS_STATE_LAYOUT_AT] == BIAS_STATE_LAYOUT, "load: another layout number");
+    } else {
         check(memcmp(state_region.bytes, state.bytes, state.length) == 0, "load: refused, and the state was written");
+    }
     if (marks.length > BIAS_MARKS_LENGTH)
         check(memcmp(marks_region.bytes + BIAS_MARKS_LENGTH, marks.bytes + BIAS_MARKS_LENGTH,
                      marks.length - BIAS_MARKS_LENGTH) == 0, "load: marks past BIAS_MARKS_LENGTH were written");
@@ -264,6 +266,9 @@ static void check_step(const bias_answer *answer)
     check(answer->number == BIAS_SUCCESS || answer->motion == BIAS_MOTION_NONE, "step: refused, with a motion");
     check(move || (answer->position == 0 && answer->speed == 0 && answer->acceleration == 0), "step: a field too many");
     check(answer->motion != BIAS_MOTION_NONE || (answer->deceleration == 0 && answer->mode == 0), "step: a field too many");
+    if (answer->number != BIAS_BAD_INPUTS && answer->number != BIAS_NO_STATE)
+        check(state.bytes[BIAS_STATE_LAYOUT_AT] == BIAS_STATE_LAYOUT
+              && state_region.bytes[BIAS_STATE_LAYOUT_AT] == BIAS_STATE_LAYOUT, "step: another layout number passed");
     if (answer->number >= BIAS_BAD_INPUTS && answer->number <= BIAS_NOT_RUNNING)
         check(memcmp(state_region.bytes, state.bytes, state.length) == 0, "step: refused, and the state was written");
 }
@@ -297,6 +302,8 @@ static void fuzz_step(void)
         given.task = (uint32_t)random_next();
     if (random_below(20) == 0)
         content_damage(&state);
+    if (random_below(100) == 0)
+        state.bytes[BIAS_STATE_LAYOUT_AT] = (uint8_t)random_below(2 * BIAS_STATE_LAYOUT);
     if (random_below(40) == 0)
         content_fill(&state, odd_length(BIAS_STATE_LENGTH));
     content_fill(&inputs, random_below(40) == 0 ? odd_length(BIAS_INPUTS_LENGTH) : BIAS_INPUTS_LENGTH);

@@ -21,9 +21,11 @@
  *     the program that was judged: 17 is no checksum.
  *   - Nobody but the library writes a state buffer. 16 refuses what is no state; it is no checksum either. A copy of the
  *     buffer, byte for byte, is the same state.
- *   - A state buffer belongs to the release of the library that loaded it, and does not tell which: after an upgrade
- *     load anew, which begins the program from its start. 16 refuses many buffers of another release, but not all; one
- *     that passes may be read as another state. A program that an earlier release loaded may be refused.
+ *   - A state buffer has the layout of the release that loaded it. Its byte at 1536 is the layout number, which is
+ *     raised by each release that moves a byte (a rule for releases, not proved). A state with another number, one
+ *     saved by another release, is refused by 16: load anew, which begins the program from its start. So is a state
+ *     of a release that had no such number yet: it has 1 there. A program that an earlier release loaded may be
+ *     refused.
  *
  * WHAT YOU LEND
  *   image   the program's bytes; only read. One of more than 12,008 bytes is always refused
@@ -65,10 +67,15 @@ extern "C" {
 #define BIAS_MOST_IMAGE_LENGTH 12008u /* header of 4 + 2 + 2 bytes, 1500 blocks; room enough for any bias_write */
 #define BIAS_FORMAT 1u
 
-/* What firmware may read in a state buffer; the bytes behind them may move with any release. */
+/* What firmware may read in a state buffer: bytes 0 to 1535. The bytes behind them may move with any release. */
 #define BIAS_STATE_VARIABLES 0u     /* 256 variables, four bytes each, low byte first, signed */
 #define BIAS_STATE_FLAGS 1024u      /* 256 flags, a byte each, 0 or 1 */
 #define BIAS_STATE_OUTPUTS 1280u    /* 256 output levels, a byte for each pin number, 0 or 1 */
+#define BIAS_STATE_LAYOUT_AT 1536u  /* the layout number, a byte; bias_step tests it, firmware has no need to */
+
+/* The layout number that bias_load writes. bias_step refuses a state with another one by 16, so that a state saved by a
+ * release with another layout is never taken for one of this: load anew then. */
+#define BIAS_STATE_LAYOUT 3u
 
 /* Drive types, and what is in their slots. A 631 has both slots empty; RP-2C8 and RP-SBT are for the 637f alone. */
 enum {
@@ -125,7 +132,9 @@ enum {
     BIAS_MARKS_SHORT = 13,            /* bias_load: marks under 27,000 bytes: their length */
     BIAS_ROOM_SHORT = 14,             /* bias_write: no room for the image: the length needed */
     BIAS_BAD_INPUTS = 15,             /* bias_step: no such task: its number; or not 256 inputs: their length */
-    BIAS_NO_STATE = 16,               /* the state has another length than 2,048, or, in bias_step, is no state: none */
+    BIAS_NO_STATE = 16,               /* the state has another length than 2,048, or, in bias_step, is no state or has
+                                         another layout number than BIAS_STATE_LAYOUT (one saved by another release:
+                                         load anew): none */
     /* steps */
     BIAS_OTHER_IMAGE = 17,            /* header or length not the loaded image's, or the current block breaks 5 to 12 or
                                          23, or a wait is pending there and it is no wait: block, task, depth */

@@ -6,7 +6,8 @@ use crate::random::Random;
 use reference::image;
 use reference::number::*;
 use reference::state::{
-    record, State, BLOCK, DEPTH, PATH, RECORD_LENGTH, RUNNING, STATE_LENGTH, STATUS, TIME, TURNS, UNUSED,
+    record, State, ACCELERATION, BLOCK, COUNT, DECELERATION, DEPTH, FLAGS, HEADER, LAYOUT_AT, PATH, POSITION,
+    RECORD_LENGTH, RUNNING, SPEED, START, STARTS, START_LEVEL, START_MARK, STATE_LENGTH, STATUS, TIME, TURNS, UNUSED,
 };
 
 /// A case. Its steps are drawn while the reference does them, so that most are for tasks that run.
@@ -162,10 +163,11 @@ impl Drawing<'_> {
     }
 }
 
-/// Where the fields of a state stand (docs/STATE.md), and how many bytes each has.
-const FIELDS: [(usize, usize); 16] = [
-    (1536, 1), (1537, 1), (1538, 1), (1539, 1), (1540, 2), (1542, 2), (1544, 4), (1548, 2), (1550, 2), (1552, 2),
-    (1554, 1), (1555, 1), (1556, 2), (1558, 2), (UNUSED, 1), (STATE_LENGTH - 1, 1),
+/// Where the fields of a state stand (docs/STATE.md), the layout number first, and how many bytes each has.
+const FIELDS: [(usize, usize); 17] = [
+    (LAYOUT_AT, 1), (HEADER, 1), (HEADER + 1, 1), (HEADER + 2, 1), (HEADER + 3, 1), (START, 2), (COUNT, 2),
+    (POSITION, 4), (SPEED, 2), (ACCELERATION, 2), (DECELERATION, 2), (START_MARK, 1), (START_LEVEL, 1), (STARTS, 2),
+    (STARTS + 2, 2), (UNUSED, 1), (STATE_LENGTH - 1, 1),
 ];
 
 /// What somebody else might write: one to three fields, mostly near the ends of their ranges.
@@ -174,7 +176,7 @@ fn pokes(random: &mut Random, count: usize) -> Vec<(usize, u8)> {
     for _ in 0..random.between(1, 3) {
         match random.below(10) {
             0 => bytes.push((random.below(STATE_LENGTH), random.byte())),
-            1 => bytes.push((1024 + random.below(512), random.below(3) as u8)),
+            1 => bytes.push((FLAGS + random.below(LAYOUT_AT - FLAGS), random.below(3) as u8)),
             2 => {
                 let variable = if random.chance(50) { random.below(8) } else { program::GOOD.start + random.below(4) };
                 put(&mut bytes, 4 * variable, 4, variable_value(random));

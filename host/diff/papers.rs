@@ -1,6 +1,7 @@
 //! The papers' own examples: A to L and the chains of calls of document 01 with its answers, or those of change
 //! request 6 where it changes them; those of change requests 2, 3 and 6; starts at the ends of each length of a number;
-//! and images cut at every length. Done on the library and on the reference alike.
+//! layout numbers and states of the layout before; and images cut at every length. Done on the library and on the
+//! reference alike.
 
 use crate::case::{Action, Case};
 use crate::program;
@@ -71,6 +72,12 @@ const MARKS: [(usize, [u64; 4]); 3] = [(26_999, [13, 26_999, 0, 0]), (27_000, [0
 /// Depth of BIAS, which of its return entries is block 1 (the others 0), and the number of its step (change request 6).
 const DEPTHS: [(u8, usize, u32); 5] = [(5, 4, 0), (6, 4, 16), (255, 4, 16), (4, 3, 0), (4, 4, 16)];
 
+/// Where the layout number stands and what it is, as docs/STATE.md has them.
+const NUMBERED: (usize, u8) = (1536, 3);
+
+/// What somebody writes there, and the number of the step on it.
+const LAYOUTS: [(u8, u32); 6] = [(3, 0), (2, 16), (1, 16), (0, 16), (4, 16), (255, 16)];
+
 fn case(image: Vec<u8>, actions: Vec<Action>) -> Case {
     Case { image, marks_len: MARKS_LENGTH, state_len: STATE_LENGTH, fill: 0x5A, actions }
 }
@@ -113,6 +120,7 @@ pub fn check(tally: &mut Tally) -> Result<(), String> {
     }
     lent(tally)?;
     depths(tally)?;
+    layouts(tally)?;
     wait_ends("J, type 2", "02", 527, tally)?;
     wait_ends("J, type 4", "04", 1185, tally)?;
     quotient(tally)?;
@@ -182,6 +190,93 @@ fn depths(tally: &mut Tally) -> Result<(), String> {
         both.map_err(|difference| format!("a state of depth {depth}, entry {entry}: {}", difference.what))?;
     }
     Ok(())
+}
+
+/// A step on a state with another layout number is refused, and so is one on a state of the layout before.
+fn layouts(tally: &mut Tally) -> Result<(), String> {
+    let (at, number) = NUMBERED;
+    let image = bytes_of("010200000002 5000000000000000 5500000000000000");
+    for (layout, wanted) in LAYOUTS {
+        for steps in [0, 1] {
+            let name = format!("layout number {layout} after {steps} steps");
+            remade(&name, &image, steps, &|state| state[at] = layout, wanted, tally)?;
+        }
+    }
+    remade("a loaded state of the layout before", &image, 0, &move_back, 16, tally)?;
+    remade("a state of the layout before", &image, 1, &move_back, 16, tally)?;
+    let image = alike();
+    remade("a state alike in the layout before", &image, 4, &move_back, 16, tally)?;
+    let with_number = |state: &mut Vec<u8>| {
+        move_back(state);
+        state[at] = number;
+    };
+    remade("the same with the layout number", &image, 4, &with_number, 17, tally)
+}
+
+/// As the layout before had it: no layout number, and all behind it one back.
+fn move_back(state: &mut Vec<u8>) {
+    state.remove(NUMBERED.0);
+    state.push(0);
+}
+
+/// A program that stands, 4 steps after its load, in block 0, which block 3 has called, with position 5 and a
+/// deceleration of 257. In the layout before that is, but for the layout number, a state of this one as well: of a 631
+/// with 1,282 blocks, 1,024 the current one.
+fn alike() -> Vec<u8> {
+    let mut image = jumps("8002 8004", 512);
+    image[1] = 1;
+    let first = image.len() - 512 * BLOCK_LENGTH;
+    let blocks = [(256, "550100"), (1, "2005000000"), (2, "230101"), (3, "520000")];
+    for (block, front) in blocks {
+        let bytes = bytes_of(front);
+        image[first + BLOCK_LENGTH * block..][..bytes.len()].copy_from_slice(&bytes);
+    }
+    image
+}
+
+/// Steps of BIAS after a load, and one more on what somebody makes of the state. The layout number stands where it has
+/// to as long as nobody else writes it, and what is refused stays as it was.
+fn remade(
+    name: &str,
+    image: &[u8],
+    steps: usize,
+    remake: &dyn Fn(&mut Vec<u8>),
+    wanted: u32,
+    tally: &mut Tally,
+) -> Result<(), String> {
+    let (at, number) = NUMBERED;
+    let numbered = |state: &[u8], when: &str| match state[at] {
+        byte if byte == number => Ok(()),
+        byte => Err(format!("{name}: byte {at} is {byte} {when}")),
+    };
+    let given = reference::engine::Given { inputs: &[0; INPUTS_LENGTH], start: 0, reached: 0 };
+    let mut state = vec![0; STATE_LENGTH];
+    reference::load(image, &mut vec![0; MARKS_LENGTH], &mut state);
+    numbered(&state, "after the load")?;
+    for step in 1..=steps {
+        let got = reference::step(image, &mut state, 0, given).number;
+        if got != SUCCESS {
+            return Err(format!("{name}: the reference refuses step {step} by {got}"));
+        }
+        numbered(&state, &format!("after step {step}"))?;
+    }
+    let mut lent = state.clone();
+    remake(&mut lent);
+    let pokes = (0..STATE_LENGTH).filter(|at| lent[*at] != state[*at]).map(|at| (at, lent[at])).collect();
+    let mut left = lent.clone();
+    let got = reference::step(image, &mut left, 0, given).number;
+    if got != wanted {
+        return Err(format!("{name}: the reference says {got}, the papers {wanted}"));
+    }
+    match wanted {
+        SUCCESS => numbered(&left, "after the last step")?,
+        _ if left != lent => return Err(format!("{name}: the reference refused the state and wrote it")),
+        _ => (),
+    }
+    let mut actions = vec![Action::plain(0); steps];
+    actions.push(Action { pokes, ..Action::plain(0) });
+    let both = case(image.to_vec(), actions).run(tally);
+    both.map_err(|difference| format!("{name}: {}", difference.what))
 }
 
 /// A wait of 1000 ms passes at this k and not before.

@@ -7,21 +7,26 @@ use crate::number::*;
 
 pub const STATE_LENGTH: usize = 2048;
 
-/// Where things stand.
+/// The layout number: each release raises it that moves a byte, so that a state that another one saved is never taken
+/// for one of this. The two layouts before 3 had none; where it stands they had the header's first byte, the format 1.
+pub const LAYOUT: u8 = 3;
+
+/// Where things stand, each behind the one before it.
 const VARIABLES: usize = 0;
-const FLAGS: usize = 1024;
-const OUTPUTS: usize = 1280;
-const HEADER: usize = 1536;
-const START: usize = HEADER + 4;
-const COUNT: usize = HEADER + 6;
-const POSITION: usize = 1544;
-const SPEED: usize = 1548;
-const ACCELERATION: usize = 1550;
-const DECELERATION: usize = 1552;
-const START_MARK: usize = 1554;
-const START_LEVEL: usize = 1555;
-pub const STARTS: usize = 1556;
-const RECORDS: usize = 1560;
+pub const FLAGS: usize = VARIABLES + 4 * 256;
+const OUTPUTS: usize = FLAGS + 256;
+pub const LAYOUT_AT: usize = OUTPUTS + 256;
+pub const HEADER: usize = LAYOUT_AT + 1;
+pub const START: usize = HEADER + 4;
+pub const COUNT: usize = START + 2;
+pub const POSITION: usize = COUNT + 2;
+pub const SPEED: usize = POSITION + 4;
+pub const ACCELERATION: usize = SPEED + 2;
+pub const DECELERATION: usize = ACCELERATION + 2;
+pub const START_MARK: usize = DECELERATION + 2;
+pub const START_LEVEL: usize = START_MARK + 1;
+pub const STARTS: usize = START_LEVEL + 1;
+const RECORDS: usize = STARTS + 2 * (TASKS - 1);
 pub const UNUSED: usize = RECORDS + TASKS * RECORD_LENGTH;
 
 /// Where things stand in a task's record, and its length; the return path has two bytes for each depth.
@@ -79,6 +84,11 @@ fn together(bytes: &[u8]) -> u8 {
     bytes.iter().fold(0, |all, byte| all | byte)
 }
 
+/// The layout number of this release, and no other.
+fn layout_good(bytes: &[u8; STATE_LENGTH]) -> bool {
+    bytes[LAYOUT_AT] == LAYOUT
+}
+
 /// "header not one that load accepts".
 fn header_of(bytes: &[u8; STATE_LENGTH]) -> Option<Header> {
     let [format, kind, slot_b, slot_c] = [0, 1, 2, 3].map(|at| bytes[HEADER + at] as u32);
@@ -96,7 +106,7 @@ fn header_of(bytes: &[u8; STATE_LENGTH]) -> Option<Header> {
 
 /// "a parameter, level, mark ... out of range, an unused byte not 0", and the start blocks below the count.
 fn values_good(bytes: &[u8; STATE_LENGTH], header: &Header) -> bool {
-    together(&bytes[FLAGS..HEADER]) <= 1
+    together(&bytes[FLAGS..LAYOUT_AT]) <= 1
         && together(&bytes[START_MARK..STARTS]) <= 1
         && together(&bytes[UNUSED..]) == 0
         && (1..=MOST_SPEED).contains(&(word(bytes, SPEED) as u32))
@@ -129,7 +139,9 @@ impl<'a> State<'a> {
     pub fn of(bytes: &'a mut [u8]) -> Option<State<'a>> {
         let bytes: &mut [u8; STATE_LENGTH] = bytes.try_into().ok()?;
         let header = header_of(bytes)?;
-        let good = values_good(bytes, &header) && (0..TASKS).all(|task| task_good(bytes, &header, task));
+        let good = layout_good(bytes)
+            && values_good(bytes, &header)
+            && (0..TASKS).all(|task| task_good(bytes, &header, task));
         good.then_some(State { bytes, header })
     }
 
@@ -137,6 +149,7 @@ impl<'a> State<'a> {
     /// the preceding start level high.
     pub fn fresh(bytes: &'a mut [u8; STATE_LENGTH], header: &Header) -> State<'a> {
         bytes.fill(0);
+        bytes[LAYOUT_AT] = LAYOUT;
         bytes[HEADER] = FORMAT as u8;
         bytes[HEADER + 1] = header.drive.kind as u8;
         bytes[HEADER + 2] = header.drive.slot_b as u8;

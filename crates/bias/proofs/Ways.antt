@@ -6,16 +6,14 @@ use mathlib.Core.List.{List}
 use lib.ListN.{length}
 use lib.Dec.{eqb}
 use borrow.Author.Tests.{lt-ltb, le-ltb, eq-eqb, ne-eqb, eqb-true, eqb-false}
-use Rattle.limits.specs.Limits.{taskCount, cells, marksLength, stateLength}
+use Rattle.limits.specs.Limits.{taskCount, marksLength, stateLength, inputsLength}
 use Rattle.number.proofs.Choice.{by}
 use Rattle.state.specs.declared.State.{State}
 use Rattle.walk.specs.Verdict.{verdictOf, isAccepted}
 use Rattle.walk.specs.declared.Verdict.{Verdict}
 use Rattle.walk.specs.declared.Verdict.the-variants.{MarksShort}
-use Rattle.layout.specs.Layout.{unusedLength}
-use Rattle.layout.specs.Decoded.{decoded}
-use Rattle.layout.specs.Encoded.{encoded}
-use Rattle.layout.specs.Test.{unusedZero, stateIs, isState}
+use Rattle.layout.specs.Layout.{decoded, encoded}
+use Rattle.layout.specs.Test.{frameIs, stateIs, isState}
 use Rattle.machine.specs.Given.{Inputs}
 use Rattle.machine.specs.Engine.{step}
 use Rattle.machine.specs.Theorem.{loaded}
@@ -66,13 +64,13 @@ module _ (image b : List ℕ) (x : Inputs) where
   unfolding stepped
   no-task h = rw (le-ltb (x .task) taskCount h)
 
-  pub bad-inputs : x .task < taskCount → (length (x .levels) ≡ cells → ⊥) → stepped image b x ≡ refuse (answerFor None (BadInputs (length (x .levels)))) b
+  pub bad-inputs : x .task < taskCount → (length (x .levels) ≡ inputsLength → ⊥) → stepped image b x ≡ refuse (answerFor None (BadInputs (length (x .levels)))) b
   unfolding stepped
-  bad-inputs h d = rw (lt-ltb (x .task) taskCount h, ne-eqb (length (x .levels)) cells d)
+  bad-inputs h d = rw (lt-ltb (x .task) taskCount h, ne-eqb (length (x .levels)) inputsLength d)
 
-  pub of-buffer : x .task < taskCount → length (x .levels) ≡ cells → stepped image b x ≡ stepState image b x
+  pub of-buffer : x .task < taskCount → length (x .levels) ≡ inputsLength → stepped image b x ≡ stepState image b x
   unfolding stepped
-  of-buffer h e = rw (lt-ltb (x .task) taskCount h, eq-eqb (length (x .levels)) cells e)
+  of-buffer h e = rw (lt-ltb (x .task) taskCount h, eq-eqb (length (x .levels)) inputsLength e)
 
   pub no-state : isState b ≡ false → stepState image b x ≡ refuse noStateAnswer b
   unfolding stepState
@@ -83,10 +81,10 @@ module _ (image b : List ℕ) (x : Inputs) where
   of-state e = rw e
 
   -- by cases: no such task, inputs of another length, or both given
-  pub asked : {P : Type 0} → (taskCount ≤ x .task → P) → (x .task < taskCount → (length (x .levels) ≡ cells → ⊥) → P) → (x .task < taskCount → length (x .levels) ≡ cells → P) → P
-  asked {P} no-such wrong right = by (x .task) taskCount (λ l. go l (eqb (length (x .levels)) cells) refl) no-such
+  pub asked : {P : Type 0} → (taskCount ≤ x .task → P) → (x .task < taskCount → (length (x .levels) ≡ inputsLength → ⊥) → P) → (x .task < taskCount → length (x .levels) ≡ inputsLength → P) → P
+  asked {P} no-such wrong right = by (x .task) taskCount (λ l. go l (eqb (length (x .levels)) inputsLength) refl) no-such
     where
-      go : x .task < taskCount → (t : Bool) → eqb (length (x .levels)) cells ≡ t → P
+      go : x .task < taskCount → (t : Bool) → eqb (length (x .levels)) inputsLength ≡ t → P
       go l true q = right l (eqb-true _ _ q)
       go l false q = wrong l (eqb-false _ _ q)
 
@@ -98,8 +96,8 @@ step-refused s r a b e q = (q ∙ ap (λ (m : Stepped). m .answer) (sym e), ap (
 
 -- the tests of a copy of the buffer are those of the buffer
 module _ (b copy : List ℕ) (same : copy ≡ b) where
-  pub unused-of : (t : Bool) → t ≡ unusedZero copy unusedLength → unusedZero b unusedLength ≡ t
-  unused-of t e = sym (e ∙ ap (λ (l : List ℕ). unusedZero l unusedLength) same)
+  pub frame-of : (t : Bool) → t ≡ frameIs copy → frameIs b ≡ t
+  frame-of t e = sym (e ∙ ap frameIs same)
 
   pub read-of : (s : State) → s ≡ decoded copy → s ≡ decoded b
   read-of s e = e ∙ ap decoded same
@@ -113,14 +111,14 @@ module _ (b : List ℕ) where
   wrong-length d = rw (ne-eqb (length b) stateLength d)
 
   module _ (e : length b ≡ stateLength) where
-    pub unused-not-zero : unusedZero b unusedLength ≡ false → isState b ≡ false
+    pub frame-not : frameIs b ≡ false → isState b ≡ false
     unfolding isState
-    unused-not-zero u = rw (eq-eqb (length b) stateLength e, u)
+    frame-not u = rw (eq-eqb (length b) stateLength e, u)
 
-    pub judged-no-state : unusedZero b unusedLength ≡ true → stateIs (decoded b) ≡ false → isState b ≡ false
+    pub judged-no-state : frameIs b ≡ true → stateIs (decoded b) ≡ false → isState b ≡ false
     unfolding isState
     judged-no-state u s = rw (eq-eqb (length b) stateLength e, u, s)
 
-    pub judged-state : unusedZero b unusedLength ≡ true → stateIs (decoded b) ≡ true → isState b ≡ true
+    pub judged-state : frameIs b ≡ true → stateIs (decoded b) ≡ true → isState b ≡ true
     unfolding isState
     judged-state u s = rw (eq-eqb (length b) stateLength e, u, s)

@@ -9,7 +9,7 @@ use Rattle.limits.specs.Limits.{marksLength, stateLength}
 use Rattle.walk.specs.Verdict.{verdictOf, isAccepted}
 use Rattle.walk.specs.declared.Verdict.{Verdict}
 use Rattle.walk.specs.declared.Verdict.the-variants.{MarksShort}
-use Rattle.layout.specs.Encoded.{encoded}
+use Rattle.layout.specs.Layout.{encoded}
 use Rattle.machine.specs.Theorem.{loaded}
 use Rattle.border.specs.Border.{noState, numbered, verdictFor}
 use Rattle.border.specs.declared.BiasVerdict.{BiasVerdict}

@@ -5,9 +5,8 @@ use mathlib.Core.Bool.{cond}
 use mathlib.Core.List.{List}
 use lib.Dec.{eqb, ltb}
 use lib.ListN.{length}
-use Rattle.limits.specs.Limits.{taskCount, cells}
-use Rattle.layout.specs.Decoded.{decoded}
-use Rattle.layout.specs.Encoded.{encoded}
+use Rattle.limits.specs.Limits.{taskCount, inputsLength}
+use Rattle.layout.specs.Layout.{decoded, encoded}
 use Rattle.layout.specs.Test.{isState}
 use Rattle.machine.specs.Given.{Inputs}
 use Rattle.machine.specs.Engine.{step}
@@ -36,5 +35,5 @@ stepState image b x = cond (isState b) (handed (step image (decoded b) x)) (refu
 unfoldable pub stepped : List ℕ → List ℕ → Inputs → Stepped
 stepped image b x =
     cond (ltb (x .task) taskCount)
-    (cond (eqb (length (x .levels)) cells) (stepState image b x) (refuse (answerFor None (BadInputs (length (x .levels)))) b))
+    (cond (eqb (length (x .levels)) inputsLength) (stepState image b x) (refuse (answerFor None (BadInputs (length (x .levels)))) b))
     (refuse (answerFor None (NoTask (x .task))) b)

@@ -19,7 +19,7 @@ ghost use Rattle.walk.specs.Verdict.{verdictOf};
 ghost use Rattle.loader.specs.After.{After};
 ghost use Rattle.writer.specs.Writer.{written, outAfter};
 ghost use Rattle.state.specs.Good.{Good};
-ghost use Rattle.layout.specs.Encoded.{encoded};
+ghost use Rattle.layout.specs.Layout.{encoded};
 ghost use Rattle.machine.specs.Given.{inputsOf};
 ghost use Rattle.machine.specs.Engine.{step};
 ghost use Rattle.machine.specs.Theorem.{loaded};
@@ -117,7 +117,7 @@ fn step_buffer(
 {
     let b = lend::copy_in(state);
     let s = reading::decode(&b);
-    if !buffer::unused_zero(&b) {
+    if !buffer::frame_is(&b) {
         return border::no_state();
     }
     if !buffer::state_is(s) {

@@ -12,7 +12,7 @@ ghost use lib.Dec.{eqb};
 ghost use lib.ListN.{length};
 ghost use Rattle.limits.specs.Limits.{mostDepth, cells, stateLength};
 ghost use Rattle.layout.specs.Layout.{unusedLength};
-ghost use Rattle.layout.specs.Test.{allOf, levelIs, entryIs, headerIs, waitIs, taskIs, valuesAre, stateIs, unusedZero, isState};
+ghost use Rattle.layout.specs.Test.{allOf, levelIs, entryIs, headerIs, waitIs, taskIs, valuesAre, stateIs, unusedZero, frameIs, isState};
 
 const FORMAT_1: u8 = image::reader::FORMAT_1 as u8;
 
@@ -25,7 +25,7 @@ pub fn is_state(b: &[u8; STATE_LENGTH]) -> bool
     ensures { λ r. ⌜ r ≡ isState (now (b .entry)) ⌝ }
 {
     let s = reading::decode(b);
-    length_is(b) & (unused_zero(b) & state_is(s))
+    length_is(b) & (frame_is(b) & state_is(s))
 }
 
 fn length_is(b: &[u8]) -> bool
@@ -34,8 +34,15 @@ fn length_is(b: &[u8]) -> bool
     b.len() == STATE_LENGTH
 }
 
+// What is the buffer's own: this release's layout number, and unused bytes 0.
+pub fn frame_is(b: &[u8; STATE_LENGTH]) -> bool
+    ensures { λ r. ⌜ r ≡ frameIs (now (b .entry)) ⌝ }
+{
+    (places::byte(b, layout::LAYOUT_AT) == layout::LAYOUT_NUMBER) & unused_zero(b)
+}
+
 // Whether the unused bytes are 0.
-pub fn unused_zero(b: &[u8; STATE_LENGTH]) -> bool
+fn unused_zero(b: &[u8; STATE_LENGTH]) -> bool
     ensures { λ r. ⌜ r ≡ unusedZero (now (b .entry)) unusedLength ⌝ }
 {
     let mut zero = true;

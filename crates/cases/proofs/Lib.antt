@@ -1,3 +1,4 @@
 pub mod Right
 pub mod Told
 pub mod Example
+pub mod Limits

@@ -3,7 +3,6 @@
 use Prim.Native.Nat.{ℕ}
 use mathlib.Core.List.{List, [], _∷_, map}
 use lib.ListN.{replicate}
-use Rattle.limits.specs.Limits.{cells}
 use Rattle.rows.specs.Rows.{hex}
 use Rattle.point.specs.Fault.{point}
 use Rattle.state.specs.State.{runs}
@@ -34,7 +33,7 @@ program =
 
 -- a step of a task, with all inputs low
 abbrev pub stepOf : ℕ → Inputs
-stepOf t = record { task = t; levels = replicate cells 0; start = 0; reached = 0 }
+stepOf t = record { task = t; levels = replicate 256 0; start = 0; reached = 0 }
 
 -- the tasks that step, in this order; there is no task 3
 abbrev pub order : List ℕ

@@ -1,3 +1,4 @@
 pub mod Images
 pub mod Table
 pub mod Example
+pub mod Limits

@@ -4,7 +4,6 @@ use Prim.Native.Nat.{ℕ}
 use mathlib.Core.List.{List, [], _∷_, map}
 use lib.ListN.{replicate}
 use lib.IntN.{ℤ, pos, negsuc}
-use Rattle.limits.specs.Limits.{bias, cells, marksLength}
 use Rattle.rows.specs.Rows.{hex}
 use Rattle.number.specs.Number.{numberAt}
 use Rattle.number.specs.declared.Number.{Number}
@@ -118,20 +117,20 @@ abbrev pub resultOf : Command → ℤ → ℤ → ℤ
 resultOf c a b = variable (effectOf low c (withVariable 1 a (withVariable 2 b freshValues)) .values) 0
 
 abbrev pub biasStep : ℕ → Inputs
-biasStep start = record { task = 0; levels = replicate cells 0; start = start; reached = 0 }
+biasStep start = record { task = 0; levels = replicate 256 0; start = start; reached = 0 }
 
 abbrev pub standAt : Task → Stand
 standAt k = stand (k .block) (k .time) (k .turns)
 
 -- before and after one more step
 unfoldable pub standings : List ℕ → State → Answer
-standings bytes s = standing (standAt (taskAt s bias)) (standAt (taskAt (step bytes s (biasStep 0) .state) bias))
+standings bytes s = standing (standAt (taskAt s 0)) (standAt (taskAt (step bytes s (biasStep 0) .state) 0))
 
 abbrev pub motionsOf : List Out → List Motion
 motionsOf = map (λ (o : Out). o .motion)
 
 abbrev pub ask : Question → Answer
-ask (verdict bytes) = answerOf (verdictOf bytes marksLength)
+ask (verdict bytes) = answerOf (verdictOf bytes 27000)
 ask (lent n) = answerOf (verdictOf caseA n)
 ask (instead loadedImage lentImage) = stepAnswerOf (step lentImage (loaded loadedImage) (biasStep 0) .answer)
 ask (number bytes) = valueOf (numberAt bytes 0)

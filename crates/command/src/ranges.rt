@@ -1,7 +1,6 @@
 // The ranges of the operands (document 01, refusal 7), by the ranges of a code's row: one small test for each.
 use operands::Command;
 ghost use mathlib.Core.Path.{_≡_};
-ghost use Rattle.limits.specs.Limits.{upTo};
 ghost use Rattle.command.specs.Judged.{levelJump, bitJump, conditionJump, flagRun, axis, stop, rampStop, inRange};
 
 // 0 equal, 1 unequal: the conditions of 61, 6E, 70, 71.

@@ -19,8 +19,7 @@ use Rattle.walk.specs.declared.Verdict.{Verdict}
 use Rattle.walk.specs.declared.Verdict.the-variants as verdict
 use Rattle.walk.proofs.Order.{block-first, then-task, then-depth}
 use Rattle.state.specs.State.{runs, taskAt}
-use Rattle.layout.specs.Decoded.{decoded}
-use Rattle.layout.specs.Encoded.{encoded}
+use Rattle.layout.specs.Layout.{decoded, encoded}
 use Rattle.layout.specs.Test.{isState}
 use Rattle.machine.specs.Given.{Inputs}
 use Rattle.machine.specs.Engine.{step, blockFits}

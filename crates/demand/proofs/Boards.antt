@@ -32,7 +32,7 @@ use Rattle.walk.specs.Verdict.{verdictNumber}
 use Rattle.walk.specs.declared.Verdict.{Verdict}
 use Rattle.walk.specs.declared.Verdict.the-variants as verdict
 use Rattle.state.specs.State.{taskAt}
-use Rattle.layout.specs.Decoded.{decoded}
+use Rattle.layout.specs.Layout.{decoded}
 use Rattle.machine.specs.Given.{Inputs}
 use Rattle.machine.specs.Engine.{pointOf, fits}
 use Rattle.machine.specs.Numbers.{causeNumber}

@@ -9,7 +9,7 @@ use mathlib.Core.List.{List}
 use lib.Dec.{eqb}
 use lib.ListN.{length, set}
 use borrow.Author.Tests.{lt-ltb, eq-eqb, ne-eqb, eqb-true, eqb-false}
-use Rattle.limits.specs.Limits.{taskCount, cells}
+use Rattle.limits.specs.Limits.{taskCount, inputsLength}
 use Rattle.le.specs.LittleEndian.{Bytes}
 use Rattle.number.proofs.Choice.{clash, both}
 use Rattle.image.specs.Scan.{blocksOf}
@@ -21,8 +21,7 @@ use Rattle.state.specs.Good.{Good, GoodWait}
 use Rattle.state.specs.declared.Task.{Task}
 use Rattle.state.specs.declared.Values.{Values}
 use Rattle.state.specs.declared.State.{State}
-use Rattle.layout.specs.Decoded.{decoded}
-use Rattle.layout.specs.Encoded.{encoded}
+use Rattle.layout.specs.Layout.{decoded, encoded}
 use Rattle.layout.specs.Test.{isState}
 use Rattle.layout.proofs.Round.{state-good, encode-decode, good-state}
 use Rattle.machine.specs.Given.{Inputs}
@@ -112,7 +111,7 @@ module _ (image b : List ℕ) (x : Inputs) where
     to-task h =
         of-buffer image b x (h .asked .task) (h .asked .levels)
         ∙ of-state image b x (h .state)
-        ∙ ap handed (rw (lt-ltb (x .task) taskCount (h .asked .task), eq-eqb (length (x .levels)) cells (h .asked .levels)))
+        ∙ ap handed (rw (lt-ltb (x .task) taskCount (h .asked .task), eq-eqb (length (x .levels)) inputsLength (h .asked .levels)))
 
     -- refused by 18 or 17: the state is put back as it was
     put-back : Held b x → (a : Answer) → taskStep image s x k ≡ engine.refuse s a → Gives (answerFor None a) b

@@ -26,7 +26,7 @@ use Rattle.walk.specs.Verdict.{verdictNumber, verdictOf, isAccepted}
 use Rattle.walk.specs.declared.Verdict.{Verdict}
 use Rattle.walk.specs.declared.Verdict.the-variants as verdict
 use Rattle.walk.proofs.Judged.{verdict-judges, exactly}
-use Rattle.layout.specs.Encoded.{encoded}
+use Rattle.layout.specs.Layout.{encoded}
 use Rattle.machine.specs.Theorem.{loaded}
 use Rattle.border.specs.Border.{verdictFor}
 use Rattle.border.specs.declared.BiasVerdict.{BiasVerdict}

@@ -6,7 +6,7 @@ use mathlib.Core.Bool.{true, false}
 use mathlib.Core.List.{List, [], _∷_}
 use lib.Dec.{eqb, ltb}
 use lib.ListN.{length, getD}
-use Rattle.limits.specs.Limits.{taskCount, cells}
+use Rattle.limits.specs.Limits.{taskCount, inputsLength}
 use Rattle.le.specs.LittleEndian.{Bytes}
 use Rattle.number.proofs.Choice.{clash, either}
 use Rattle.image.specs.Scan.{headerOf, blocksOf}
@@ -18,8 +18,7 @@ use Rattle.walk.specs.declared.Verdict.the-variants as verdict
 use Rattle.state.specs.State.{runs, taskAt}
 use Rattle.state.specs.Good.{Good}
 use Rattle.state.specs.declared.State.{State}
-use Rattle.layout.specs.Decoded.{decoded}
-use Rattle.layout.specs.Encoded.{encoded}
+use Rattle.layout.specs.Layout.{decoded, encoded}
 use Rattle.layout.specs.Test.{isState}
 use Rattle.layout.proofs.Round.{decode-encode, good-state}
 use Rattle.machine.specs.Given.{Inputs, level}
@@ -82,7 +81,7 @@ pub refused-stays : (image : List ℕ) (s : State) (x : Inputs) → refused (ste
 unfolding step taskStep performed
 refused-stays image s x =
     either Stays (ltb (x .task) taskCount)
-    (either Stays (eqb (length (x .levels)) cells)
+    (either Stays (eqb (length (x .levels)) inputsLength)
     (either Stays (eqb (taskAt s (x .task) .status) runs)
     (either Stays (fits image (s .header) (x .task) (taskAt s (x .task))) (λ r. clash (sym r ∙ not-refused (effect .outcome) (pointOf (x .task) (taskAt s (x .task))))) (λ r. refl))
     (λ r. refl))

@@ -6,13 +6,12 @@ use mathlib.Core.Bool.{true, false}
 use mathlib.Core.Logic.{_↔_}
 use mathlib.Core.List.{List}
 use lib.ListN.{length, set}
-use Rattle.limits.specs.Limits.{taskCount, cells}
+use Rattle.limits.specs.Limits.{taskCount, inputsLength}
 use Rattle.le.specs.LittleEndian.{Bytes}
 use Rattle.state.specs.State.{runs, halted, task, taskAt}
 use Rattle.state.specs.declared.Task.{Task}
 use Rattle.state.specs.declared.State.{State}
-use Rattle.layout.specs.Decoded.{decoded}
-use Rattle.layout.specs.Encoded.{encoded}
+use Rattle.layout.specs.Layout.{decoded, encoded}
 use Rattle.layout.specs.Test.{isState}
 use Rattle.machine.specs.Given.{Inputs}
 use Rattle.machine.specs.Engine.{pointOf, noted, fits, carriedOut}
@@ -43,7 +42,7 @@ haltedState s x = record {
 -- 15 lets the step pass
 pub record Asked (x : Inputs) : Type 0 where
   pub task : x .task < taskCount
-  pub levels : length (x .levels) ≡ cells
+  pub levels : length (x .levels) ≡ inputsLength
 
 -- and so does 16
 pub record Held (b : List ℕ) (x : Inputs) : Type 0 where
@@ -70,7 +69,7 @@ pub data Way (image b : List ℕ) (x : Inputs) : BiasAnswer → List ℕ → Typ
   -- 15: there is no such task
   noTask : taskCount ≤ x .task → Way image b x (answerFor None (NoTask (x .task))) b
   -- 15: the input levels have another length
-  badInputs : x .task < taskCount → (length (x .levels) ≡ cells → ⊥) → Way image b x (answerFor None (BadInputs (length (x .levels)))) b
+  badInputs : x .task < taskCount → (length (x .levels) ≡ inputsLength → ⊥) → Way image b x (answerFor None (BadInputs (length (x .levels)))) b
   -- 16
   noState : Asked x → isState b ≡ false → Way image b x noStateAnswer b
   -- 18

@@ -15,8 +15,7 @@ use Rattle.walk.specs.Says.{BadAt, ForeignAt, NoForeign, BlockPasses, Judges}
 use Rattle.walk.specs.declared.Verdict.{Verdict}
 use Rattle.walk.specs.declared.Verdict.the-variants.{MarksShort}
 use Rattle.state.specs.State.{runs, taskAt}
-use Rattle.layout.specs.Decoded.{decoded}
-use Rattle.layout.specs.Encoded.{encoded}
+use Rattle.layout.specs.Layout.{decoded, encoded}
 use Rattle.layout.specs.Test.{isState}
 use Rattle.machine.specs.Given.{Inputs}
 use Rattle.machine.specs.Engine.{step}

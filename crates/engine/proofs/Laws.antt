@@ -6,7 +6,7 @@ use mathlib.Core.List.{List, []}
 use native.Mathlib.Omega.{arith}
 use lib.ListN.{length}
 use borrow.Author.Tests.{eq-eqb, ne-eqb, lt-ltb, le-ltb}
-use Rattle.limits.specs.Limits.{taskCount, mostBlocks, mostDepth, cells}
+use Rattle.limits.specs.Limits.{taskCount, mostBlocks, mostDepth, inputsLength}
 use Rattle.operands.specs.declared.Command.{Command}
 use Rattle.state.specs.State.{runs, taskAt}
 use Rattle.state.specs.Good.{Good}
@@ -72,10 +72,10 @@ module _ (image : List ℕ) (s : State) (x : Inputs) where
   unfolding step
   no-task l = rw (le-ltb (x .task) taskCount l) refl
 
-  pub bad-inputs : x .task < taskCount → (length (x .levels) ≡ cells → ⊥) → refuse s (BadInputs (length (x .levels))) ≡ step image s x
+  pub bad-inputs : x .task < taskCount → (length (x .levels) ≡ inputsLength → ⊥) → refuse s (BadInputs (length (x .levels))) ≡ step image s x
   unfolding step
-  bad-inputs l n = rw (lt-ltb (x .task) taskCount l, ne-eqb (length (x .levels)) cells n) refl
+  bad-inputs l n = rw (lt-ltb (x .task) taskCount l, ne-eqb (length (x .levels)) inputsLength n) refl
 
-  pub of-task : x .task < taskCount → length (x .levels) ≡ cells → taskStep image s x (taskAt s (x .task)) ≡ step image s x
+  pub of-task : x .task < taskCount → length (x .levels) ≡ inputsLength → taskStep image s x (taskAt s (x .task)) ≡ step image s x
   unfolding step
-  of-task l e = rw (lt-ltb (x .task) taskCount l, eq-eqb (length (x .levels)) cells e) refl
+  of-task l e = rw (lt-ltb (x .task) taskCount l, eq-eqb (length (x .levels)) inputsLength e) refl

@@ -12,7 +12,9 @@ use Rattle.state.specs.declared.Task.{Task}
 use Rattle.state.proofs.Bounds.{wait-fits}
 
 -- the numbers of a task fit their bytes
-pub record Fits (k : Task) : Type 0 where
+pub record TaskFits (k : Task) : Type 0 where
+  pub status : k .status < 256
+  pub depth : k .depth < 256
   pub block : k .block < 65536
   pub start : k .start < 65536
   pub long : length (k .stack) ≡ mostDepth
@@ -20,13 +22,17 @@ pub record Fits (k : Task) : Type 0 where
   pub time : k .time < 4294967296
   pub turns : k .turns < 4294967296
 
-pub task-fits : (h : Header) (k : Task) → GoodHeader h → GoodTask h k → Fits k
+pub task-fits : (h : Header) (k : Task) → GoodHeader h → GoodTask h k → TaskFits k
 task-fits h k g t =
     let n = g .count .1 in
     let a = t .block in
     let b = t .start in
     let w = wait-fits (h .drive .model) (k .time) (k .turns) (g .model) (t .wait) in
+    let s = t .status in
+    let d = t .depth in
     record {
+      status = omega arith;
+      depth = omega arith;
       block = omega arith;
       start = omega arith;
       long = t .long;

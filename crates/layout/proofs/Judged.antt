@@ -13,7 +13,7 @@ use borrow.Author.Count.{below-more}
 use borrow.Author.Tests.{ltb-true, leb-true, eqb-true, not-true, lt-ltb, le-leb, eq-eqb}
 use mir.Syntax.{w32}
 use mir.Val.{SFits}
-use Rattle.limits.specs.Limits.{bias, plc, mathematics, taskCount, mostDepth, cells, mostLevel, mostSpeed, mostRamp, longest, upTo}
+use Rattle.limits.specs.Limits.{bias, plc, mathematics, taskCount, mostBlocks, mostDepth, cells, mostLevel, mostSpeed, mostRamp, longest, upTo}
 use Rattle.drive.specs.Types.{types, takesB, takesC}
 use Rattle.image.specs.Good.{Good as GoodHeader}
 use Rattle.image.specs.Rows.{format1, countInRange}
@@ -65,7 +65,7 @@ header-judged h g =
       g .boardB,
       g .boardC,
       lt-ltb 0 (h .count) (g .count .0),
-      le-leb (h .count) 1500 (g .count .1),
+      le-leb (h .count) mostBlocks (g .count .1),
       lt-ltb (h .start) (h .count) (g .start),
     )
 

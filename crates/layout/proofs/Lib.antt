@@ -1,7 +1,5 @@
-pub mod Sizes
-pub mod Stretches
-pub mod Reading
-pub mod Writing
 pub mod Bounds
+pub mod Codecs
+pub mod Buffer
 pub mod Judged
 pub mod Round

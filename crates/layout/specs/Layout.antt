@@ -1,57 +1,109 @@
--- The places of the state buffer (docs/STATE.md): each stretch stands behind the one before it. Assumes nothing.
+-- The state buffer (docs/STATE.md): its sections, one line for each, in the same order in `lengths` and in `sections`; a state's bytes; and the state that a
+-- buffer holds. Every buffer is read as some state; 16 (specs/Test.antt) says which are one. Assumes nothing.
 use Prim.Native.Nat.{ℕ, _+_, _-_, _*_}
-use Rattle.limits.specs.Limits.{taskCount, mostDepth, cells, stateLength}
+use mathlib.Core.List.{List, [], _∷_}
+use lib.ListN.{getD}
+use Rattle.limits.specs.Limits.{bias, plc, mathematics, stateLength}
+use Rattle.sections.specs.Sections.{total, offset, filled}
+use Rattle.state.specs.State.{taskAt}
+use Rattle.state.specs.declared.Values.{Values}
+use Rattle.state.specs.declared.State.{State}
+use Rattle.layout.specs.Codecs.{variablesLength, variableBytes, variablesIn, levelsLength, levelsIn, layoutWidths, layoutBytes}
+use Rattle.layout.specs.Codecs.{headerWidths, headerBytes, headerIn, motionWidths, motionBytes, axisIn, markIn, notesWidths, notesBytes, notesIn}
+use Rattle.layout.specs.Codecs.{startWidths, startBytes, startsIn, taskLength, taskBytes, taskIn}
 
--- a variable has four bytes, a flag and an output one each
+abbrev pub lengths : List ℕ
+lengths =
+    variablesLength
+    ∷ levelsLength
+    ∷ levelsLength
+    ∷ total layoutWidths
+    ∷ total headerWidths
+    ∷ total motionWidths
+    ∷ total notesWidths
+    ∷ total startWidths
+    ∷ taskLength
+    ∷ taskLength
+    ∷ taskLength
+    ∷ []
+
+abbrev pub sections : State → List (List ℕ)
+sections s =
+    variableBytes (s .values .variables)
+    ∷ s .values .flags
+    ∷ s .values .outputs
+    ∷ layoutBytes
+    ∷ headerBytes (s .header)
+    ∷ motionBytes (s .values .axis) (s .values .mark)
+    ∷ notesBytes (s .values .notes)
+    ∷ startBytes s
+    ∷ taskBytes (taskAt s bias)
+    ∷ taskBytes (taskAt s plc)
+    ∷ taskBytes (taskAt s mathematics)
+    ∷ []
+
+-- ---- their places
+
 abbrev pub variablesAt : ℕ
-variablesAt = 0
+variablesAt = offset lengths 0
 
 abbrev pub flagsAt : ℕ
-flagsAt = variablesAt + 4 * cells
+flagsAt = offset lengths 1
 
 abbrev pub outputsAt : ℕ
-outputsAt = flagsAt + cells
+outputsAt = offset lengths 2
 
--- the header: format, type, slot B, slot C, a byte each; start, count, two bytes each
+abbrev pub layoutAt : ℕ
+layoutAt = offset lengths 3
+
 abbrev pub headerAt : ℕ
-headerAt = outputsAt + cells
+headerAt = offset lengths 4
 
-abbrev pub headerLength : ℕ
-headerLength = 8
+abbrev pub motionAt : ℕ
+motionAt = offset lengths 5
 
--- position, four bytes; speed, acceleration, deceleration, two each; start mark, preceding start level, one each
-abbrev pub axisAt : ℕ
-axisAt = headerAt + headerLength
+abbrev pub notesAt : ℕ
+notesAt = offset lengths 6
 
-abbrev pub axisLength : ℕ
-axisLength = 12
-
--- the start blocks of the PLC and of mathematics, two bytes each
 abbrev pub startsAt : ℕ
-startsAt = axisAt + axisLength
+startsAt = offset lengths 7
 
-abbrev pub startsLength : ℕ
-startsLength = 4
-
--- a task: status, depth, a byte each; block; the call stack; T and k, four bytes each
 abbrev pub tasksAt : ℕ
-tasksAt = startsAt + startsLength
-
-abbrev pub stackAt : ℕ
-stackAt = 4
-
-abbrev pub timeAt : ℕ
-timeAt = stackAt + 2 * mostDepth
-
-abbrev pub taskLength : ℕ
-taskLength = timeAt + 8
+tasksAt = offset lengths 8
 
 abbrev pub taskPlace : ℕ → ℕ
 taskPlace t = tasksAt + taskLength * t
 
--- unused, 0
+-- the bytes behind them are unused
 abbrev pub unusedAt : ℕ
-unusedAt = tasksAt + taskLength * taskCount
+unusedAt = total lengths
 
 abbrev pub unusedLength : ℕ
 unusedLength = stateLength - unusedAt
+
+-- ---- the buffer of a state
+
+unfoldable pub encoded : State → List ℕ
+encoded s = filled stateLength lengths (sections s)
+
+-- ---- the state of a buffer
+
+abbrev pub valuesIn : List ℕ → Values
+valuesIn b = record {
+  variables = variablesIn b variablesAt;
+  flags = levelsIn b flagsAt;
+  outputs = levelsIn b outputsAt;
+  axis = axisIn b motionAt;
+  mark = markIn b motionAt;
+  notes = notesIn b notesAt;
+}
+
+unfoldable pub decoded : List ℕ → State
+decoded b = record {
+  values = valuesIn b;
+  header = headerIn b headerAt;
+  tasks = taskIn b (taskPlace bias) (headerIn b headerAt .start)
+      ∷ taskIn b (taskPlace plc) (getD (startsIn b startsAt) 0 0)
+      ∷ taskIn b (taskPlace mathematics) (getD (startsIn b startsAt) 1 0)
+      ∷ [];
+}

@@ -1,4 +1,3 @@
+pub mod Codecs
 pub mod Layout
-pub mod Decoded
-pub mod Encoded
 pub mod Test

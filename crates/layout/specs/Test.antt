@@ -1,5 +1,5 @@
--- 16: which buffers are a state (docs/STATE.md). The tests are made of the state that the buffer is read as; only its length and its unused
--- bytes are the buffer's own. Assumes nothing.
+-- 16: which buffers are a state (docs/STATE.md). The tests are made of the state that the buffer is read as; only its length, its layout number and its
+-- unused bytes are the buffer's own. Assumes nothing.
 use Prim.Native.Nat.{ℕ, zero, suc, _+_}
 use mathlib.Core.Bool.{Bool, true, _&&_, _||_, not}
 use mathlib.Core.List.{List}
@@ -14,8 +14,9 @@ use Rattle.state.specs.Wait.{due}
 use Rattle.state.specs.declared.Task.{Task}
 use Rattle.state.specs.declared.Values.{Values}
 use Rattle.state.specs.declared.State.{State}
-use Rattle.layout.specs.Layout.{unusedAt, unusedLength}
-use Rattle.layout.specs.Decoded.{decoded}
+use Rattle.places.specs.Places.{numberAt}
+use Rattle.layout.specs.Codecs.{layoutNumber}
+use Rattle.layout.specs.Layout.{layoutAt, unusedAt, unusedLength, decoded}
 
 -- each of the first n of a list passes a test of its place and content
 unfoldable pub allOf : (ℕ → ℕ → Bool) → List ℕ → ℕ → Bool
@@ -57,5 +58,13 @@ unfoldable pub unusedZero : List ℕ → ℕ → Bool
 unusedZero b zero = true
 unusedZero b (suc n) = unusedZero b n && eqb (getD b (unusedAt + n) 0) 0
 
+-- its layout number is this release's
+abbrev pub layoutIs : List ℕ → Bool
+layoutIs b = eqb (numberAt 1 b layoutAt) layoutNumber
+
+-- what is the buffer's own: its layout number and its unused bytes
+unfoldable pub frameIs : List ℕ → Bool
+frameIs b = layoutIs b && unusedZero b unusedLength
+
 unfoldable pub isState : List ℕ → Bool
-isState b = eqb (length b) stateLength && (unusedZero b unusedLength && stateIs (decoded b))
+isState b = eqb (length b) stateLength && (frameIs b && stateIs (decoded b))

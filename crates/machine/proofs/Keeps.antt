@@ -9,7 +9,7 @@ use lib.Dec.{eqb, ltb}
 use lib.ListN.{length, getD, set, drop, length-set}
 use lib.Seq.{getD-set-same, getD-set-other, getD-drop}
 use borrow.Author.Tests.{eqb-true, eqb-false, leb-false, ltb-true}
-use Rattle.limits.specs.Limits.{bias, taskCount, mostDepth, cells}
+use Rattle.limits.specs.Limits.{bias, taskCount, mostDepth, inputsLength}
 use Rattle.le.specs.LittleEndian.{Bytes}
 use Rattle.outcome.specs.Outcome.{done}
 use Rattle.image.specs.Scan.{headerOf, blocksOf}
@@ -319,7 +319,7 @@ pub keeps-good : KeepsGood
 unfolding step taskStep
 keeps-good image bytes s g x =
     either (ltb (x .task) taskCount) _ _
-    (λ i. either (eqb (length (x .levels)) cells) _ _
+    (λ i. either (eqb (length (x .levels)) inputsLength) _ _
     (λ _. either (eqb (taskAt s (x .task) .status) runs) _ _
     (λ j. either (fits image (s .header) (x .task) (taskAt s (x .task))) _ _
     (λ f. performed-good image bytes s g x (ltb-true _ _ i) (eqb-true _ _ j) f)

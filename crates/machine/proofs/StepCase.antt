@@ -8,7 +8,7 @@ use native.Mathlib.Omega.{arith}
 use lib.Dec.{T, eqb, ltb}
 use lib.ListN.{length, getD}
 use borrow.Author.Tests.{eqb-true, eqb-false, eq-eqb, ne-eqb, not-true, ltb-true, ltb-false, lt-ltb, le-ltb}
-use Rattle.limits.specs.Limits.{taskCount, cells}
+use Rattle.limits.specs.Limits.{taskCount, inputsLength}
 use Rattle.image.specs.Scan.{headerOf, blocksOf}
 use Rattle.image.specs.declared.Header.{Header}
 use Rattle.rows.specs.Rows.{rows, rowIn, rowOf, noRow}
@@ -210,7 +210,7 @@ module _ (image : List ℕ) where
         ran-here ok s m g x l (eqb-true _ runs e) (i ∙ rw (e, fits-here ok s m g x l (eqb-true _ runs e))) j
     running-case l false e i j = Case.refused NotRunning refl (i ∙ rw e) j
 
-    inputs-case : (l : x .task < taskCount) (a : Bool) → eqb (length (x .levels)) cells ≡ a
+    inputs-case : (l : x .task < taskCount) (a : Bool) → eqb (length (x .levels)) inputsLength ≡ a
         → step image s x ≡ cond a (taskStep image s x (taskAt s (x .task))) (refuse s (BadInputs (length (x .levels))))
         → turn image m x ≡ cond a (cond (threadOf m x .runs) (acts image m x (threadOf m x)) (stays m NotRunning)) (stays m (BadInputs (length (x .levels)))) → Case s m x
     inputs-case l true e i j = running-case l (eqb (taskAt s (x .task) .status) runs) refl i (j ∙ rw (g .both .same (x .task) l .running) refl)
@@ -223,6 +223,6 @@ module _ (image : List ℕ) where
         go : (a : Bool) → ltb (x .task) taskCount ≡ a → Case s m x
         go true e =
             let l = ltb-true (x .task) taskCount e in
-            let i : step image s x ≡ cond (eqb (length (x .levels)) cells) (taskStep image s x (taskAt s (x .task))) (refuse s (BadInputs (length (x .levels)))) = rw e in
-            inputs-case l (eqb (length (x .levels)) cells) refl i (rw (le-ltb 2 (x .task) (omega arith)))
+            let i : step image s x ≡ cond (eqb (length (x .levels)) inputsLength) (taskStep image s x (taskAt s (x .task))) (refuse s (BadInputs (length (x .levels)))) = rw e in
+            inputs-case l (eqb (length (x .levels)) inputsLength) refl i (rw (le-ltb 2 (x .task) (omega arith)))
         go false e = let l = ltb-false (x .task) taskCount e in Case.refused (NoTask (x .task)) refl (rw e) (rw (lt-ltb 2 (x .task) (omega arith)))

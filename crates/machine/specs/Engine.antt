@@ -5,7 +5,7 @@ use mathlib.Core.Bool.{Bool, _&&_, _||_, not, cond}
 use mathlib.Core.List.{List}
 use lib.Dec.{eqb, ltb}
 use lib.ListN.{length, getD, set}
-use Rattle.limits.specs.Limits.{bias, taskCount, cells}
+use Rattle.limits.specs.Limits.{bias, taskCount, inputsLength}
 use Rattle.outcome.specs.Outcome.{done}
 use Rattle.image.specs.Scan.{headerOf, blocksOf}
 use Rattle.image.specs.declared.Header.{Header}
@@ -155,5 +155,5 @@ taskStep image s x k =
 unfoldable pub step : List ℕ → State → Inputs → Out
 step image s x =
     cond (ltb (x .task) taskCount)
-    (cond (eqb (length (x .levels)) cells) (taskStep image s x (taskAt s (x .task))) (refuse s (BadInputs (length (x .levels)))))
+    (cond (eqb (length (x .levels)) inputsLength) (taskStep image s x (taskAt s (x .task))) (refuse s (BadInputs (length (x .levels)))))
     (refuse s (NoTask (x .task)))

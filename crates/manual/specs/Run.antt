@@ -6,6 +6,7 @@ use lib.Dec.{eqb}
 use lib.ListN.{length, getD, set, replicate, take, drop}
 use Rattle.limits.specs.Limits.{cells, marksLength, stateLength}
 use Rattle.bytes.specs.Bytes.{indexOf}
+use Rattle.le.specs.LittleEndian.{leBytes}
 use Rattle.places.specs.Places.{numberAt, puts}
 use Rattle.machine.specs.Given.{Inputs, inputsOf}
 use Rattle.report.specs.Input.{inputLength}
@@ -33,7 +34,7 @@ repeated image x (suc n) b = stepped image (repeated image x n b) x .buffer
 
 -- the buffer with a byte put into it, as no firmware may do: the record has the place, low byte first, and the byte
 unfoldable pub withByte : List ℕ → ℕ → List ℕ → List ℕ
-withByte steps at b = puts b (numberAt 2 steps (at + 1)) (getD steps (at + 3) 0 ∷ [])
+withByte steps at b = puts b (numberAt 2 steps (at + 1)) (leBytes 1 (getD steps (at + 3) 0))
 
 -- after the record at a place: steps, or for none of them a byte put
 unfoldable pub recorded : List ℕ → List ℕ → ℕ → List ℕ → List ℕ

@@ -1,4 +1,4 @@
-// A buffer read as a state, stretch by stretch.
+// A buffer read as a state, section by section.
 use drive::Drive;
 use image::Header;
 use limits::STATE_LENGTH;
@@ -11,9 +11,9 @@ use state::Task;
 use state::Values;
 ghost use mathlib.Core.Path.{_≡_};
 ghost use Prim.Native.Nat.{_+_, _*_, _≤_};
-ghost use Rattle.limits.specs.Limits.{mostDepth, cells, stateLength};
-ghost use Rattle.layout.specs.Layout.{taskLength};
-ghost use Rattle.layout.specs.Decoded.{variablesIn, levelsIn, headerIn, axisIn, valuesIn, stackIn, taskIn, decoded};
+ghost use Rattle.limits.specs.Limits.{mostDepth, stateLength};
+ghost use Rattle.layout.specs.Codecs.{variablesLength, variablesIn, levelsLength, levelsIn, headerIn, axisIn, stackIn, taskLength, taskIn};
+ghost use Rattle.layout.specs.Layout.{headerAt, motionAt, valuesIn, decoded};
 
 // The state that a buffer holds.
 pub fn decode(b: &[u8; STATE_LENGTH]) -> State
@@ -43,30 +43,31 @@ pub fn decode(b: &[u8; STATE_LENGTH]) -> State
 fn values_in(b: &[u8; STATE_LENGTH]) -> Values
     ensures { λ r. ⌜ r ≡ valuesIn (now (b .entry)) ⌝ }
 {
-    let variables = variables_in(b);
+    let variables = variables_in(b, layout::VARIABLES_AT);
     let flags = levels_in(b, layout::FLAGS_AT as usize);
     let outputs = levels_in(b, layout::OUTPUTS_AT as usize);
     let axis = axis_in(b);
     let notes = Notes {
-        level: places::byte(b, layout::AXIS_AT + 11),
+        level: places::byte(b, layout::NOTES_AT),
     };
     Values {
         variables: variables,
         flags: flags,
         outputs: outputs,
         axis: axis,
-        mark: places::byte(b, layout::AXIS_AT + 10),
+        mark: places::byte(b, layout::MOTION_AT + 10),
         notes: notes,
     }
 }
 
-fn variables_in(b: &[u8; STATE_LENGTH]) -> [i32; CELLS]
-    ensures { λ r. ⌜ r ≡ variablesIn (now (b .entry)) ⌝ }
+fn variables_in(b: &[u8; STATE_LENGTH], at: u16) -> [i32; CELLS]
+    requires { ⌜ at + variablesLength ≤ stateLength ⌝ }
+    ensures { λ r. ⌜ r ≡ variablesIn (now (b .entry)) at ⌝ }
 {
     let mut r = [0i32; CELLS];
     let mut k: usize = 0;
     while k < CELLS {
-        r[k] = places::signed(b, layout::VARIABLES_AT + 4 * (k as u16));
+        r[k] = places::signed(b, at + 4 * (k as u16));
         k += 1;
     }
     r
@@ -74,7 +75,7 @@ fn variables_in(b: &[u8; STATE_LENGTH]) -> [i32; CELLS]
 
 // Flags, or outputs.
 fn levels_in(b: &[u8; STATE_LENGTH], at: usize) -> [u8; CELLS]
-    requires { ⌜ at + cells ≤ stateLength ⌝ }
+    requires { ⌜ at + levelsLength ≤ stateLength ⌝ }
     ensures { λ r. ⌜ r ≡ levelsIn (now (b .entry)) at ⌝ }
 {
     let mut r = [0u8; CELLS];
@@ -87,7 +88,7 @@ fn levels_in(b: &[u8; STATE_LENGTH], at: usize) -> [u8; CELLS]
 }
 
 fn header_in(b: &[u8; STATE_LENGTH]) -> Header
-    ensures { λ r. ⌜ r ≡ headerIn (now (b .entry)) ⌝ }
+    ensures { λ r. ⌜ r ≡ headerIn (now (b .entry)) headerAt ⌝ }
 {
     let drive = Drive {
         model: places::byte(b, layout::HEADER_AT + 1),
@@ -103,13 +104,13 @@ fn header_in(b: &[u8; STATE_LENGTH]) -> Header
 }
 
 fn axis_in(b: &[u8; STATE_LENGTH]) -> Axis
-    ensures { λ r. ⌜ r ≡ axisIn (now (b .entry)) ⌝ }
+    ensures { λ r. ⌜ r ≡ axisIn (now (b .entry)) motionAt ⌝ }
 {
     Axis {
-        position: places::signed(b, layout::AXIS_AT),
-        speed: places::word(b, layout::AXIS_AT + 4),
-        acceleration: places::word(b, layout::AXIS_AT + 6),
-        deceleration: places::word(b, layout::AXIS_AT + 8),
+        position: places::signed(b, layout::MOTION_AT),
+        speed: places::word(b, layout::MOTION_AT + 4),
+        acceleration: places::word(b, layout::MOTION_AT + 6),
+        deceleration: places::word(b, layout::MOTION_AT + 8),
     }
 }
 
@@ -126,7 +127,7 @@ fn task_in(b: &[u8; STATE_LENGTH], at: u16, start: u16) -> Task
         depth: places::byte(b, at + 1),
         stack: stack,
         time: places::long(b, at + layout::TIME_AT),
-        turns: places::long(b, at + layout::TIME_AT + 4),
+        turns: places::long(b, at + layout::TURNS_AT),
     }
 }
 

@@ -1,4 +1,4 @@
--- Nothing is told as changed exactly where every byte but the header's and the unused ones is the same. Assumes nothing.
+-- Nothing is told as changed exactly where every byte but the layout number's, the header's and the unused ones is the same. Assumes nothing.
 use Prim.Native.Nat.{ℕ, zero, suc, _+_, _*_, _<_, _≤_}
 use native.Mathlib.Omega.{arith}
 use mathlib.Core.Path.{_≡_, refl}
@@ -9,7 +9,8 @@ use lib.Dec.{eqb, leb}
 use borrow.Author.Tests.{eq-eqb, eqb-true, leb-true}
 use Rattle.limits.specs.Limits.{bias, plc, mathematics, cells}
 use Rattle.number.proofs.Choice.{by, both}
-use Rattle.layout.specs.Layout.{variablesAt, flagsAt, outputsAt, headerAt, axisAt, startsAt, tasksAt, taskLength, taskPlace, unusedAt}
+use Rattle.layout.specs.Codecs.{taskLength}
+use Rattle.layout.specs.Layout.{variablesAt, flagsAt, outputsAt, layoutAt, motionAt, notesAt, startsAt, tasksAt, taskPlace, unusedAt}
 use Rattle.trace.specs.Changes.{same, sameCells, sameAxis, sameStarts, unchanged}
 
 pub and : {a b : Bool} → a ≡ true → b ≡ true → (a && b) ≡ true
@@ -64,21 +65,21 @@ module _ (a b : List ℕ) where
   pub split : (at n to : ℕ) (t : Bool) → ((same a b at n && t) ≡ true) → (t ≡ true → Equal (at + n) to) → Equal at to
   split at n to t e f = let h = both (same a b at n) t e in joined at (at + n) to (same-equal at n (h .0)) (f (h .1))
 
-  pub axis-equal : sameAxis a b ≡ true → Equal axisAt startsAt
+  pub axis-equal : sameAxis a b ≡ true → Equal motionAt startsAt
   unfolding sameAxis
   axis-equal t =
-      split axisAt 4 startsAt _ t (λ t.
-      split (axisAt + 4) 2 startsAt _ t (λ t.
-      split (axisAt + 6) 2 startsAt _ t (λ t.
-      split (axisAt + 8) 2 startsAt _ t (λ t.
-      split (axisAt + 10) 1 startsAt _ t (λ t. same-equal (axisAt + 11) 1 t)))))
+      split motionAt 4 startsAt _ t (λ t.
+      split (motionAt + 4) 2 startsAt _ t (λ t.
+      split (motionAt + 6) 2 startsAt _ t (λ t.
+      split (motionAt + 8) 2 startsAt _ t (λ t.
+      split (motionAt + 10) 1 startsAt _ t (λ t. same-equal notesAt 1 t)))))
 
   pub starts-equal : sameStarts a b ≡ true → Equal startsAt tasksAt
   unfolding sameStarts
   starts-equal t = split startsAt 2 tasksAt _ t (λ t. same-equal (startsAt + 2) 2 t)
 
   -- where nothing is told as changed, the bytes are the same
-  pub unchanged-equal : unchanged a b ≡ true → Equal variablesAt headerAt × Equal axisAt unusedAt
+  pub unchanged-equal : unchanged a b ≡ true → Equal variablesAt layoutAt × Equal motionAt unusedAt
   unfolding unchanged
   unchanged-equal t =
       let v = both (sameCells a b variablesAt 4 cells) _ t in
@@ -86,25 +87,25 @@ module _ (a b : List ℕ) where
       let o = both (sameCells a b outputsAt 1 cells) _ (f .1) in
       let x = both (sameAxis a b) _ (o .1) in
       let s = both (sameStarts a b) _ (x .1) in (
-        joined variablesAt flagsAt headerAt (cells-equal variablesAt 4 cells (v .0))
-            (joined flagsAt outputsAt headerAt (cells-equal flagsAt 1 cells (f .0)) (cells-equal outputsAt 1 cells (o .0))),
-        joined axisAt startsAt unusedAt (axis-equal (x .0))
+        joined variablesAt flagsAt layoutAt (cells-equal variablesAt 4 cells (v .0))
+            (joined flagsAt outputsAt layoutAt (cells-equal flagsAt 1 cells (f .0)) (cells-equal outputsAt 1 cells (o .0))),
+        joined motionAt startsAt unusedAt (axis-equal (x .0))
             (joined startsAt tasksAt unusedAt (starts-equal (s .0))
             (split (taskPlace bias) taskLength unusedAt _ (s .1) (λ t. split (taskPlace plc) taskLength unusedAt _ t (λ t. same-equal (taskPlace mathematics) taskLength t)))),
       )
 
   -- and where they are the same, nothing is told
-  pub equal-unchanged : Equal variablesAt headerAt → Equal axisAt unusedAt → unchanged a b ≡ true
+  pub equal-unchanged : Equal variablesAt layoutAt → Equal motionAt unusedAt → unchanged a b ≡ true
   unfolding unchanged sameAxis sameStarts
   equal-unchanged e f =
       and (equal-cells variablesAt 4 cells (λ i l h. e i (omega arith) (omega arith)))
       (and (equal-cells flagsAt 1 cells (λ i l h. e i (omega arith) (omega arith)))
       (and (equal-cells outputsAt 1 cells (λ i l h. e i (omega arith) (omega arith)))
-      (and (and (one axisAt 4 refl) (and (one (axisAt + 4) 2 refl) (and (one (axisAt + 6) 2 refl) (and (one (axisAt + 8) 2 refl) (and (one (axisAt + 10) 1 refl) (one (axisAt + 11) 1 refl))))))
+      (and (and (one motionAt 4 refl) (and (one (motionAt + 4) 2 refl) (and (one (motionAt + 6) 2 refl) (and (one (motionAt + 8) 2 refl) (and (one (motionAt + 10) 1 refl) (one notesAt 1 refl))))))
       (and (and (one startsAt 2 refl) (one (startsAt + 2) 2 refl))
       (and (one (taskPlace bias) taskLength refl) (and (one (taskPlace plc) taskLength refl) (one (taskPlace mathematics) taskLength refl)))))))
     where
-      one : (at n : ℕ) → (leb axisAt at && leb (at + n) unusedAt) ≡ true → same a b at n ≡ true
+      one : (at n : ℕ) → (leb motionAt at && leb (at + n) unusedAt) ≡ true → same a b at n ≡ true
       one at n t =
-          let h = both (leb axisAt at) _ t in
-          equal-same at n (part axisAt unusedAt at (at + n) (leb-true axisAt at (h .0)) (leb-true (at + n) unusedAt (h .1)) f)
+          let h = both (leb motionAt at) _ t in
+          equal-same at n (part motionAt unusedAt at (at + n) (leb-true motionAt at (h .0)) (leb-true (at + n) unusedAt (h .1)) f)

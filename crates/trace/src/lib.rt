@@ -11,12 +11,14 @@ ghost use mathlib.Core.Path.{_≡_};
 ghost use mathlib.Core.Bool.{_&&_};
 ghost use Prim.Native.Nat.{_+_, _*_, _<_, _≤_};
 ghost use lib.Dec.{eqb, ltb};
-ghost use lib.ListN.{length, getD};
+ghost use lib.ListN.{length};
 ghost use Rattle.limits.specs.Limits.{taskCount, cells, stateLength};
 ghost use Rattle.image.specs.Scan.{blocksOf};
 ghost use Rattle.walk.specs.Program.{blockAt};
 ghost use Rattle.state.specs.State.{runs};
-ghost use Rattle.layout.specs.Layout.{taskLength, taskPlace};
+ghost use Rattle.places.specs.Places.{numberAt};
+ghost use Rattle.layout.specs.Codecs.{taskLength};
+ghost use Rattle.layout.specs.Layout.{taskPlace};
 ghost use Rattle.trace.specs.Changes.{same, sameCells, sameAxis, sameStarts, unchanged, valueAt};
 
 // The line of a step; a is the state buffer before it, b the one behind it. Gives whether nothing changed.
@@ -52,7 +54,7 @@ pub fn show_load(v: BiasVerdict) -> u32
 
 // The block and the command that a running task is at; gives whether it runs.
 fn show_place(image: &[u8], a: &[u8; STATE_LENGTH], task: u32) -> bool
-    ensures { λ s. ⌜ s ≡ ltb task taskCount && eqb (getD (now (a .entry)) (taskPlace task) 0) runs ⌝ }
+    ensures { λ s. ⌜ s ≡ ltb task taskCount && eqb (numberAt 1 (now (a .entry)) (taskPlace task)) runs ⌝ }
 {
     if task >= TASK_COUNT {
         return false;
@@ -165,12 +167,12 @@ fn show_cell(
 fn show_axis(a: &[u8; STATE_LENGTH], b: &[u8; STATE_LENGTH], nothing: bool) -> bool
     ensures { λ s. ⌜ s ≡ nothing && sameAxis (now (a .entry)) (now (b .entry)) ⌝ }
 {
-    let position = show_part(a, b, layout::AXIS_AT, 4, b"position", nothing);
-    let speed = show_part(a, b, layout::AXIS_AT + 4, 2, b"speed", position);
-    let acceleration = show_part(a, b, layout::AXIS_AT + 6, 2, b"acceleration", speed);
-    let deceleration = show_part(a, b, layout::AXIS_AT + 8, 2, b"deceleration", acceleration);
-    let mark = show_part(a, b, layout::AXIS_AT + 10, 1, b"mark", deceleration);
-    show_part(a, b, layout::AXIS_AT + 11, 1, b"level", mark)
+    let position = show_part(a, b, layout::MOTION_AT, 4, b"position", nothing);
+    let speed = show_part(a, b, layout::MOTION_AT + 4, 2, b"speed", position);
+    let acceleration = show_part(a, b, layout::MOTION_AT + 6, 2, b"acceleration", speed);
+    let deceleration = show_part(a, b, layout::MOTION_AT + 8, 2, b"deceleration", acceleration);
+    let mark = show_part(a, b, layout::MOTION_AT + 10, 1, b"mark", deceleration);
+    show_part(a, b, layout::NOTES_AT, 1, b"level", mark)
 }
 
 // The start blocks of the PLC and of mathematics, as far as they changed.
@@ -233,7 +235,7 @@ fn show_task(a: &[u8; STATE_LENGTH], b: &[u8; STATE_LENGTH], t: u8, nothing: boo
     print::show(b" depth ", places::byte(b, at + 1) as u64);
     print::show(b" status ", places::byte(b, at) as u64);
     print::show(b" wait ", places::long(b, at + layout::TIME_AT) as u64);
-    print::show(b" ", places::long(b, at + layout::TIME_AT + 4) as u64);
+    print::show(b" ", places::long(b, at + layout::TURNS_AT) as u64);
     false
 }
 

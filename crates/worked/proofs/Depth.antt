@@ -6,7 +6,7 @@ use mathlib.Core.Path.{_≡_, refl, _∙_}
 use mathlib.Core.Bool.{Bool, true, false}
 use mathlib.Core.List.{List, [], _∷_}
 use lib.ListN.{length}
-use Rattle.limits.specs.Limits.{bias, taskCount, mostDepth, cells}
+use Rattle.limits.specs.Limits.{bias, taskCount, mostDepth, inputsLength}
 use Rattle.image.specs.Good.{Good as GoodHeader}
 use Rattle.image.specs.declared.Header.{Header}
 use Rattle.le.specs.LittleEndian.{Bytes}
@@ -14,8 +14,7 @@ use Rattle.state.specs.State.{runs, task, emptyStack, neverStarted, freshValues
 use Rattle.state.specs.Good.{GoodTask, GoodWait, Good}
 use Rattle.state.specs.declared.State.{State}
 use Rattle.state.proofs.Fresh.{getD-replicate, values-good, fresh-good}
-use Rattle.layout.specs.Decoded.{decoded}
-use Rattle.layout.specs.Encoded.{encoded}
+use Rattle.layout.specs.Layout.{decoded, encoded}
 use Rattle.layout.specs.Test.{isState}
 use Rattle.layout.proofs.Round.{state-good, decode-encode, good-state}
 use Rattle.machine.specs.Given.{Inputs}
@@ -31,7 +30,7 @@ module _ (b : List ℕ) (bytes : Bytes b) (t : ℕ) (l : t < taskCount) where
   pub never-deeper : isState b ≡ true → taskAt (decoded b) t .depth ≤ 5
   never-deeper e = state-good b bytes e .task t l .depth
 
-  pub deeper-refused : 5 < taskAt (decoded b) t .depth → (image : List ℕ) (x : Inputs) → x .task < taskCount → length (x .levels) ≡ cells
+  pub deeper-refused : 5 < taskAt (decoded b) t .depth → (image : List ℕ) (x : Inputs) → x .task < taskCount → length (x .levels) ≡ inputsLength
       → stepped image b x ≡ refuse noStateAnswer b
   deeper-refused deep image x h e = of-buffer image b x h e ∙ no-state image b x (none (isState b) refl)
     where

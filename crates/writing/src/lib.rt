@@ -1,18 +1,21 @@
-// A state written as a buffer, stretch by stretch.
+// A state written as a buffer, section by section.
 use image::Header;
-use limits::STATE_LENGTH;
 use limits::CELLS;
 use limits::STACK_LENGTH;
+use limits::STATE_LENGTH;
+use state::Axis;
+use state::Notes;
 use state::State;
 use state::Task;
-use state::Values;
 ghost use mathlib.Core.Path.{_≡_};
+ghost use mathlib.Core.List.{[], _∷_};
 ghost use Prim.Native.Nat.{_+_, _*_, _≤_};
 ghost use lib.ListN.{length};
 ghost use Rattle.limits.specs.Limits.{mostDepth, stateLength};
 ghost use Rattle.places.specs.Places.{puts};
-ghost use Rattle.layout.specs.Layout.{variablesAt, headerAt, axisAt, taskLength};
-ghost use Rattle.layout.specs.Encoded.{variableBytes, headerBytes, axisBytes, stackBytes, taskBytes, encoded};
+ghost use Rattle.sections.specs.Records.{recordBytes};
+ghost use Rattle.layout.specs.Codecs.{variablesLength, variableBytes, layoutBytes, headerBytes, motionBytes, notesBytes, startWidths, stackBytes, taskLength, taskBytes};
+ghost use Rattle.layout.specs.Layout.{layoutAt, headerAt, motionAt, notesAt, startsAt, encoded};
 
 // The bytes of a state.
 pub fn encode(s: State) -> [u8; STATE_LENGTH]
@@ -20,17 +23,18 @@ pub fn encode(s: State) -> [u8; STATE_LENGTH]
 {
     let mut b = [0u8; STATE_LENGTH];
     let values = s.values;
-    put_variables(&mut b, &values.variables);
-    put_levels(&mut b, layout::FLAGS_AT as usize, &values.flags);
-    put_levels(&mut b, layout::OUTPUTS_AT as usize, &values.outputs);
-    put_header(&mut b, s.header);
-    put_axis(&mut b, values);
     let tasks = s.tasks;
     let bias = tasks[0];
     let plc = tasks[1];
     let mathematics = tasks[2];
-    places::put_word(&mut b, layout::STARTS_AT, plc.start);
-    places::put_word(&mut b, layout::STARTS_AT + 2, mathematics.start);
+    put_variables(&mut b, layout::VARIABLES_AT, &values.variables);
+    put_levels(&mut b, layout::FLAGS_AT as usize, &values.flags);
+    put_levels(&mut b, layout::OUTPUTS_AT as usize, &values.outputs);
+    put_layout(&mut b);
+    put_header(&mut b, s.header);
+    put_motion(&mut b, values.axis, values.mark);
+    put_notes(&mut b, values.notes);
+    put_starts(&mut b, plc.start, mathematics.start);
     put_task(&mut b, layout::TASKS_AT, bias);
     put_task(&mut b, layout::TASKS_AT + layout::TASK_LENGTH, plc);
     put_task(
@@ -41,12 +45,13 @@ pub fn encode(s: State) -> [u8; STATE_LENGTH]
     b
 }
 
-fn put_variables(b: &mut [u8; STATE_LENGTH], variables: &[i32; CELLS])
-    ensures { λ _. ⌜ now (b .exit) ≡ puts (now (b .entry)) variablesAt (variableBytes (now (variables .entry))) ⌝ }
+fn put_variables(b: &mut [u8; STATE_LENGTH], at: u16, variables: &[i32; CELLS])
+    requires { ⌜ at + variablesLength ≤ stateLength ⌝ }
+    ensures { λ _. ⌜ now (b .exit) ≡ puts (now (b .entry)) at (variableBytes (now (variables .entry))) ⌝ }
 {
     let mut k: usize = 0;
     while k < CELLS {
-        places::put_signed(b, layout::VARIABLES_AT + 4 * (k as u16), variables[k]);
+        places::put_signed(b, at + 4 * (k as u16), variables[k]);
         k += 1;
     }
 }
@@ -63,6 +68,13 @@ fn put_levels(b: &mut [u8; STATE_LENGTH], at: usize, levels: &[u8])
     }
 }
 
+// The number of this release's layout.
+fn put_layout(b: &mut [u8; STATE_LENGTH])
+    ensures { λ _. ⌜ now (b .exit) ≡ puts (now (b .entry)) layoutAt layoutBytes ⌝ }
+{
+    places::put_byte(b, layout::LAYOUT_AT, layout::LAYOUT_NUMBER);
+}
+
 fn put_header(b: &mut [u8; STATE_LENGTH], h: Header)
     ensures { λ _. ⌜ now (b .exit) ≡ puts (now (b .entry)) headerAt (headerBytes h) ⌝ }
 {
@@ -74,17 +86,29 @@ fn put_header(b: &mut [u8; STATE_LENGTH], h: Header)
     places::put_word(b, layout::HEADER_AT + 6, h.count);
 }
 
-fn put_axis(b: &mut [u8; STATE_LENGTH], v: Values)
-    ensures { λ _. ⌜ now (b .exit) ≡ puts (now (b .entry)) axisAt (axisBytes v) ⌝ }
+// The axis and the start mark.
+fn put_motion(b: &mut [u8; STATE_LENGTH], axis: Axis, mark: u8)
+    ensures { λ _. ⌜ now (b .exit) ≡ puts (now (b .entry)) motionAt (motionBytes axis mark) ⌝ }
 {
-    let axis = v.axis;
-    let notes = v.notes;
-    places::put_signed(b, layout::AXIS_AT, axis.position);
-    places::put_word(b, layout::AXIS_AT + 4, axis.speed);
-    places::put_word(b, layout::AXIS_AT + 6, axis.acceleration);
-    places::put_word(b, layout::AXIS_AT + 8, axis.deceleration);
-    places::put_byte(b, layout::AXIS_AT + 10, v.mark);
-    places::put_byte(b, layout::AXIS_AT + 11, notes.level);
+    places::put_signed(b, layout::MOTION_AT, axis.position);
+    places::put_word(b, layout::MOTION_AT + 4, axis.speed);
+    places::put_word(b, layout::MOTION_AT + 6, axis.acceleration);
+    places::put_word(b, layout::MOTION_AT + 8, axis.deceleration);
+    places::put_byte(b, layout::MOTION_AT + 10, mark);
+}
+
+fn put_notes(b: &mut [u8; STATE_LENGTH], notes: Notes)
+    ensures { λ _. ⌜ now (b .exit) ≡ puts (now (b .entry)) notesAt (notesBytes notes) ⌝ }
+{
+    places::put_byte(b, layout::NOTES_AT, notes.level);
+}
+
+// The start blocks of the PLC and of mathematics.
+fn put_starts(b: &mut [u8; STATE_LENGTH], plc: u16, mathematics: u16)
+    ensures { λ _. ⌜ now (b .exit) ≡ puts (now (b .entry)) startsAt (recordBytes startWidths (plc ∷ mathematics ∷ [])) ⌝ }
+{
+    places::put_word(b, layout::STARTS_AT, plc);
+    places::put_word(b, layout::STARTS_AT + 2, mathematics);
 }
 
 // A task's record, from a place on.
@@ -97,7 +121,7 @@ fn put_task(b: &mut [u8; STATE_LENGTH], at: u16, k: Task)
     places::put_word(b, at + 2, k.block);
     put_stack(b, at + layout::STACK_AT, &k.stack);
     places::put_long(b, at + layout::TIME_AT, k.time);
-    places::put_long(b, at + layout::TIME_AT + 4, k.turns);
+    places::put_long(b, at + layout::TURNS_AT, k.turns);
 }
 
 fn put_stack(b: &mut [u8; STATE_LENGTH], at: u16, stack: &[u16; STACK_LENGTH])

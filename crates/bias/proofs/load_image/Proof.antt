@@ -2,7 +2,7 @@
 use borrow.Author.Needs.{needs}
 use Rattle.bias.proofs.Ways.{verdict-is, stays, begins}
 use Rattle.border.specs.Border.{verdictFor}
-use Rattle.layout.specs.Encoded.{encoded}
+use Rattle.layout.specs.Layout.{encoded}
 use Rattle.walk.specs.Verdict.{isAccepted}
 use denote.Ref.{now}
 use borrow.Author.Tests.{not-true, not-false}

@@ -1,6 +1,6 @@
 -- `bias::step_buffer` meets its contract: 16, test by test, then the step. Assumes nothing.
 use borrow.Author.Needs.{needs}
-use Rattle.bias.proofs.Ways.{no-state, of-state, step-refused, unused-of, read-of, state-of, unused-not-zero, judged-no-state, judged-state}
+use Rattle.bias.proofs.Ways.{no-state, of-state, step-refused, frame-of, read-of, state-of, frame-not, judged-no-state, judged-state}
 use Rattle.bias.specs.Step.{Stepped, handed}
 use Rattle.machine.specs.Engine.{step}
 use Rattle.machine.specs.Given.{inputsOf}
@@ -20,8 +20,8 @@ copy-in-requires c κs = search needs
 decode-requires : tie.Need-decode-requires
 decode-requires c κs = search needs
 
-unused-zero-requires : tie.Need-unused-zero-requires
-unused-zero-requires c κs = search needs
+frame-is-requires : tie.Need-frame-is-requires
+frame-is-requires c κs = search needs
 
 no-state-requires : tie.Need-no-state-requires
 no-state-requires c κs = search needs
@@ -32,8 +32,8 @@ same-length c = search needs
 returns : tie.Need-returns
 returns c =
     let a = c .before .before .before .before .before .before .before .before .before .before .before .args in
-    let u = unused-of (now (a .state)) _ (c .before .before .before .before .before .before .copy-in .ensures .0) _ (c .before .before .unused-zero .ensures) ∙ not-true _ (c .before .if1 .taken) in
-    step-refused _ _ _ _ (no-state (now (a .image)) (now (a .state)) (inputsOf (a .task) (now (a .inputs)) (a .start) (a .reached)) (unused-not-zero (now (a .state)) (c .before .before .before .before .before .before .before .before .before .before .before .pre) u)) (c .no-state .ensures)
+    let u = frame-of (now (a .state)) _ (c .before .before .before .before .before .before .copy-in .ensures .0) _ (c .before .before .frame-is .ensures) ∙ not-true _ (c .before .if1 .taken) in
+    step-refused _ _ _ _ (no-state (now (a .image)) (now (a .state)) (inputsOf (a .task) (now (a .inputs)) (a .start) (a .reached)) (frame-not (now (a .state)) (c .before .before .before .before .before .before .before .before .before .before .before .pre) u)) (c .no-state .ensures)
 
 state-is-requires : tie.Need-state-is-requires
 state-is-requires c κs = search needs
@@ -48,7 +48,7 @@ returns-2 : tie.Need-returns-2
 returns-2 c =
     let a = c .before .before .before .before .before .before .before .before .before .before .before .before .before .args in
     let same = c .before .before .before .before .before .before .before .before .copy-in .ensures .0 in
-    let u = unused-of (now (a .state)) _ same _ (c .before .before .before .before .unused-zero .ensures) ∙ not-false _ (c .before .before .before .if1 .left) in
+    let u = frame-of (now (a .state)) _ same _ (c .before .before .before .before .frame-is .ensures) ∙ not-false _ (c .before .before .before .if1 .left) in
     let s = state-of (now (a .state)) _ same _ (c .before .before .before .before .before .before .decode .ensures) _ (c .before .before .state-is .ensures) ∙ not-true _ (c .before .if2 .taken) in
     step-refused _ _ _ _ (no-state (now (a .image)) (now (a .state)) (inputsOf (a .task) (now (a .inputs)) (a .start) (a .reached)) (judged-no-state (now (a .state)) (c .before .before .before .before .before .before .before .before .before .before .before .before .before .pre) u s)) (c .no-state2 .ensures)
 
@@ -56,7 +56,7 @@ step-state-requires : tie.Need-step-state-requires
 step-state-requires c κs =
     let a = c .before .before .before .before .before .before .before .before .before .before .before .before .before .args in
     let copied = c .before .before .before .before .before .before .before .before .copy-in .ensures in
-    let u = unused-of (now (a .state)) _ (copied .0) _ (c .before .before .before .before .unused-zero .ensures) ∙ not-false _ (c .before .before .before .if1 .left) in
+    let u = frame-of (now (a .state)) _ (copied .0) _ (c .before .before .before .before .frame-is .ensures) ∙ not-false _ (c .before .before .before .if1 .left) in
     let s = state-of (now (a .state)) _ (copied .0) _ (c .before .before .before .before .before .before .decode .ensures) _ (c .before .before .state-is .ensures) ∙ not-false _ (c .before .if2 .left) in
     let d = read-of (now (a .state)) _ (copied .0) _ (c .before .before .before .before .before .before .decode .ensures) in
     (c .before .before .before .before .before .before .before .before .before .before .before .before .before .pre, subst Good (sym d) (state-good (now (a .state)) (subst Bytes (copied .0) (copied .1)) (judged-state (now (a .state)) (c .before .before .before .before .before .before .before .before .before .before .before .before .before .pre) u s)))
@@ -69,7 +69,7 @@ returns-3 c =
     let a = c .before .before .before .before .before .before .before .before .before .before .before .before .before .before .before .before .args in
     let x = inputsOf (a .task) (now (a .inputs)) (a .start) (a .reached) in
     let same = c .before .before .before .before .before .before .before .before .before .before .before .copy-in .ensures .0 in
-    let u = unused-of (now (a .state)) _ same _ (c .before .before .before .before .before .before .before .unused-zero .ensures) ∙ not-false _ (c .before .before .before .before .before .before .if1 .left) in
+    let u = frame-of (now (a .state)) _ same _ (c .before .before .before .before .before .before .before .frame-is .ensures) ∙ not-false _ (c .before .before .before .before .before .before .if1 .left) in
     let s = state-of (now (a .state)) _ same _ (c .before .before .before .before .before .before .before .before .before .decode .ensures) _ (c .before .before .before .before .before .state-is .ensures) ∙ not-false _ (c .before .before .before .before .if2 .left) in
     let d = read-of (now (a .state)) _ same _ (c .before .before .before .before .before .before .before .before .before .decode .ensures) in
     let e = ap (λ (s : State). handed (step (now (a .image)) s x)) d ∙ sym (of-state (now (a .image)) (now (a .state)) x (judged-state (now (a .state)) (c .before .before .before .before .before .before .before .before .before .before .before .before .before .before .before .before .pre) u s)) in
@@ -82,7 +82,7 @@ step-buffer-spec =
     (tie.spec
     copy-in-requires
     decode-requires
-    unused-zero-requires
+    frame-is-requires
     no-state-requires
     same-length
     returns

@@ -10,17 +10,17 @@ decode-requires c κs = search needs
 length-is-requires : tie.Need-length-is-requires
 length-is-requires c κs = search needs
 
-unused-zero-requires : tie.Need-unused-zero-requires
-unused-zero-requires c κs = search needs
+frame-is-requires : tie.Need-frame-is-requires
+frame-is-requires c κs = search needs
 
 state-is-requires : tie.Need-state-is-requires
 state-is-requires c κs = search needs
 
 returns : tie.Need-returns
 unfolding isState
-returns c = rw (c .state-is .ensures, c .before .unused-zero .ensures, c .before .before .length-is .ensures, c .before .before .before .before .decode .ensures)
+returns c = rw (c .state-is .ensures, c .before .frame-is .ensures, c .before .before .length-is .ensures, c .before .before .before .before .decode .ensures)
 
 pub is-state-spec : {M : Type 1} → statement M
 is-state-spec =
     tie.close
-    (tie.spec decode-requires length-is-requires unused-zero-requires state-is-requires returns)
+    (tie.spec decode-requires length-is-requires frame-is-requires state-is-requires returns)

@@ -3,16 +3,17 @@ use Prim.Native.Nat.{_-_, _≤_}
 use native.Mathlib.Omega.{arith}
 use native.Mathlib.Numerals.{add-one}
 use mathlib.Core.Path.{_≡_, refl, ap, _∙_}
+use Rattle.limits.specs.Limits.{cells}
 use Rattle.layout.specs.Test.{allOf, levelIs}
 use borrow.Author.Needs.{needs}
 use Rattle.buffer.proofs.levels_are.Statement.{statement}
 use Rattle.buffer.proofs.levels_are.Tie as tie
 
 abbrev Inv-loop : tie.InvT-loop
-Inv-loop levels pass₀ k₀ pass k = (k ≤ 256) × (pass ≡ allOf levelIs levels k)
+Inv-loop levels pass₀ k₀ pass k = (k ≤ cells) × (pass ≡ allOf levelIs levels k)
 
 abbrev μ-loop : tie.MeasureT-loop
-μ-loop levels pass₀ k₀ pass k = 256 - k
+μ-loop levels pass₀ k₀ pass k = cells - k
 
 loop-holds : tie.Need-loop-holds Inv-loop μ-loop
 unfolding allOf
@@ -34,7 +35,7 @@ loop-again c = (search needs, rw (add-one, ← c .before .before .loop .inv .1))
 returns : tie.Need-returns Inv-loop μ-loop
 returns c =
     let l = c .before .loop in
-    let e : l .k ≡ 256 = omega arith in
+    let e : l .k ≡ cells = omega arith in
     l .inv .1 ∙ ap (allOf levelIs (c .before .before .args .levels .now)) e
 
 pub levels-are-spec : {M : Type 1} → statement M

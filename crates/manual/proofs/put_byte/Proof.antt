@@ -1,10 +1,11 @@
 -- `put_byte` meets its contract: the place from its two bytes, then the byte there. Assumes nothing.
 use borrow.Author.Needs.{needs}
 use Rattle.manual.specs.Run.{withByte}
+use Rattle.le.specs.LittleEndian.{leBytes}
 use Rattle.places.specs.Places.{puts}
 use denote.Ref.{now}
 use lib.ListN.{getD}
-use mathlib.Core.List.{List, [], _∷_}
+use mathlib.Core.List.{List}
 use mathlib.Core.Path.{_≡_, ap, _∙_}
 use native.Mathlib.Omega.{arith}
 use Prim.Native.Nat.{ℕ, _+_, _*_}
@@ -49,7 +50,7 @@ unfolding withByte
 returns c =
     let a = c .before .before .before .before .before .before .before .before .before .before .before .before .before .before .before .args in
     let s = now (a .steps) in
-    let v = getD s (a .at + 3) 0 ∷ [] in
+    let v = leBytes 1 (getD s (a .at + 3) 0) in
     let next : a .at + 2 ≡ a .at + 1 + 1 = omega arith in
     let place = c .before .before .before .before .before .before .read-u16 .ensures ∙ ap (λ (i : ℕ). getD s (a .at + 1) 0 + 256 * (getD s i 0 + 256 * 0)) next in
     c .before .before .copy-out .ensures

@@ -4,8 +4,8 @@ use mathlib.Core.Path.{ap, _∙_}
 use mathlib.Core.List.{List, [], _∷_}
 use denote.Ref.{now}
 use Rattle.image.specs.declared.Header.{Header}
-use Rattle.layout.specs.Layout.{taskPlace}
-use Rattle.layout.specs.Decoded.{taskIn, decoded}
+use Rattle.layout.specs.Codecs.{taskIn}
+use Rattle.layout.specs.Layout.{taskPlace, decoded}
 use borrow.Author.Needs.{needs}
 use Rattle.reading.proofs.decode.Statement.{statement}
 use Rattle.reading.proofs.decode.Tie as tie
@@ -45,20 +45,7 @@ task-in-requires-3 c κs = search needs
 
 returns : tie.Need-returns
 unfolding decoded
-returns c =
-    let k5 = c .before in
-    let k4 = k5 .before in
-    let k3 = k4 .before in
-    let k2 = k3 .before in
-    let k1 = k2 .before in
-    let k0 = k1 .before in
-    let b : List ℕ = now (k0 .before .args .b) in
-    let h = k1 .header-in .ensures in
-    let bias = k2 .task-in .ensures ∙ ap (λ (x : Header). taskIn b (taskPlace 0) (x .start)) h in
-    let plc = k4 .task-in2 .ensures ∙ ap (taskIn b (taskPlace 1)) (k3 .word .ensures) in
-    let mathematics = c .task-in3 .ensures ∙ ap (taskIn b (taskPlace 2)) (k5 .word2 .ensures) in
-    λ i.
-    record { values = k0 .values-in .ensures i; header = h i; tasks = bias i ∷ plc i ∷ mathematics i ∷ [] }
+returns c = cc
 
 pub decode-spec : {M : Type 1} → statement M
 decode-spec =

@@ -37,19 +37,7 @@ word-requires-2 : tie.Need-word-requires-2
 word-requires-2 c κs = search needs
 
 returns : tie.Need-returns
-returns c =
-    let k4 = c .before in
-    let k3 = k4 .before in
-    let k2 = k3 .before in
-    let k1 = k2 .before in
-    let k0 = k1 .before in
-    λ i.
-    record {
-      format = k3 .byte4 .ensures i;
-      drive = record { model = k0 .byte .ensures i; b = k1 .byte2 .ensures i; c = k2 .byte3 .ensures i };
-      start = k4 .word .ensures i;
-      count = c .word2 .ensures i;
-    }
+returns c = cc
 
 pub header-in-spec : {M : Type 1} → statement M
 header-in-spec =

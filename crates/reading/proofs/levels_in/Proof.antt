@@ -4,18 +4,19 @@ use native.Mathlib.Omega.{arith}
 use mathlib.Core.Path.{_≡_, refl}
 use denote.Ref.{now}
 use lib.ListN.{length, getD, take, length-set}
+use Rattle.limits.specs.Limits.{cells}
 use Rattle.places.specs.Places.{table}
 use Rattle.places.proofs.Tables.{none, more, all}
-use Rattle.layout.specs.Decoded.{levelsIn}
+use Rattle.layout.specs.Codecs.{levelsIn}
 use borrow.Author.Needs.{needs}
 use Rattle.reading.proofs.levels_in.Statement.{statement}
 use Rattle.reading.proofs.levels_in.Tie as tie
 
 abbrev Inv-loop : tie.InvT-loop
-Inv-loop b at r₀ k₀ r k = (k ≤ 256) × ((length r ≡ 256) × (take k r ≡ table k (λ (j : ℕ). getD b (at + j) 0)))
+Inv-loop b at r₀ k₀ r k = (k ≤ cells) × ((length r ≡ cells) × (take k r ≡ table k (λ (j : ℕ). getD b (at + j) 0)))
 
 abbrev μ-loop : tie.MeasureT-loop
-μ-loop b at r₀ k₀ r k = 256 - k
+μ-loop b at r₀ k₀ r k = cells - k
 
 loop-holds : tie.Need-loop-holds Inv-loop μ-loop
 loop-holds c = (search needs, (search needs, none _))
@@ -46,7 +47,7 @@ unfolding levelsIn
 returns c =
     let l = c .before .loop in
     let a = c .before .before .args in
-    all (l .r) (l .k) 256 (λ (j : ℕ). getD (now (a .b)) (a .at + j) 0) (l .inv .0) (c .loop-test .left) (l .inv .1 .0) (l .inv .1 .1)
+    all (l .r) (l .k) cells (λ (j : ℕ). getD (now (a .b)) (a .at + j) 0) (l .inv .0) (c .loop-test .left) (l .inv .1 .0) (l .inv .1 .1)
 
 pub levels-in-spec : {M : Type 1} → statement M
 levels-in-spec =

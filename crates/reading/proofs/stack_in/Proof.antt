@@ -7,7 +7,7 @@ use lib.ListN.{length, take, length-set}
 use Rattle.limits.specs.Limits.{mostDepth}
 use Rattle.places.specs.Places.{table, numberAt}
 use Rattle.places.proofs.Tables.{none, more, all}
-use Rattle.layout.specs.Decoded.{stackIn}
+use Rattle.layout.specs.Codecs.{stackIn}
 use borrow.Author.Needs.{needs}
 use Rattle.reading.proofs.stack_in.Statement.{statement}
 use Rattle.reading.proofs.stack_in.Tie as tie

@@ -33,29 +33,11 @@ long-requires c κs = search needs
 add-long-2 : tie.Need-add-long-2
 add-long-2 c = search needs
 
-add-long-3 : tie.Need-add-long-3
-add-long-3 c = search needs
-
 long-requires-2 : tie.Need-long-requires-2
 long-requires-2 c κs = search needs
 
 returns : tie.Need-returns
-returns c =
-    let k4 = c .before in
-    let k3 = k4 .before in
-    let k2 = k3 .before in
-    let k1 = k2 .before in
-    let k0 = k1 .before in
-    λ i.
-    record {
-      status = k1 .byte .ensures i;
-      block = k2 .word .ensures i;
-      start = k0 .before .args .start;
-      depth = k3 .byte2 .ensures i;
-      stack = k0 .stack-in .ensures i;
-      time = k4 .long .ensures i;
-      turns = c .long2 .ensures i;
-    }
+returns c = cc
 
 pub task-in-spec : {M : Type 1} → statement M
 task-in-spec =
@@ -71,6 +53,5 @@ task-in-spec =
     add-long
     long-requires
     add-long-2
-    add-long-3
     long-requires-2
     returns)

@@ -21,34 +21,17 @@ levels-in-requires-2 c κs = search needs
 axis-in-requires : tie.Need-axis-in-requires
 axis-in-requires c κs = search needs
 
-add-byte : tie.Need-add-byte
-add-byte c = search needs
-
 byte-requires : tie.Need-byte-requires
 byte-requires c κs = search needs
 
-add-byte-2 : tie.Need-add-byte-2
-add-byte-2 c = search needs
+add-byte : tie.Need-add-byte
+add-byte c = search needs
 
 byte-requires-2 : tie.Need-byte-requires-2
 byte-requires-2 c κs = search needs
 
 returns : tie.Need-returns
-returns c =
-    let k4 = c .before in
-    let k3 = k4 .before in
-    let k2 = k3 .before in
-    let k1 = k2 .before in
-    let k0 = k1 .before in
-    λ i.
-    record {
-      variables = k0 .variables-in .ensures i;
-      flags = k1 .levels-in .ensures i;
-      outputs = k2 .levels-in2 .ensures i;
-      axis = k3 .axis-in .ensures i;
-      mark = c .byte2 .ensures i;
-      notes = record { level = k4 .byte .ensures i };
-    }
+returns c = cc
 
 pub values-in-spec : {M : Type 1} → statement M
 values-in-spec =
@@ -60,8 +43,7 @@ values-in-spec =
     cast-levels-in-2
     levels-in-requires-2
     axis-in-requires
-    add-byte
     byte-requires
-    add-byte-2
+    add-byte
     byte-requires-2
     returns)

@@ -4,20 +4,21 @@ use native.Mathlib.Omega.{arith}
 use mathlib.Core.Path.{_≡_}
 use denote.Ref.{now}
 use lib.ListN.{length, take, length-set}
+use Rattle.limits.specs.Limits.{cells}
 use Rattle.places.specs.Places.{table, signedAt}
 use Rattle.places.proofs.Tables.{none, more, all}
 use mir.Syntax.{w32}
 use Rattle.arith.proofs.Range.{got}
-use Rattle.layout.specs.Decoded.{variablesIn}
+use Rattle.layout.specs.Codecs.{variablesIn}
 use borrow.Author.Needs.{needs}
 use Rattle.reading.proofs.variables_in.Statement.{statement}
 use Rattle.reading.proofs.variables_in.Tie as tie
 
 abbrev Inv-loop : tie.InvT-loop
-Inv-loop b r₀ k₀ r k = (k ≤ 256) × ((length r ≡ 256) × (take k r ≡ table k (λ (j : ℕ). signedAt b (0 + 4 * j))))
+Inv-loop b at r₀ k₀ r k = (k ≤ cells) × ((length r ≡ cells) × (take k r ≡ table k (λ (j : ℕ). signedAt b (at + 4 * j))))
 
 abbrev μ-loop : tie.MeasureT-loop
-μ-loop b r₀ k₀ r k = 256 - k
+μ-loop b at r₀ k₀ r k = cells - k
 
 loop-holds : tie.Need-loop-holds Inv-loop μ-loop
 loop-holds c = (search needs, (search needs, none _))
@@ -50,14 +51,14 @@ loop-again : tie.Need-loop-again Inv-loop μ-loop
 loop-again c =
     let l = c .before .before .loop in
     let a = c .before .before .before .args in
-    (search needs, (simp length-set (search needs), more (l .r) (l .k) (λ (j : ℕ). signedAt (now (a .b)) (0 + 4 * j)) _ (omega arith) (l .inv .1 .1) (got w32 (c .signed .ok) (c .signed .ensures))))
+    (search needs, (simp length-set (search needs), more (l .r) (l .k) (λ (j : ℕ). signedAt (now (a .b)) (a .at + 4 * j)) _ (omega arith) (l .inv .1 .1) (got w32 (c .signed .ok) (c .signed .ensures))))
 
 returns : tie.Need-returns Inv-loop μ-loop
 unfolding variablesIn
 returns c =
     let l = c .before .loop in
     let a = c .before .before .args in
-    all (l .r) (l .k) 256 (λ (j : ℕ). signedAt (now (a .b)) (0 + 4 * j)) (l .inv .0) (c .loop-test .left) (l .inv .1 .0) (l .inv .1 .1)
+    all (l .r) (l .k) cells (λ (j : ℕ). signedAt (now (a .b)) (a .at + 4 * j)) (l .inv .0) (c .loop-test .left) (l .inv .1 .0) (l .inv .1 .1)
 
 pub variables-in-spec : {M : Type 1} → statement M
 variables-in-spec =

@@ -1,10 +1,12 @@
 -- `same` meets its contract: after k turns the first k bytes are compared. Assumes nothing.
 use borrow.Author.Needs.{needs}
+use Rattle.places.proofs.Has.{one-byte}
 use Rattle.trace.specs.Changes.{same}
 use mathlib.Core.Path.{_≡_, refl, ap, _∙_}
 use native.Mathlib.Numerals.{add-one}
 use native.Mathlib.Omega.{arith}
-use Prim.Native.Nat.{_-_, _≤_}
+use Prim.Native.Nat.{_+_, _-_, _≤_}
+use denote.Ref.{now}
 use Rattle.trace.proofs.same.Statement.{statement}
 use Rattle.trace.proofs.same.Tie as tie
 
@@ -38,7 +40,12 @@ loop-less c = search needs
 
 loop-again : tie.Need-loop-again Inv-loop μ-loop
 unfolding same
-loop-again c = (search needs, rw (add-one, ← c .before .before .before .loop .inv .1, ← c .before .byte .ensures, ← c .byte2 .ensures))
+loop-again c =
+    let l = c .before .before .before .loop in
+    let st = c .before .before .before .before .args in
+    let a = c .before .byte .ensures ∙ one-byte (now (st .a)) (st .at + l .k) in
+    let b = c .byte2 .ensures ∙ one-byte (now (st .b)) (st .at + l .k) in
+    (search needs, rw (add-one, ← l .inv .1, ← a, ← b))
 
 returns : tie.Need-returns Inv-loop μ-loop
 returns c =

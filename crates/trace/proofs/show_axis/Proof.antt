@@ -1,6 +1,6 @@
 -- `show_axis` meets its contract: six parts, one behind the other. Assumes nothing.
 use borrow.Author.Needs.{needs}
-use Rattle.layout.specs.Layout.{axisAt}
+use Rattle.layout.specs.Layout.{motionAt, notesAt}
 use denote.Ref.{now}
 use mathlib.Core.Bool.{Bool}
 use Prim.Native.Nat.{ℕ, _+_}
@@ -51,9 +51,6 @@ slice-aggregate-show-part-5 c = search needs
 show-part-requires-5 : tie.Need-show-part-requires-5
 show-part-requires-5 c κs = search needs
 
-add-show-part-5 : tie.Need-add-show-part-5
-add-show-part-5 c = search needs
-
 slice-aggregate-show-part-6 : tie.Need-slice-aggregate-show-part-6
 slice-aggregate-show-part-6 c = search needs
 
@@ -65,11 +62,11 @@ unfolding sameAxis
 returns c =
     let a = c .before .before .before .before .before .before .before .before .before .before .before .before .args in
     let s : ℕ → ℕ → Bool = same (now (a .a)) (now (a .b)) in
-    then (a .nothing) (s axisAt 4) _ (c .before .before .before .before .before .before .before .before .before .before .show-part .result) (c .before .before .before .before .before .before .before .before .before .before .show-part .ensures)
-    (then (c .before .before .before .before .before .before .before .before .before .before .show-part .result) (s (axisAt + 4) 2) _ (c .before .before .before .before .before .before .before .before .show-part2 .result) (c .before .before .before .before .before .before .before .before .show-part2 .ensures)
-    (then (c .before .before .before .before .before .before .before .before .show-part2 .result) (s (axisAt + 6) 2) _ (c .before .before .before .before .before .before .show-part3 .result) (c .before .before .before .before .before .before .show-part3 .ensures)
-    (then (c .before .before .before .before .before .before .show-part3 .result) (s (axisAt + 8) 2) _ (c .before .before .before .before .show-part4 .result) (c .before .before .before .before .show-part4 .ensures)
-    (then (c .before .before .before .before .show-part4 .result) (s (axisAt + 10) 1) (s (axisAt + 11) 1) (c .before .before .show-part5 .result) (c .before .before .show-part5 .ensures) (c .show-part6 .ensures)))))
+    then (a .nothing) (s motionAt 4) _ (c .before .before .before .before .before .before .before .before .before .before .show-part .result) (c .before .before .before .before .before .before .before .before .before .before .show-part .ensures)
+    (then (c .before .before .before .before .before .before .before .before .before .before .show-part .result) (s (motionAt + 4) 2) _ (c .before .before .before .before .before .before .before .before .show-part2 .result) (c .before .before .before .before .before .before .before .before .show-part2 .ensures)
+    (then (c .before .before .before .before .before .before .before .before .show-part2 .result) (s (motionAt + 6) 2) _ (c .before .before .before .before .before .before .show-part3 .result) (c .before .before .before .before .before .before .show-part3 .ensures)
+    (then (c .before .before .before .before .before .before .show-part3 .result) (s (motionAt + 8) 2) _ (c .before .before .before .before .show-part4 .result) (c .before .before .before .before .show-part4 .ensures)
+    (then (c .before .before .before .before .show-part4 .result) (s (motionAt + 10) 1) (s notesAt 1) (c .before .before .show-part5 .result) (c .before .before .show-part5 .ensures) (c .show-part6 .ensures)))))
 
 pub show-axis-spec : {M : Type 1} → statement M
 show-axis-spec =
@@ -89,7 +86,6 @@ show-axis-spec =
     add-show-part-4
     slice-aggregate-show-part-5
     show-part-requires-5
-    add-show-part-5
     slice-aggregate-show-part-6
     show-part-requires-6
     returns)

@@ -3,7 +3,8 @@ use borrow.Author.Needs.{needs}
 use Rattle.limits.specs.Limits.{bias, plc, mathematics, cells}
 use Rattle.trace.proofs.Shown.{then}
 use Rattle.trace.specs.Changes.{same, sameCells, sameAxis, sameStarts, unchanged}
-use Rattle.layout.specs.Layout.{variablesAt, flagsAt, outputsAt, taskLength, taskPlace}
+use Rattle.layout.specs.Codecs.{taskLength}
+use Rattle.layout.specs.Layout.{variablesAt, flagsAt, outputsAt, taskPlace}
 use denote.Ref.{now}
 use mathlib.Core.Bool.{true}
 use mathlib.Core.Path.{_∙_}

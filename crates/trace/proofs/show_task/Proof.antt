@@ -2,7 +2,8 @@
 use borrow.Author.Needs.{needs}
 use Rattle.trace.proofs.Shown.{is-same, is-not}
 use Rattle.trace.specs.Changes.{same}
-use Rattle.layout.specs.Layout.{taskLength, taskPlace}
+use Rattle.layout.specs.Codecs.{taskLength}
+use Rattle.layout.specs.Layout.{taskPlace}
 use denote.Ref.{now}
 use Prim.Native.Nat.{ℕ}
 use mathlib.Core.Path.{sym, ap, _∙_}
@@ -93,9 +94,6 @@ slice-aggregate-show-6 c = search needs
 add-long-2 : tie.Need-add-long-2
 add-long-2 c = search needs
 
-add-long-3 : tie.Need-add-long-3
-add-long-3 c = search needs
-
 long-requires-2 : tie.Need-long-requires-2
 long-requires-2 c κs = search needs
 
@@ -142,7 +140,6 @@ show-task-spec =
     show-requires-5
     slice-aggregate-show-6
     add-long-2
-    add-long-3
     long-requires-2
     cast-show-5
     show-requires-6

@@ -1,7 +1,9 @@
 -- `writing::put_header` meets its contract: one number put behind the other. Assumes nothing.
-use Prim.Native.Nat.{_+_}
 use mathlib.Core.Path.{refl}
-use Rattle.places.proofs.Runs.{next}
+use Rattle.image.specs.Numbers.{numbersOf}
+use Rattle.sections.proofs.Sections.{put, done}
+use Rattle.sections.proofs.Records.{record-put}
+use Rattle.layout.specs.Codecs.{headerWidths}
 use Rattle.layout.specs.Layout.{headerAt}
 use borrow.Author.Needs.{needs}
 use Rattle.writing.proofs.put_header.Statement.{statement}
@@ -47,11 +49,14 @@ returns c =
     let k2 = k3 .before .before in
     let k1 = k2 .before .before in
     let k0 = k1 .before .before in
-    let n4 = next _ _ _ (headerAt + 4) 2 _ _ _ (k4 .put-word .ensures) refl refl (c .put-word2 .ensures) in
-    let n3 = next _ _ _ (headerAt + 3) 1 _ _ _ (k3 .put-byte4 .ensures) refl refl n4 in
-    let n2 = next _ _ _ (headerAt + 2) 1 _ _ _ (k2 .put-byte3 .ensures) refl refl n3 in
-    let n1 = next _ _ _ (headerAt + 1) 1 _ _ _ (k1 .put-byte2 .ensures) refl refl n2 in
-    next _ _ _ headerAt 1 _ _ _ (k0 .put-byte .ensures) refl refl n1
+    record-put headerWidths (numbersOf _) headerAt refl
+    (put (k0 .put-byte .ensures)
+    (put (k1 .put-byte2 .ensures)
+    (put (k2 .put-byte3 .ensures)
+    (put (k3 .put-byte4 .ensures)
+    (put (k4 .put-word .ensures)
+    (put (c .put-word2 .ensures)
+    done))))))
 
 pub put-header-spec : {M : Type 1} → statement M
 put-header-spec =

@@ -6,7 +6,7 @@ use Rattle.limits.specs.Limits.{mostDepth}
 use Rattle.le.specs.LittleEndian.{leBytes}
 use Rattle.places.specs.Places.{puts, runs}
 use Rattle.places.proofs.Runs.{runs-none, runs-more, runs-all}
-use Rattle.layout.specs.Encoded.{stackBytes}
+use Rattle.layout.specs.Codecs.{stackBytes}
 use borrow.Author.Needs.{needs}
 use Rattle.writing.proofs.put_stack.Statement.{statement}
 use Rattle.writing.proofs.put_stack.Tie as tie

@@ -5,18 +5,19 @@ use lib.ListN.{getD}
 use lib.IntN.{ℤ, pos}
 use mir.Syntax.{w32}
 use mir.Facts.{toZ-ofZ}
+use Rattle.limits.specs.Limits.{cells}
 use Rattle.places.specs.Places.{puts, runs, signedBytes}
 use Rattle.places.proofs.Runs.{runs-none, runs-more, runs-all}
-use Rattle.layout.specs.Encoded.{variableBytes}
+use Rattle.layout.specs.Codecs.{variableBytes}
 use borrow.Author.Needs.{needs}
 use Rattle.writing.proofs.put_variables.Statement.{statement}
 use Rattle.writing.proofs.put_variables.Tie as tie
 
 abbrev Inv-loop : tie.InvT-loop
-Inv-loop b₀ variables k₀ b k = (k ≤ 256) × (b ≡ puts b₀ 0 (runs k (λ (j : ℕ). signedBytes (getD variables j (pos 0)))))
+Inv-loop b₀ at variables k₀ b k = (k ≤ cells) × (b ≡ puts b₀ at (runs k (λ (j : ℕ). signedBytes (getD variables j (pos 0)))))
 
 abbrev μ-loop : tie.MeasureT-loop
-μ-loop b₀ variables k₀ b k = 256 - k
+μ-loop b₀ at variables k₀ b k = cells - k
 
 loop-holds : tie.Need-loop-holds Inv-loop μ-loop
 loop-holds c = (search needs, runs-none _ _ _)
@@ -52,8 +53,8 @@ loop-again c =
     let z = toZ-ofZ {w = w32} {z = getD (st .args .variables .now) (l .k) (pos 0)} (record { sfits = c .before .put-signed-arg2 .given }) in (
       search needs,
       c .put-signed .ensures
-          ∙ ap (λ (y : ℤ). puts (l .b) (0 + 4 * l .k) (signedBytes y)) z
-          ∙ runs-more (λ (j : ℕ). signedBytes (getD (st .args .variables .now) j (pos 0))) 4 (λ j. refl) (st .args .b .now) 0 (l .k) (l .b) (l .inv .1),
+          ∙ ap (λ (y : ℤ). puts (l .b) (st .args .at + 4 * l .k) (signedBytes y)) z
+          ∙ runs-more (λ (j : ℕ). signedBytes (getD (st .args .variables .now) j (pos 0))) 4 (λ j. refl) (st .args .b .now) (st .args .at) (l .k) (l .b) (l .inv .1),
     )
 
 returns : tie.Need-returns Inv-loop μ-loop
@@ -61,7 +62,7 @@ unfolding variableBytes
 returns c =
     let st = c .before .before in
     let l = c .before .loop in
-    runs-all (λ (j : ℕ). signedBytes (getD (st .args .variables .now) j (pos 0))) (st .args .b .now) 0 (l .k) 256 (l .b) (l .inv .0) (c .loop-test .left) (l .inv .1)
+    runs-all (λ (j : ℕ). signedBytes (getD (st .args .variables .now) j (pos 0))) (st .args .b .now) (st .args .at) (l .k) cells (l .b) (l .inv .0) (c .loop-test .left) (l .inv .1)
 
 pub put-variables-spec : {M : Type 1} → statement M
 put-variables-spec =

@@ -1,0 +1,18 @@
+-- The header as a list of numbers, in the order in which they stand in an image (document 01, "The image"). Assumes nothing.
+use Prim.Native.Nat.{ℕ}
+use mathlib.Core.List.{List, [], _∷_}
+use lib.ListN.{getD}
+use Rattle.image.specs.declared.Header.{Header}
+
+-- the numbers of a header
+abbrev pub numbersOf : Header → List ℕ
+numbersOf h = h .format ∷ h .drive .model ∷ h .drive .b ∷ h .drive .c ∷ h .start ∷ h .count ∷ []
+
+-- the header of these numbers; one that is not there is 0
+abbrev pub headerFrom : List ℕ → Header
+headerFrom ns = record {
+  format = getD ns 0 0;
+  drive = record { model = getD ns 1 0; b = getD ns 2 0; c = getD ns 3 0 };
+  start = getD ns 4 0;
+  count = getD ns 5 0;
+}

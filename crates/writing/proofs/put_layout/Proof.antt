@@ -1,0 +1,19 @@
+-- `writing::put_layout` meets its contract: a record of one number. Assumes nothing.
+use mathlib.Core.Path.{refl}
+use mathlib.Core.List.{[], _∷_}
+use Rattle.sections.proofs.Sections.{put, done}
+use Rattle.sections.proofs.Records.{record-put}
+use Rattle.layout.specs.Codecs.{layoutNumber, layoutWidths}
+use Rattle.layout.specs.Layout.{layoutAt}
+use borrow.Author.Needs.{needs}
+use Rattle.writing.proofs.put_layout.Statement.{statement}
+use Rattle.writing.proofs.put_layout.Tie as tie
+
+put-byte-requires : tie.Need-put-byte-requires
+put-byte-requires c κs = search needs
+
+returns : tie.Need-returns
+returns c = record-put layoutWidths (layoutNumber ∷ []) layoutAt refl (put (c .put-byte .ensures) done)
+
+pub put-layout-spec : {M : Type 1} → statement M
+put-layout-spec = tie.close (tie.spec put-byte-requires returns)

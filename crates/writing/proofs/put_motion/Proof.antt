@@ -1,0 +1,78 @@
+-- `writing::put_motion` meets its contract: one number put behind the other. Assumes nothing.
+use Prim.Native.Nat.{_<_}
+use native.Mathlib.Omega.{arith}
+use mathlib.Core.Path.{refl, ap, _∙_}
+use denote.Ref.{now}
+use lib.IntN.{ℤ}
+use lib.Signed.{mag}
+use mir.Syntax.{w32}
+use mir.Facts.{toZ-ofZ}
+use Rattle.places.specs.Places.{puts, signedBytes}
+use Rattle.sections.proofs.Sections.{put, done}
+use Rattle.sections.proofs.Records.{record-put}
+use Rattle.layout.specs.Codecs.{motionWidths, motionNumbers}
+use Rattle.layout.specs.Layout.{motionAt}
+use borrow.Author.Needs.{needs}
+use Rattle.writing.proofs.put_motion.Statement.{statement}
+use Rattle.writing.proofs.put_motion.Tie as tie
+
+put-signed-requires : tie.Need-put-signed-requires
+put-signed-requires c κs = search needs
+
+add-put-word : tie.Need-add-put-word
+add-put-word c = search needs
+
+put-word-requires : tie.Need-put-word-requires
+put-word-requires c κs = search needs
+
+add-put-word-2 : tie.Need-add-put-word-2
+add-put-word-2 c = search needs
+
+put-word-requires-2 : tie.Need-put-word-requires-2
+put-word-requires-2 c κs = search needs
+
+add-put-word-3 : tie.Need-add-put-word-3
+add-put-word-3 c = search needs
+
+put-word-requires-3 : tie.Need-put-word-requires-3
+put-word-requires-3 c κs = search needs
+
+add-put-byte : tie.Need-add-put-byte
+add-put-byte c = search needs
+
+put-byte-requires : tie.Need-put-byte-requires
+put-byte-requires c κs = search needs
+
+returns : tie.Need-returns
+returns c =
+    let k3 = c .before .before in
+    let k2 = k3 .before .before in
+    let k1 = k2 .before .before in
+    let k0 = k1 .before .before in
+    let st = k0 .before .before .before in
+    let a = st .args .axis in
+    let f : mag (a .position) < 2147483648 = omega (arith, k0 .before .struct-told .given) in
+    let z = toZ-ofZ {w = w32} {z = a .position} (record { sfits = f }) in
+    let p = k0 .put-signed .ensures ∙ ap (λ (y : ℤ). puts (now (st .args .b)) motionAt (signedBytes y)) z in
+    record-put motionWidths (motionNumbers a (st .args .mark)) motionAt refl
+    (put p
+    (put (k1 .put-word .ensures)
+    (put (k2 .put-word2 .ensures)
+    (put (k3 .put-word3 .ensures)
+    (put (c .put-byte .ensures)
+    done)))))
+
+pub put-motion-spec : {M : Type 1} → statement M
+put-motion-spec =
+    tie.close
+    (tie.spec
+    put-signed-requires
+    add-put-word
+    put-word-requires
+    add-put-word-2
+    put-word-requires-2
+    add-put-word-3
+    put-word-requires-3
+    add-put-byte
+    put-byte-requires
+    returns)
