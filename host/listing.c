@@ -166,7 +166,7 @@ const char *listing_refusal(uint32_t number)
         "the marks buffer is too short",
         "there is no room for the image",
         "no such task, or not 256 inputs",
-        "the state buffer is no state",
+        "the state buffer is no state, or has the layout of another release: load anew",
         "not the image that was loaded, or its block is not permitted here",
         "the task is not running",
         "division by a variable that holds 0",

@@ -7,6 +7,7 @@ use crate::case::{Action, Case};
 use crate::program;
 use crate::random::Random;
 use crate::tally::Tally;
+use reference::engine::Given;
 use reference::hex::bytes_of;
 use reference::number::*;
 use reference::state::{record, State, DEPTH, PATH, STATE_LENGTH};
@@ -154,7 +155,7 @@ fn nested(calls: u8) -> Vec<u8> {
 /// A step on another image than the loaded one.
 fn lent(tally: &mut Tally) -> Result<(), String> {
     let image = bytes_of("010200000002 720C010000000000 5500000000000000");
-    let given = reference::engine::Given { inputs: &[0; INPUTS_LENGTH], start: 0, reached: 0 };
+    let given = Given { inputs: &[0; INPUTS_LENGTH], start: 0, reached: 0 };
     for (other, wanted) in LENT {
         let mut state = vec![0; STATE_LENGTH];
         reference::load(&image, &mut vec![0; MARKS_LENGTH], &mut state);
@@ -173,7 +174,7 @@ fn lent(tally: &mut Tally) -> Result<(), String> {
 /// A state may be 5 deep; its return entries past the depth are 0.
 fn depths(tally: &mut Tally) -> Result<(), String> {
     let image = bytes_of("010200000002 5000000000000000 5500000000000000");
-    let given = reference::engine::Given { inputs: &[0; INPUTS_LENGTH], start: 0, reached: 0 };
+    let given = Given { inputs: &[0; INPUTS_LENGTH], start: 0, reached: 0 };
     for (depth, entry, wanted) in DEPTHS {
         let pokes = vec![(record(BIAS) + DEPTH, depth), (record(BIAS) + PATH + 2 * entry, 1)];
         let mut state = vec![0; STATE_LENGTH];
@@ -234,8 +235,28 @@ fn alike() -> Vec<u8> {
     image
 }
 
-/// Steps of BIAS after a load, and one more on what somebody makes of the state. The layout number stands where it has
-/// to as long as nobody else writes it, and what is refused stays as it was.
+/// The layout number stands where it has to.
+fn numbered(name: &str, state: &[u8], when: &str) -> Result<(), String> {
+    let (at, number) = NUMBERED;
+    if state[at] == number { Ok(()) } else { Err(format!("{name}: byte {at} is {} after {when}", state[at])) }
+}
+
+/// The state after a load and steps of BIAS on the reference.
+fn begun(name: &str, image: &[u8], steps: usize, given: Given) -> Result<Vec<u8>, String> {
+    let mut state = vec![0; STATE_LENGTH];
+    reference::load(image, &mut vec![0; MARKS_LENGTH], &mut state);
+    numbered(name, &state, "the load")?;
+    for step in 1..=steps {
+        let got = reference::step(image, &mut state, 0, given).number;
+        if got != SUCCESS {
+            return Err(format!("{name}: the reference says {got} at step {step}"));
+        }
+        numbered(name, &state, &format!("step {step}"))?;
+    }
+    Ok(state)
+}
+
+/// A load and steps of BIAS, then one on what somebody makes of the state. What is refused stays as it was.
 fn remade(
     name: &str,
     image: &[u8],
@@ -244,35 +265,21 @@ fn remade(
     wanted: u32,
     tally: &mut Tally,
 ) -> Result<(), String> {
-    let (at, number) = NUMBERED;
-    let numbered = |state: &[u8], when: &str| match state[at] {
-        byte if byte == number => Ok(()),
-        byte => Err(format!("{name}: byte {at} is {byte} {when}")),
-    };
-    let given = reference::engine::Given { inputs: &[0; INPUTS_LENGTH], start: 0, reached: 0 };
-    let mut state = vec![0; STATE_LENGTH];
-    reference::load(image, &mut vec![0; MARKS_LENGTH], &mut state);
-    numbered(&state, "after the load")?;
-    for step in 1..=steps {
-        let got = reference::step(image, &mut state, 0, given).number;
-        if got != SUCCESS {
-            return Err(format!("{name}: the reference refuses step {step} by {got}"));
-        }
-        numbered(&state, &format!("after step {step}"))?;
-    }
+    let given = Given { inputs: &[0; INPUTS_LENGTH], start: 0, reached: 0 };
+    let state = begun(name, image, steps, given)?;
     let mut lent = state.clone();
     remake(&mut lent);
-    let pokes = (0..STATE_LENGTH).filter(|at| lent[*at] != state[*at]).map(|at| (at, lent[at])).collect();
     let mut left = lent.clone();
     let got = reference::step(image, &mut left, 0, given).number;
     if got != wanted {
         return Err(format!("{name}: the reference says {got}, the papers {wanted}"));
     }
-    match wanted {
-        SUCCESS => numbered(&left, "after the last step")?,
-        _ if left != lent => return Err(format!("{name}: the reference refused the state and wrote it")),
-        _ => (),
+    if wanted == SUCCESS {
+        numbered(name, &left, "the last step")?;
+    } else if left != lent {
+        return Err(format!("{name}: the reference refused the state and wrote it"));
     }
+    let pokes = (0..STATE_LENGTH).filter(|at| lent[*at] != state[*at]).map(|at| (at, lent[at])).collect();
     let mut actions = vec![Action::plain(0); steps];
     actions.push(Action { pokes, ..Action::plain(0) });
     let both = case(image.to_vec(), actions).run(tally);
@@ -285,7 +292,7 @@ fn wait_ends(name: &str, kind: &str, turns: usize, tally: &mut Tally) -> Result<
     let steps = vec![Action::plain(0); turns + 1];
     let mut state = vec![0; STATE_LENGTH];
     reference::load(&image, &mut vec![0; MARKS_LENGTH], &mut state);
-    let given = reference::engine::Given { inputs: &[0; INPUTS_LENGTH], start: 0, reached: 0 };
+    let given = Given { inputs: &[0; INPUTS_LENGTH], start: 0, reached: 0 };
     for turn in 0..=turns {
         let at = State::of(&mut state).map(|state| state.block(BIAS));
         if at != Some(0) {
@@ -310,7 +317,7 @@ fn quotient(tally: &mut Tally) -> Result<(), String> {
         image.extend(bytes_of("00 5502000000000000"));
         let mut state = vec![0; STATE_LENGTH];
         reference::load(&image, &mut vec![0; MARKS_LENGTH], &mut state);
-        let given = reference::engine::Given { inputs: &[0; INPUTS_LENGTH], start: 0, reached: 0 };
+        let given = Given { inputs: &[0; INPUTS_LENGTH], start: 0, reached: 0 };
         reference::step(&image, &mut state, 0, given);
         reference::step(&image, &mut state, 0, given);
         if State::of(&mut state).map(|state| state.variable(1)) != Some(wanted) {

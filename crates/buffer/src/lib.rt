@@ -1,6 +1,7 @@
 // 16: which buffers are a state.
 use drive::Drive;
 use image::Header;
+use image::reader;
 use limits::STATE_LENGTH;
 use limits::CELLS;
 use limits::STACK_LENGTH;
@@ -12,9 +13,7 @@ ghost use lib.Dec.{eqb};
 ghost use lib.ListN.{length};
 ghost use Rattle.limits.specs.Limits.{mostDepth, cells, stateLength};
 ghost use Rattle.layout.specs.Layout.{unusedLength};
-ghost use Rattle.layout.specs.Test.{allOf, levelIs, entryIs, headerIs, waitIs, taskIs, valuesAre, stateIs, unusedZero, frameIs, isState};
-
-const FORMAT_1: u8 = image::reader::FORMAT_1 as u8;
+ghost use Rattle.layout.specs.Test.{allOf, levelIs, entryIs, waitIs, taskIs, valuesAre, stateIs, unusedZero, frameIs, isState};
 
 const UNUSED_AT: usize = layout::UNUSED_AT as usize;
 
@@ -64,21 +63,9 @@ pub fn state_is(s: State) -> bool
     let bias = tasks[0];
     let plc = tasks[1];
     let mathematics = tasks[2];
-    header_is(header)
+    reader::accepts(header)
         & (values_are(values)
             & (task_is(header, bias) & (task_is(header, plc) & task_is(header, mathematics))))
-}
-
-// A header that load accepts.
-fn header_is(h: Header) -> bool
-    ensures { λ r. ⌜ r ≡ headerIs h ⌝ }
-{
-    let model = h.drive.model;
-    (h.format == FORMAT_1)
-        & ((model < Drive::TYPES)
-            & (Drive::takes_b(model, h.drive.b as u32)
-                & (Drive::takes_c(model, h.drive.c as u32)
-                    & (limits::up_to(limits::MOST_BLOCKS, h.count) & (h.start < h.count)))))
 }
 
 // Flags and outputs 0 or 1, parameters in their ranges, start mark and preceding start level 0 or 1.

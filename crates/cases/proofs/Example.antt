@@ -50,7 +50,7 @@ computed : Computed
 unfolding
     types.takes types.cycleOf
     number.secondByte number.firstByte number.numberAt
-    header.formatRow header.typeRow header.slotBRow header.slotCRow header.countInRange header.countRow header.judged
+    header.checked header.firstSame header.sameHeader scan.judged
     scan.taken scan.more scan.scan scan.firstRefusal scan.lengthOutcome scan.readWith scan.closed scan.headerOf scan.blocksOf
     rows.rows rows.rowIn rows.rowOf
     operands.laidOut operands.operands operands.usedBytes operands.allZero operands.unusedZero

@@ -19,7 +19,7 @@ use Rattle.drive.specs.declared.Drive.{Drive}
 use Rattle.drive.specs.declared.Presence.{Presence}
 use Rattle.drive.specs.declared.Presence.the-variants as presence
 use Rattle.drive.proofs.Boards.{differ, missing-exactly, never-with, no-board}
-use Rattle.image.specs.Rows.{withDrive}
+use Rattle.image.specs.Numbers.{withDrive}
 use Rattle.image.specs.declared.Header.{Header}
 use Rattle.rows.specs.Rows.{rowOf}
 use Rattle.rows.specs.declared.Row.{Row}

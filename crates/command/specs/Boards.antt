@@ -5,7 +5,7 @@ use mathlib.Core.Bool.{true}
 use mathlib.Core.List.{List}
 use Rattle.pins.specs.declared.Home.{Home}
 use Rattle.drive.specs.Boards.{mayCarry, withBoards, fitted}
-use Rattle.image.specs.Rows.{withDrive}
+use Rattle.image.specs.Numbers.{withDrive}
 use Rattle.image.specs.declared.Header.{Header}
 use Rattle.command.specs.Judged.{blockFault}
 use Rattle.command.specs.declared.BlockFault.the-variants.{NotOnDrive, BoardMissing}

@@ -31,13 +31,13 @@ impl Drive {
 
     pub const TYPE_637F: u8 = 4;
 
-    pub const TYPES: u8 = 5;
+    pub const TYPES: u32 = 5;
 
     // The least type that may carry a board, by the board's number in its slot. Number 0 is the empty slot.
     // Slot B: RP-EA5, RP-2C8. Slot C: RP-EAE, RP-SBT.
-    pub const SLOT_B: [u8; 3] = [0, 1, 4];
+    pub const SLOT_B: [u32; 3] = [0, 1, 4];
 
-    pub const SLOT_C: [u8; 3] = [0, 1, 4];
+    pub const SLOT_C: [u32; 3] = [0, 1, 4];
 
     pub const BOARDS: u32 = 3;
 
@@ -59,14 +59,14 @@ impl Drive {
     }
 
     // Whether a type may have this board number in slot B.
-    pub fn takes_b(model: u8, board: u32) -> bool
+    pub fn takes_b(model: u32, board: u32) -> bool
         ensures { λ r. ⌜ r ≡ takesB model board ⌝ }
     {
         may_take(Drive::SLOT_B, model, board)
     }
 
     // Whether a type may have this board number in slot C.
-    pub fn takes_c(model: u8, board: u32) -> bool
+    pub fn takes_c(model: u32, board: u32) -> bool
         ensures { λ r. ⌜ r ≡ takesC model board ⌝ }
     {
         may_take(Drive::SLOT_C, model, board)
@@ -81,7 +81,7 @@ impl Drive {
 }
 
 // Whether a type may carry a board of a slot, from the least types of the slot's boards.
-fn may_take(least: [u8; 3], model: u8, board: u32) -> bool
+fn may_take(least: [u32; 3], model: u32, board: u32) -> bool
     ensures { λ r. ⌜ r ≡ takes least model board ⌝ }
 {
     if board >= Drive::BOARDS {
@@ -110,13 +110,13 @@ fn found(d: Drive, home: Home) -> Presence
             if t == Drive::TYPE_631 {
                 return Presence::Never;
             }
-            if t >= Drive::TYPES {
+            if t as u32 >= Drive::TYPES {
                 return Presence::Never;
             }
             Presence::Present
         }
-        Home::SlotB(board) => on_board(Drive::takes_b(t, board as u32), board, d.b),
-        Home::SlotC(board) => on_board(Drive::takes_c(t, board as u32), board, d.c),
+        Home::SlotB(board) => on_board(Drive::takes_b(t as u32, board as u32), board, d.b),
+        Home::SlotC(board) => on_board(Drive::takes_c(t as u32, board as u32), board, d.c),
     }
 }
 

@@ -23,7 +23,7 @@ ghost use Rattle.state.specs.State.{taskAt};
 ghost use Rattle.state.specs.Good.{Good};
 ghost use Rattle.machine.specs.Given.{inputsOf};
 ghost use Rattle.machine.specs.Deep.{Deep};
-ghost use Rattle.machine.specs.Engine.{refuse, sameHeader, isWait, isLoaded, blockFits, waitFits, fits, noted, answerTo, pointOf, performed, carriedOut, taskStep, step};
+ghost use Rattle.machine.specs.Engine.{refuse, isWait, isLoaded, blockFits, waitFits, fits, noted, answerTo, pointOf, performed, carriedOut, taskStep, step};
 
 // A step that is refused: nothing changes, and no motion is asked for.
 fn refuse(state: State, answer: Answer) -> Out
@@ -45,17 +45,6 @@ fn point_of(t: u8, k: Task) -> Point
         block: k.block,
         depth: k.depth,
     }
-}
-
-// Whether two headers are the same.
-fn same_header(a: Header, b: Header) -> bool
-    ensures { λ r. ⌜ r ≡ sameHeader a b ⌝ }
-{
-    let p = a.drive;
-    let q = b.drive;
-    (a.format == b.format)
-        & ((p.model == q.model)
-            & ((p.b == q.b) & ((p.c == q.c) & ((a.start == b.start) & (a.count == b.count)))))
 }
 
 // Whether a code is a wait for a time.
@@ -110,7 +99,7 @@ fn is_loaded(image: &[u8], header: Header) -> bool
 {
     let read = reader::read(image);
     let outcome = read.outcome;
-    outcome.is_done() & same_header(read.header, header)
+    outcome.is_done() & reader::same(read.header, header)
 }
 
 // Whether the block at a task's pointer passes 5 to 8 and 23 by itself, and 9 to 12 where the task is.

@@ -1,3 +1,5 @@
+pub mod Numbers
+pub mod Rows
 pub mod Scanning
 pub mod Accepted
 pub mod Read

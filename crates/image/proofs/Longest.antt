@@ -1,24 +1,26 @@
 -- No image that 1 to 4 let pass is longer than the longest (include/bias.h: BIAS_MOST_IMAGE_LENGTH): a number below 128 takes one byte, and no header
 -- number is above its greatest. Assumes nothing.
-use mathlib.Core.Path.{_≡_, refl, ap, subst}
+use mathlib.Core.Path.{_≡_, refl, subst}
 use mathlib.Core.Bool.{Bool, true, false, cond}
 use mathlib.Core.List.{List}
-use Prim.Native.Nat.{ℕ, suc, _+_, _*_, _<_, _≤_}
+use Prim.Native.Nat.{ℕ, zero, suc, _+_, _*_, _<_, _≤_}
 use native.Mathlib.Omega.{arith}
 use lib.ListN.{length, getD}
 use lib.Dec.{eqb, ltb}
 use borrow.Author.Tests.{ltb-false, eqb-false, le-ltb}
-use Rattle.limits.specs.Limits.{blockLength}
+use Rattle.limits.specs.Limits.{mostBlocks, blockLength}
 use Rattle.drive.specs.Types.{slotB, slotC}
 use Rattle.drive.proofs.Laws.{board-small}
 use Rattle.outcome.specs.Outcome.{done}
-use Rattle.number.specs.Number.{secondByte, firstByte, numberAt}
+use Rattle.number.specs.Number.{numberLimit, secondByte, firstByte, numberAt}
 use Rattle.number.specs.declared.Number.{Number}
 use Rattle.number.specs.declared.Number as number
-use Rattle.image.specs.Scan.{Source, fromImage, scan, headerOf, rowCount}
-use Rattle.image.specs.Longest.{greatest, sizeUpTo, longestHeader, longestImage}
-use Rattle.image.specs.declared.Header.{Header}
-use Rattle.image.proofs.Accepted.{place, value, Accepted, accepted-header}
+use Rattle.image.specs.Numbers.{headerFrom}
+use Rattle.image.specs.Good.{Good}
+use Rattle.image.specs.Rows.{rowCount}
+use Rattle.image.specs.Scan.{Source, fromImage, scan, scannedHeader, headerOf}
+use Rattle.image.specs.Longest.{greatest, sizeUpTo, longestFirst, longestImage}
+use Rattle.image.proofs.Accepted.{place, Accepted, accepted-header}
 use Rattle.image.proofs.Read.{read-fine}
 
 -- the figure of include/bias.h
@@ -62,35 +64,56 @@ image-sized image row at =
     (λ _. tt)))
     (λ _. tt)
 
--- where the six numbers end
-module _ (n : ℕ) (source : Source) (sized : (row at : ℕ) → Sized at (source row at)) (a : Accepted n source) where
-  next-place : (k most : ℕ) → k < rowCount → value n source k ≤ most → place n source (suc k) ≤ place n source k + sizeUpTo most
-  next-place k most l h = subst (Sized (place n source k)) (a .numbers k l) (sized k (place n source k)) most h
+-- no number of a good header is above its greatest
+below-greatest : (ns : List ℕ) → Good (headerFrom ns) → (k : ℕ) → k < rowCount → getD ns k 0 ≤ getD greatest k 0
+below-greatest ns g k l = go k l
+  where
+    b : headerFrom ns .drive .b < length slotB
+    b = board-small slotB _ _ (g .boardB)
 
-  pub header-end : place n source rowCount ≤ longestHeader
+    c : headerFrom ns .drive .c < length slotC
+    c = board-small slotC _ _ (g .boardC)
+
+    go : (j : ℕ) → j < rowCount → getD ns j 0 ≤ getD greatest j 0
+    go zero u = let e = g .format in omega arith
+    go (suc zero) u = let e = g .model in omega arith
+    go (suc (suc zero)) u = let e = b in omega arith
+    go (suc (suc (suc zero))) u = let e = c in omega arith
+    go (suc (suc (suc (suc zero)))) u = let e = g .start in let m = g .count .1 in omega arith
+    go (suc (suc (suc (suc (suc zero))))) u = let e = g .count .1 in omega arith
+    go (suc (suc (suc (suc (suc (suc j)))))) u = absurd (omega arith)
+
+-- so each has a form of one or two bytes
+pub number-small : (ns : List ℕ) → Good (headerFrom ns) → (k : ℕ) → k < rowCount → getD ns k 0 < numberLimit
+number-small ns g k l = let h = below-greatest ns g k l in let m = small k in omega arith
+  where
+    small : (j : ℕ) → getD greatest j 0 ≤ mostBlocks
+    small zero = omega arith
+    small (suc zero) = omega arith
+    small (suc (suc zero)) = omega arith
+    small (suc (suc (suc zero))) = omega arith
+    small (suc (suc (suc (suc zero)))) = omega arith
+    small (suc (suc (suc (suc (suc zero))))) = omega arith
+    small (suc (suc (suc (suc (suc (suc j)))))) = omega arith
+
+-- where the numbers end
+module _ (n : ℕ) (source : Source) (sized : (row at : ℕ) → Sized at (source row at)) (a : Accepted n source) where
+  ends : (k : ℕ) → k ≤ rowCount → place n source k ≤ longestFirst k
   unfolding scan
-  header-end =
-      let b = board-small slotB _ _ (a .boardB) in
-      let c = board-small slotC _ _ (a .boardC) in
-      let f = a .format in
-      let m = a .model in
-      let s = a .start in
-      let k = a .count .1 in
-      let p0 = next-place 0 (getD greatest 0 0) (omega arith) (omega arith) in
-      let p1 = next-place 1 (getD greatest 1 0) (omega arith) (omega arith) in
-      let p2 = next-place 2 (getD greatest 2 0) (omega arith) (omega arith) in
-      let p3 = next-place 3 (getD greatest 3 0) (omega arith) (omega arith) in
-      let p4 = next-place 4 (getD greatest 4 0) (omega arith) (omega arith) in
-      let p5 = next-place 5 (getD greatest 5 0) (omega arith) (omega arith) in
-      let z : place n source 0 ≡ 0 = refl in
+  ends zero l = omega arith
+  ends (suc k) l =
+      let u : k < rowCount = omega arith in
+      let e = ends k (omega arith) in
+      let v = a .is k u in
+      let m = below-greatest (scan n source rowCount .numbers) (a .good) k u in
+      let p = subst (Sized (place n source k)) (a .numbers k u) (sized k (place n source k)) (getD greatest k 0) (omega arith) in
       omega arith
 
   -- with the blocks behind them
-  pub image-end : place n source rowCount + blockLength * scan n source rowCount .header .count ≤ longestImage
+  pub image-end : place n source rowCount + blockLength * scannedHeader (scan n source rowCount) .count ≤ longestImage
   image-end =
-      let p = header-end in
-      let k = a .count .1 in
-      let is = ap (λ (h : Header). h .count) (a .header) in
+      let p = ends rowCount (omega arith) in
+      let k = a .good .count .1 in
       omega arith
 
 pub longest-image : (image : List ℕ) → done (headerOf image .outcome) ≡ true → length image ≤ longestImage

@@ -11,7 +11,8 @@ use lib.Dec.{ltb}
 use borrow.Author.Tests.{ltb-false, le-ltb}
 use Rattle.limits.specs.Limits.{blockLength}
 use Rattle.outcome.specs.Outcome.{done}
-use Rattle.image.specs.Scan.{fromImage, scan, firstRefusal, lengthOutcome, readWith, closed, headerOf, blocksOf}
+use Rattle.image.specs.Rows.{rowCount}
+use Rattle.image.specs.Scan.{fromImage, scan, scannedHeader, firstRefusal, lengthOutcome, readWith, closed, headerOf, blocksOf}
 use Rattle.outcome.specs.declared.Outcome.the-variants.{Done, EndsEarly, NotShortest, OutOfRange, LeftOver, NoRoom}
 use Rattle.outcome.specs.declared.Outcome.{Outcome}
 use Rattle.image.specs.declared.reader.Scan.{Scan}
@@ -56,30 +57,30 @@ length-passes at count n e = rw (le-ltb n (at + blockLength * count) (omega arit
 
 pub record Closed (s : Scan) (n : ℕ) : Type 0 where
   pub scanned : done (s .outcome) ≡ true
-  pub long : n ≡ s .at + blockLength * s .header .count
-  pub is : closed s n ≡ record { outcome = Done; header = s .header; at = s .at }
+  pub long : n ≡ s .at + blockLength * scannedHeader s .count
+  pub is : closed s n ≡ record { outcome = Done; header = scannedHeader s; at = s .at }
 
-pub closed-is : (s : Scan) (n : ℕ) → done (s .outcome) ≡ true → n ≡ s .at + blockLength * s .header .count → closed s n ≡ record { outcome = Done; header = s .header; at = s .at }
+pub closed-is : (s : Scan) (n : ℕ) → done (s .outcome) ≡ true → n ≡ s .at + blockLength * scannedHeader s .count → closed s n ≡ record { outcome = Done; header = scannedHeader s; at = s .at }
 unfolding closed readWith
-closed-is s n d e = rw (both-pass (s .outcome) (lengthOutcome (s .at) (s .header .count) n) d, length-passes (s .at) (s .header .count) n e)
+closed-is s n d e = rw (both-pass (s .outcome) (lengthOutcome (s .at) (scannedHeader s .count) n) d, length-passes (s .at) (scannedHeader s .count) n e)
 
 pub closed-fine : (s : Scan) (n : ℕ) → done (closed s n .outcome) ≡ true → Closed s n
 unfolding closed readWith
 closed-fine s n h = go (done o) refl
   where
     o : Outcome
-    o = firstRefusal (s .outcome) (lengthOutcome (s .at) (s .header .count) n)
+    o = firstRefusal (s .outcome) (lengthOutcome (s .at) (scannedHeader s .count) n)
 
     go : (t : Bool) → done o ≡ t → Closed s n
     go false e = clash (sym (rw e at h) ∙ e)
     go true e =
-        let b = neither (s .outcome) (lengthOutcome (s .at) (s .header .count) n) e in
-        let l = length-right (s .at) (s .header .count) n (b .1) in
+        let b = neither (s .outcome) (lengthOutcome (s .at) (scannedHeader s .count) n) e in
+        let l = length-right (s .at) (scannedHeader s .count) n (b .1) in
         record { scanned = b .0; long = l; is = closed-is s n (b .0) l }
 
--- the numbers of an image, all six
+-- the numbers of an image, all of them
 abbrev pub scanOf : List ℕ → Scan
-scanOf image = scan (length image) (fromImage image) 6
+scanOf image = scan (length image) (fromImage image) rowCount
 
 pub read-fine : (image : List ℕ) → done (headerOf image .outcome) ≡ true → Closed (scanOf image) (length image)
 unfolding headerOf

@@ -1,25 +1,23 @@
--- One number more of a header: what a scan does with it, and how far a scan can come.
--- Assumes nothing.
-use mathlib.Core.Path.{_≡_}
-use mathlib.Core.Bool.{true, false}
+-- One number more of a header: what a scan does with it, and how far a scan can come. Assumes nothing.
+use mathlib.Core.Path.{_≡_, refl, sym, ap, _∙_}
+use mathlib.Core.Bool.{Bool, true, false}
 use mathlib.Core.List.{List}
 use native.Mathlib.Omega.{arith}
 use lib.ListN.{length, getD}
-use mir.Syntax.{w16}
-use mir.Val.{Fits}
-use lib.Dec.{eqb, ltb, leb}
-use borrow.Author.Tests.{ltb-true, leb-true}
-use Rattle.limits.specs.Limits.{mostBlocks}
-use Rattle.drive.specs.Types.{takesB, takesC}
-use Prim.Native.Nat.{ℕ, zero, suc, _+_, _*_, _<_, _≤_}
+use lib.Dec.{eqb, ltb}
+use Prim.Native.Nat.{ℕ, zero, suc, _+_, _*_, _≤_}
 use native.Mathlib.Numerals.{add-one}
 use Rattle.outcome.specs.Outcome.{done}
+use Rattle.outcome.specs.declared.Outcome.{Outcome}
 use Rattle.number.specs.Number.{numberAt, firstByte, secondByte}
-use Rattle.number.proofs.Choice.{both, either}
-use Rattle.image.specs.Scan.{Source, fromImage, taken, more, scan}
-use Rattle.image.specs.Rows.{judged, formatRow, typeRow, slotBRow, slotCRow, countInRange, countRow}
 use Rattle.number.specs.declared.Number.{Number}
 use Rattle.number.specs.declared.Number as number
+use Rattle.number.proofs.Choice.{either, clash}
+use Rattle.image.specs.Numbers.{headerFrom}
+use Rattle.image.specs.Rows.{checked}
+use Rattle.image.specs.Scan.{Source, fromImage, noNumbers, stopped, noted, unlessFailed, judged, taken, more, scan}
+use Rattle.image.specs.declared.reader.Check.{Check}
+use Rattle.image.specs.declared.reader.Check.the-variants.{Passes, Fails}
 use Rattle.image.specs.declared.reader.Scan.{Scan}
 
 module _ (n : ℕ) (source : Source) (row : ℕ) (s : Scan) where
@@ -32,17 +30,6 @@ module _ (n : ℕ) (source : Source) (row : ℕ) (s : Scan) where
   pub takes : done (s .outcome) ≡ true → (x : Number) → source row (s .at) ≡ x → more n source row s ≡ taken n row s x
   unfolding more
   takes h x e = rw (h, e)
-
--- a count that is in range
-pub count-range : (v : ℕ) → countInRange v ≡ true → (0 < v) × (v ≤ mostBlocks)
-unfolding countInRange
-count-range v h =
-    let r = both (ltb 0 v) (leb v mostBlocks) h in
-    (ltb-true 0 v (r .0), leb-true v mostBlocks (r .1))
-
--- a start below it fits 16 bits
-pub start-fits : (start v : ℕ) → start < v → v ≤ mostBlocks → Fits w16 start
-start-fits start v h k = record { fits = omega arith }
 
 -- one row more of a scan
 pub next-row : (n : ℕ) (source : Source) (row : ℕ) (s : Scan) → s ≡ scan n source row → more n source row s ≡ scan n source (row + 1)
@@ -57,25 +44,14 @@ Near at (number.Number.Value v next) = next ≤ at + 2
 Near at number.Number.EndsEarly = Unit {0}
 Near at number.Number.NotShortest = Unit {0}
 
--- a row leaves the scan at the next place, or at 0, or there is no such row
-module _ (s : Scan) (v next m : ℕ) (h : next ≤ m) (k : s .at ≤ m) where
-  abbrev Below : Scan → Type 0
-  Below x = x .at ≤ m
-
-  row-near : (row : ℕ) → Below (judged row s v next)
-  unfolding judged formatRow typeRow slotBRow slotCRow countRow
-  row-near zero = either Below (eqb v 1) h (omega arith)
-  row-near (suc zero) = either Below (ltb v 5) h (omega arith)
-  row-near (suc (suc zero)) = either Below (takesB (s .header .drive .model) v) h (omega arith)
-  row-near (suc (suc (suc zero))) = either Below (takesC (s .header .drive .model) v) h (omega arith)
-  row-near (suc (suc (suc (suc zero)))) = h
-  row-near (suc (suc (suc (suc (suc zero))))) =
-      either Below (countInRange v) (either Below (ltb (s .start) v) h (omega arith)) (omega arith)
-  row-near (suc (suc (suc (suc (suc (suc r)))))) = k
+-- a row leaves the scan at the next place, or at 0
+unless-near : (c : Check) (s : Scan) (m : ℕ) → s .at ≤ m → unlessFailed c s .at ≤ m
+unless-near Passes s m h = h
+unless-near (Fails k) s m h = omega arith
 
 taken-near : (n row : ℕ) (s : Scan) (x : Number) (m : ℕ) → Near (s .at) x → s .at + 2 ≤ m → taken n row s x .at ≤ m
-unfolding taken
-taken-near n row s (number.Number.Value v next) m h k = row-near s v next m (omega arith) (omega arith) row
+unfolding taken judged
+taken-near n row s (number.Number.Value v next) m h k = unless-near (checked row (headerFrom (noted row s v next .numbers))) (noted row s v next) m (omega arith)
 taken-near n row s number.Number.EndsEarly m h k = omega arith
 taken-near n row s number.Number.NotShortest m h k = omega arith
 
@@ -98,3 +74,28 @@ image-near s row at =
     (either (Near at) (eqb (getD s (at + 1) 0) 0) tt (either (Near at) (ltb (getD s (at + 1) 0) 128) (omega arith) tt))
     tt))
     tt
+
+-- ---- a scan that was refused holds no number
+
+-- nothing is refused, or there are no numbers
+abbrev pub Empty : Scan → Type 0
+Empty s = done (s .outcome) ≡ false → s .numbers ≡ noNumbers
+
+unless-empty : (c : Check) (s : Scan) → done (s .outcome) ≡ true → Empty (unlessFailed c s)
+unless-empty Passes s d e = clash (sym d ∙ e)
+unless-empty (Fails k) s d e = refl
+
+taken-empty : (n row : ℕ) (s : Scan) (x : Number) → Empty (taken n row s x)
+unfolding taken judged
+taken-empty n row s (number.Number.Value v next) = unless-empty (checked row (headerFrom (noted row s v next .numbers))) (noted row s v next) refl
+taken-empty n row s number.Number.EndsEarly = λ e. refl
+taken-empty n row s number.Number.NotShortest = λ e. refl
+
+more-empty : (n : ℕ) (source : Source) (row : ℕ) (s : Scan) → Empty s → Empty (more n source row s)
+unfolding more
+more-empty n source row s h = either Empty (done (s .outcome)) (taken-empty n row s (source row (s .at))) h
+
+pub refused-empty : (n : ℕ) (source : Source) (k : ℕ) → Empty (scan n source k)
+unfolding scan
+refused-empty n source zero = λ e. refl
+refused-empty n source (suc k) = more-empty n source k (scan n source k) (refused-empty n source k)

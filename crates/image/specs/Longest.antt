@@ -6,8 +6,7 @@ use lib.Dec.{ltb}
 use lib.ListN.{length, getD}
 use Rattle.limits.specs.Limits.{mostBlocks, blockLength}
 use Rattle.drive.specs.Types.{types, slotB, slotC}
-use Rattle.image.specs.Rows.{format1}
-use Rattle.image.specs.Scan.{rowCount}
+use Rattle.image.specs.Rows.{format1, rowCount}
 
 -- the greatest that each number may be: format, type, slots B and C, start, count
 abbrev pub greatest : List ℕ

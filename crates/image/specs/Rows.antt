@@ -1,92 +1,92 @@
--- The header's numbers, one row for each: what it must be and where it goes. Document 01, "The image" and refusal 3.
--- Assumes nothing.
-use Prim.Native.Nat.{ℕ}
-use mathlib.Core.Bool.{Bool, _&&_, cond}
+-- The header's numbers judged (document 01, "The image" and refusal 3): what must hold of each, and when it is asked. Assumes nothing.
+use Prim.Native.Nat.{ℕ, zero, suc}
+use mathlib.Core.Bool.{Bool, true, false, _&&_, cond}
 use mathlib.Core.List.{List, [], _∷_}
-use lib.ListN.{getD}
-use lib.Dec.{eqb, ltb, leb}
-use Rattle.limits.specs.Limits.{mostBlocks}
-use Rattle.drive.specs.Boards.{withBoards}
+use lib.ListN.{length, getD}
+use lib.Dec.{eqb, ltb}
+use Rattle.limits.specs.Limits.{mostBlocks, upTo}
 use Rattle.drive.specs.Types.{types, takesB, takesC}
-use Rattle.drive.specs.declared.Drive.{Drive}
+use Rattle.image.specs.Numbers.{numbersOf}
 use Rattle.image.specs.declared.Header.{Header}
-use Rattle.outcome.specs.declared.Outcome.{Outcome}
-use Rattle.outcome.specs.declared.Outcome.the-variants.{Done, OutOfRange}
-use Rattle.image.specs.declared.reader.Scan.{Scan}
+use Rattle.image.specs.declared.reader.Check.{Check}
+use Rattle.image.specs.declared.reader.Check.the-variants.{Passes, Fails}
 
--- limits: the one format, the most blocks
+-- the one format
 abbrev pub format1 : ℕ
 format1 = 1
 
--- all numbers 0
-abbrev pub noHeader : Header
-noHeader = record { format = 0; drive = record { model = 0; b = 0; c = 0 }; start = 0; count = 0 }
+-- ---- what must hold of a header
 
--- a scan of this outcome alone: all else is 0
-abbrev pub stopped : Outcome → Scan
-stopped o = record { outcome = o; header = noHeader; start = 0; startplace = 0; at = 0 }
+abbrev pub formatFits : Header → Bool
+formatFits h = eqb (h .format) format1
 
--- the scan with the header h, at the next number's place
-abbrev pub accepted : Scan → Header → ℕ → Scan
-accepted s h next = record { outcome = Done; header = h; start = s .start; startplace = s .startplace; at = next }
-
--- refused by 3, at the number's first byte
-abbrev pub outOfRange : Scan → Scan
-outOfRange s = stopped (OutOfRange (s .at))
-
-abbrev pub withFormat : ℕ → Header → Header
-withFormat v h = record { format = v; drive = h .drive; start = h .start; count = h .count }
-
-abbrev pub withDrive : Drive → Header → Header
-withDrive d h = record { format = h .format; drive = d; start = h .start; count = h .count }
-
-abbrev pub withModel : ℕ → Drive → Drive
-withModel v d = record { model = v; b = d .b; c = d .c }
-
-abbrev pub withB : ℕ → Drive → Drive
-withB v d = withBoards d v (d .c)
-
-abbrev pub withC : ℕ → Drive → Drive
-withC v d = withBoards d (d .b) v
-
-abbrev pub withBlocks : ℕ → ℕ → Header → Header
-withBlocks start count h = record { format = h .format; drive = h .drive; start = start; count = count }
-
--- ---- the rows: the scan so far, the number, the place behind it
-
-unfoldable pub formatRow : Scan → ℕ → ℕ → Scan
-formatRow s v next = cond (eqb v format1) (accepted s (withFormat v (s .header)) next) (outOfRange s)
-
-unfoldable pub typeRow : Scan → ℕ → ℕ → Scan
-typeRow s v next = cond (ltb v types) (accepted s (withDrive (withModel v (s .header .drive)) (s .header)) next) (outOfRange s)
+abbrev pub typeFits : Header → Bool
+typeFits h = ltb (h .drive .model) types
 
 -- the board must be one that the type may carry
-unfoldable pub slotBRow : Scan → ℕ → ℕ → Scan
-slotBRow s v next =
-    cond (takesB (s .header .drive .model) v) (accepted s (withDrive (withB v (s .header .drive)) (s .header)) next) (outOfRange s)
+abbrev pub slotBFits : Header → Bool
+slotBFits h = takesB (h .drive .model) (h .drive .b)
 
-unfoldable pub slotCRow : Scan → ℕ → ℕ → Scan
-slotCRow s v next =
-    cond (takesC (s .header .drive .model) v) (accepted s (withDrive (withC v (s .header .drive)) (s .header)) next) (outOfRange s)
+abbrev pub slotCFits : Header → Bool
+slotCFits h = takesC (h .drive .model) (h .drive .c)
 
--- the start is only noted, with its place: the count's row judges it
-abbrev pub startRow : Scan → ℕ → ℕ → Scan
-startRow s v next = record { outcome = Done; header = s .header; start = v; startplace = s .at; at = next }
+abbrev pub countFits : Header → Bool
+countFits h = upTo mostBlocks (h .count)
 
--- 1 to 1500
-unfoldable pub countInRange : ℕ → Bool
-countInRange v = ltb 0 v && leb v mostBlocks
+abbrev pub startFits : Header → Bool
+startFits h = ltb (h .start) (h .count)
 
--- the count, then the start, which must be below it
-unfoldable pub countRow : Scan → ℕ → ℕ → Scan
-countRow s v next =
-    cond (countInRange v)
-    (cond (ltb (s .start) v) (accepted s (withBlocks (s .start) v (s .header)) next) (stopped (OutOfRange (s .startplace))))
-    (outOfRange s)
+-- ---- when it is asked
 
--- the rows by number
-abbrev pub rows : List (Scan → ℕ → ℕ → Scan)
-rows = formatRow ∷ typeRow ∷ slotBRow ∷ slotCRow ∷ startRow ∷ countRow ∷ []
+-- a test, and which number is out of range where it does not hold
+pub record Test : Type 0 where
+  pub number : ℕ
+  pub fits : Header → Bool
 
-unfoldable pub judged : ℕ → Scan → ℕ → ℕ → Scan
-judged row = getD rows row (λ s v next. s)
+abbrev pub test : ℕ → (Header → Bool) → Test
+test k f = record { number = k; fits = f }
+
+-- by number, in the order in which they stand: the tests when it has been read, of the numbers read so far; the start is judged behind the count
+abbrev pub rows : List (List Test)
+rows =
+    (test 0 formatFits ∷ []) ∷  -- format
+    (test 1 typeFits ∷ []) ∷  -- type
+    (test 2 slotBFits ∷ []) ∷  -- slot B
+    (test 3 slotCFits ∷ []) ∷  -- slot C
+    [] ∷  -- start
+    (test 5 countFits ∷ test 4 startFits ∷ []) ∷  -- count
+    []
+
+-- how many numbers a header has
+abbrev pub rowCount : ℕ
+rowCount = length rows
+
+-- the first test that does not hold
+abbrev pub check : List Test → Header → Check
+check [] h = Passes
+check (t ∷ ts) h = cond (t .fits h) (check ts h) (Fails (t .number))
+
+unfoldable pub checked : ℕ → Header → Check
+checked row h = check (getD rows row []) h
+
+-- ---- a header that load accepts: each row lets it pass
+
+abbrev pub passed : Check → Bool
+passed Passes = true
+passed (Fails k) = false
+
+unfoldable pub firstPass : ℕ → Header → Bool
+firstPass zero h = true
+firstPass (suc row) h = firstPass row h && passed (checked row h)
+
+unfoldable pub accepts : Header → Bool
+accepts h = firstPass rowCount h
+
+-- ---- two headers are the same: each number is
+
+unfoldable pub firstSame : ℕ → List ℕ → List ℕ → Bool
+firstSame zero ns ms = true
+firstSame (suc k) ns ms = firstSame k ns ms && eqb (getD ns k 0) (getD ms k 0)
+
+unfoldable pub sameHeader : Header → Header → Bool
+sameHeader a b = firstSame rowCount (numbersOf a) (numbersOf b)

@@ -3,16 +3,20 @@
 use Prim.Native.Nat.{ℕ, zero, suc, _+_, _*_}
 use mathlib.Core.Bool.{cond}
 use mathlib.Core.List.{List, []}
-use lib.ListN.{length, drop}
+use lib.ListN.{length, getD, set, replicate, drop}
 use lib.Dec.{ltb}
 use Rattle.limits.specs.Limits.{blockLength}
 use Rattle.outcome.specs.Outcome.{done}
-use Rattle.number.specs.Number.{numberAt}
-use Rattle.image.specs.Rows.{noHeader, stopped, judged}
 use Rattle.outcome.specs.declared.Outcome.{Outcome}
-use Rattle.outcome.specs.declared.Outcome.the-variants.{Done, EndsEarly, NotShortest, LeftOver}
+use Rattle.outcome.specs.declared.Outcome.the-variants.{Done, EndsEarly, NotShortest, OutOfRange, LeftOver}
+use Rattle.number.specs.Number.{numberAt}
 use Rattle.number.specs.declared.Number.{Number}
 use Rattle.number.specs.declared.Number as number
+use Rattle.image.specs.Numbers.{headerFrom}
+use Rattle.image.specs.Rows.{rowCount, checked}
+use Rattle.image.specs.declared.reader.Check.{Check}
+use Rattle.image.specs.declared.reader.Check.the-variants.{Passes, Fails}
+use Rattle.image.specs.declared.Header.{Header}
 use Rattle.image.specs.declared.reader.Scan.{Scan}
 use Rattle.image.specs.declared.reader.HeaderRead.{HeaderRead}
 
@@ -24,9 +28,30 @@ Source = ℕ → ℕ → Number
 abbrev pub fromImage : List ℕ → Source
 fromImage image row at = numberAt image at
 
+-- as many zeros as a header has numbers
+abbrev pub noNumbers : List ℕ
+noNumbers = replicate rowCount 0
+
+-- a scan of this outcome alone: all else is 0
+abbrev pub stopped : Outcome → Scan
+stopped o = record { outcome = o; numbers = noNumbers; places = noNumbers; at = 0 }
+
 -- no number yet: nothing refused, all else 0
 abbrev pub begun : Scan
 begun = stopped Done
+
+-- the number v beside those read so far, with its place
+abbrev pub noted : ℕ → Scan → ℕ → ℕ → Scan
+noted row s v next = record { outcome = Done; numbers = set (s .numbers) row v; places = set (s .places) row (s .at); at = next }
+
+-- refused by 3, at the first byte of the number that is out of range
+abbrev pub unlessFailed : Check → Scan → Scan
+unlessFailed Passes s = s
+unlessFailed (Fails k) s = stopped (OutOfRange (getD (s .places) k 0))
+
+-- number `row` is v and stands at the scan's place: judged by its row, beside the numbers read so far
+unfoldable pub judged : ℕ → Scan → ℕ → ℕ → Scan
+judged row s v next = unlessFailed (checked row (headerFrom (set (s .numbers) row v))) (noted row s v next)
 
 -- what stands at the next place of an image of n bytes, taken as number `row`
 unfoldable pub taken : ℕ → ℕ → Scan → Number → Scan
@@ -43,13 +68,9 @@ unfoldable pub scan : ℕ → Source → ℕ → Scan
 scan n source zero = begun
 scan n source (suc row) = more n source row (scan n source row)
 
--- how many numbers a header has
-abbrev pub rowCount : ℕ
-rowCount = 6
-
 -- the most bytes that the numbers take
 abbrev pub mostHeaderBytes : ℕ
-mostHeaderBytes = 12
+mostHeaderBytes = 2 * rowCount
 
 -- of two judgements, one after the other, the refusal that comes first
 unfoldable pub firstRefusal : Outcome → Outcome → Outcome
@@ -61,15 +82,19 @@ lengthOutcome at count n =
     cond (ltb n (at + blockLength * count)) (EndsEarly n) (cond (ltb (at + blockLength * count) n) (LeftOver (at + blockLength * count)) Done)
 
 abbrev pub refusedRead : Outcome → HeaderRead
-refusedRead o = record { outcome = o; header = noHeader; at = 0 }
+refusedRead o = record { outcome = o; header = headerFrom noNumbers; at = 0 }
+
+-- the header of the numbers that were read
+abbrev pub scannedHeader : Scan → Header
+scannedHeader s = headerFrom (s .numbers)
 
 -- numbers and blocks judged: the header that was read, or the refusal
 unfoldable pub readWith : Scan → Outcome → HeaderRead
-readWith s o = cond (done o) (record { outcome = o; header = s .header; at = s .at }) (refusedRead o)
+readWith s o = cond (done o) (record { outcome = o; header = scannedHeader s; at = s .at }) (refusedRead o)
 
 -- the numbers, then the length
 unfoldable pub closed : Scan → ℕ → HeaderRead
-closed s n = readWith s (firstRefusal (s .outcome) (lengthOutcome (s .at) (s .header .count) n))
+closed s n = readWith s (firstRefusal (s .outcome) (lengthOutcome (s .at) (scannedHeader s .count) n))
 
 -- the header of an image
 unfoldable pub headerOf : List ℕ → HeaderRead

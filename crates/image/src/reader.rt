@@ -1,29 +1,33 @@
-// Reads and judges the header of an image, then its length, in document 01's order ("Refused because of the input").
-// Each number is one row of `judge`, so that a later format's number is one row more.
+// Reads and judges the header of an image, then its length, in document 01's order ("Refused because of the input"). A number is judged when it has been
+// read, by its row of `check_row`, beside the numbers read before it.
 use crate::Header;
 use drive::Drive;
 use number::Number;
 use outcome::Outcome;
 ghost use mathlib.Core.Path.{_≡_};
-ghost use Prim.Native.Nat.{_≤_};
-ghost use lib.ListN.{length};
-ghost use Rattle.image.specs.Rows.{noHeader, stopped, accepted, formatRow, typeRow, slotBRow, slotCRow, startRow, countInRange, countRow, judged};
-ghost use Rattle.image.specs.Scan.{begun, taken, more, fromImage, scan, rowCount, mostHeaderBytes, firstRefusal, lengthOutcome, refusedRead, closed, headerOf, blocksOf};
+ghost use mathlib.Core.Bool.{cond};
+ghost use mathlib.Core.List.{[], _∷_};
+ghost use Prim.Native.Nat.{_<_, _≤_};
+ghost use lib.ListN.{length, getD};
+ghost use Rattle.image.specs.Numbers.{numbersOf, headerFrom, Narrow};
+ghost use Rattle.image.specs.Rows.{rowCount, check, test, countFits, startFits, checked, passed, accepts, sameHeader};
+ghost use Rattle.image.specs.declared.reader.Check.the-variants.{Passes, Fails};
+ghost use Rattle.image.specs.Scan.{begun, stopped, judged, taken, more, fromImage, scan, scannedHeader, mostHeaderBytes, firstRefusal, lengthOutcome, refusedRead, closed, headerOf, blocksOf};
 
-// The rows: which number of the header it is.
-pub const FORMAT: u8 = 0;
+// The numbers of a header, in the order in which they stand.
+pub const FORMAT: usize = 0;
 
-pub const TYPE: u8 = 1;
+pub const TYPE: usize = 1;
 
-pub const SLOT_B: u8 = 2;
+pub const SLOT_B: usize = 2;
 
-pub const SLOT_C: u8 = 3;
+pub const SLOT_C: usize = 3;
 
-pub const START: u8 = 4;
+pub const START: usize = 4;
 
-pub const COUNT: u8 = 5;
+pub const COUNT: usize = 5;
 
-pub const ROWS: u8 = 6;
+pub const ROWS: usize = 6;
 
 // The one format.
 pub const FORMAT_1: u32 = 1;
@@ -37,14 +41,18 @@ pub struct HeaderRead {
     pub at: usize,
 }
 
-// The numbers so far: the outcome; the header made of them; the start, which is judged after the count, with its place; the
-// place of the next number.
+// The numbers so far, each with its place; the place of the next one. All is 0 but the outcome where a number was refused.
 pub struct Scan {
     pub outcome: Outcome,
-    pub header: Header,
-    pub start: u32,
-    pub startplace: usize,
+    pub numbers: [u32; ROWS],
+    pub places: [usize; ROWS],
     pub at: usize,
+}
+
+// What a row finds: nothing wrong, or which number is out of range.
+pub enum Check {
+    Passes,
+    Fails(usize),
 }
 
 // The header of an image, judged by 1 to 4.
@@ -68,12 +76,74 @@ pub fn block_part(image: &[u8]) -> &[u8]
     &image[at..]
 }
 
-// The six numbers of an image.
+// Whether load accepts a header: every row lets it pass.
+pub fn accepts(header: Header) -> bool
+    ensures { λ r. ⌜ r ≡ accepts header ⌝ }
+{
+    let numbers = numbers_of(header);
+    let mut pass = true;
+    let mut row: usize = 0;
+    while row < ROWS {
+        pass = pass & passed(check_row(row, numbers));
+        row += 1;
+    }
+    pass
+}
+
+// Whether two headers are the same: each number is.
+pub fn same(a: Header, b: Header) -> bool
+    ensures { λ r. ⌜ r ≡ sameHeader a b ⌝ }
+{
+    let p = numbers_of(a);
+    let q = numbers_of(b);
+    let mut same = true;
+    let mut row: usize = 0;
+    while row < ROWS {
+        same = same & (p[row] == q[row]);
+        row += 1;
+    }
+    same
+}
+
+// The numbers of a header.
+pub fn numbers_of(h: Header) -> [u32; ROWS]
+    ensures { λ r. ⌜ r ≡ numbersOf h ⌝ }
+{
+    let d = h.drive;
+    [
+        h.format as u32,
+        d.model as u32,
+        d.b as u32,
+        d.c as u32,
+        h.start as u32,
+        h.count as u32,
+    ]
+}
+
+// The header of these numbers.
+fn header_from(n: [u32; ROWS]) -> Header
+    requires { ⌜ Narrow n ⌝ }
+    ensures { λ r. ⌜ r ≡ headerFrom n ⌝ }
+{
+    let drive = Drive {
+        model: n[TYPE] as u8,
+        b: n[SLOT_B] as u8,
+        c: n[SLOT_C] as u8,
+    };
+    Header {
+        format: n[FORMAT] as u8,
+        drive: drive,
+        start: n[START] as u16,
+        count: n[COUNT] as u16,
+    }
+}
+
+// The numbers of an image.
 fn read_rows(image: &[u8]) -> Scan
     ensures { λ r. ⌜ r ≡ scan (length (now (image .entry))) (fromImage (now (image .entry))) rowCount ⌝ }
 {
     let mut s = begin();
-    let mut row: u8 = 0;
+    let mut row: usize = 0;
     while row < ROWS {
         s = read_row(image, s, row);
         row += 1;
@@ -82,7 +152,8 @@ fn read_rows(image: &[u8]) -> Scan
 }
 
 // One number more of an image, unless one before it was refused.
-fn read_row(image: &[u8], s: Scan, row: u8) -> Scan
+fn read_row(image: &[u8], s: Scan, row: usize) -> Scan
+    requires { ⌜ row < rowCount ⌝ }
     ensures { λ r. ⌜ r ≡ more (length (now (image .entry))) (fromImage (now (image .entry))) row s ⌝ }
 {
     let outcome = s.outcome;
@@ -94,7 +165,8 @@ fn read_row(image: &[u8], s: Scan, row: u8) -> Scan
 }
 
 // What stands at the scan's place in an image of this length, taken as one of its numbers.
-fn take_row(length: usize, row: u8, s: Scan, found: Number) -> Scan
+fn take_row(length: usize, row: usize, s: Scan, found: Number) -> Scan
+    requires { ⌜ row < rowCount ⌝ }
     ensures { λ r. ⌜ r ≡ taken length row s found ⌝ }
 {
     match found {
@@ -104,15 +176,102 @@ fn take_row(length: usize, row: u8, s: Scan, found: Number) -> Scan
     }
 }
 
+// No number yet.
+pub fn begin() -> Scan
+    ensures { λ r. ⌜ r ≡ begun ⌝ }
+{
+    stop(Outcome::Done)
+}
+
+// A number v of the header, which stands at the scan's place, judged beside those read so far.
+pub fn judge(row: usize, s: Scan, v: u32, next: usize) -> Scan
+    requires { ⌜ row < rowCount ⌝ }
+    ensures { λ r. ⌜ r ≡ judged row s v next ⌝ }
+{
+    let mut numbers = s.numbers;
+    let mut places = s.places;
+    numbers[row] = v;
+    places[row] = s.at;
+    match check_row(row, numbers) {
+        Check::Passes => Scan {
+            outcome: Outcome::Done,
+            numbers: numbers,
+            places: places,
+            at: next,
+        },
+        Check::Fails(k) => stop(Outcome::OutOfRange(place_of(places, k))),
+    }
+}
+
+// The place of a number.
+fn place_of(places: [usize; ROWS], k: usize) -> usize
+    ensures { λ r. ⌜ r ≡ getD places k 0 ⌝ }
+{
+    if k < ROWS {
+        return places[k];
+    }
+    0
+}
+
+// The tests of one number, once those up to it have been read.
+fn check_row(row: usize, n: [u32; ROWS]) -> Check
+    ensures { λ r. ⌜ r ≡ checked row (headerFrom n) ⌝ }
+{
+    match row {
+        FORMAT => fails_unless(FORMAT, n[FORMAT] == FORMAT_1),
+        TYPE => fails_unless(TYPE, n[TYPE] < Drive::TYPES),
+        SLOT_B => fails_unless(SLOT_B, Drive::takes_b(n[TYPE], n[SLOT_B])),
+        SLOT_C => fails_unless(SLOT_C, Drive::takes_c(n[TYPE], n[SLOT_C])),
+        // judged behind the count
+        START => Check::Passes,
+        COUNT => check_count(n),
+        // no number stands behind the count
+        _ => Check::Passes,
+    }
+}
+
+// The count, then the start, which must be below it.
+fn check_count(n: [u32; ROWS]) -> Check
+    ensures { λ r. ⌜ r ≡ check (test 5 countFits ∷ test 4 startFits ∷ []) (headerFrom n) ⌝ }
+{
+    if n[COUNT] == 0 {
+        return Check::Fails(COUNT);
+    }
+    if n[COUNT] > MOST_BLOCKS {
+        return Check::Fails(COUNT);
+    }
+    fails_unless(START, n[START] < n[COUNT])
+}
+
+fn fails_unless(number: usize, holds: bool) -> Check
+    ensures { λ r. ⌜ r ≡ cond holds Passes (Fails number) ⌝ }
+{
+    if holds {
+        return Check::Passes;
+    }
+    Check::Fails(number)
+}
+
+fn passed(c: Check) -> bool
+    ensures { λ r. ⌜ r ≡ passed c ⌝ }
+{
+    match c {
+        Check::Passes => true,
+        Check::Fails(_) => false,
+    }
+}
+
 // The header that was read, once the image's length is judged too.
 fn close(s: Scan, length: usize) -> HeaderRead
     requires { ⌜ s .at ≤ mostHeaderBytes ⌝ }
+    requires { ⌜ Narrow (s .numbers) ⌝ }
     ensures { λ r. ⌜ r ≡ closed s length ⌝ }
 {
-    let scanned = s.outcome;
-    let header = s.header;
+    let judged = s.outcome;
+    let numbers = s.numbers;
+    let header = header_from(numbers);
     let at = s.at;
-    let outcome = first_refusal(scanned, judge_length(at, header.count, length));
+    let outcome = first_refusal(judged, judge_length(at, header.count, length));
     if !outcome.is_done() {
         return refuse(outcome);
     }
@@ -151,7 +310,17 @@ pub fn first_refusal(a: Outcome, b: Outcome) -> Outcome
 fn refuse(outcome: Outcome) -> HeaderRead
     ensures { λ r. ⌜ r ≡ refusedRead outcome ⌝ }
 {
-    let header = no_header();
+    let drive = Drive {
+        model: 0,
+        b: 0,
+        c: 0,
+    };
+    let header = Header {
+        format: 0,
+        drive: drive,
+        start: 0,
+        count: 0,
+    };
     HeaderRead {
         outcome: outcome,
         header: header,
@@ -159,156 +328,16 @@ fn refuse(outcome: Outcome) -> HeaderRead
     }
 }
 
-// No number yet.
-pub fn begin() -> Scan
-    ensures { λ r. ⌜ r ≡ begun ⌝ }
-{
-    stop(Outcome::Done)
-}
-
-// A number v of the header, which stands at the scan's place, judged by its row.
-pub fn judge(row: u8, s: Scan, v: u32, next: usize) -> Scan
-    ensures { λ r. ⌜ r ≡ judged row s v next ⌝ }
-{
-    match row {
-        FORMAT => judge_format(s, v, next),
-        TYPE => judge_type(s, v, next),
-        SLOT_B => judge_slot_b(s, v, next),
-        SLOT_C => judge_slot_c(s, v, next),
-        START => note_start(s, v, next),
-        COUNT => judge_count(s, v, next),
-        _ => s,
-    }
-}
-
-fn judge_format(s: Scan, v: u32, next: usize) -> Scan
-    ensures { λ r. ⌜ r ≡ formatRow s v next ⌝ }
-{
-    if v != FORMAT_1 {
-        return stop(Outcome::OutOfRange(s.at));
-    }
-    let mut header = s.header;
-    header.format = v as u8;
-    accept(s, header, next)
-}
-
-fn judge_type(s: Scan, v: u32, next: usize) -> Scan
-    ensures { λ r. ⌜ r ≡ typeRow s v next ⌝ }
-{
-    if v >= Drive::TYPES as u32 {
-        return stop(Outcome::OutOfRange(s.at));
-    }
-    let mut header = s.header;
-    let model = v as u8;
-    header.drive.model = model;
-    accept(s, header, next)
-}
-
-fn judge_slot_b(s: Scan, v: u32, next: usize) -> Scan
-    ensures { λ r. ⌜ r ≡ slotBRow s v next ⌝ }
-{
-    let mut header = s.header;
-    if !Drive::takes_b(header.drive.model, v) {
-        return stop(Outcome::OutOfRange(s.at));
-    }
-    let board = v as u8;
-    header.drive.b = board;
-    accept(s, header, next)
-}
-
-fn judge_slot_c(s: Scan, v: u32, next: usize) -> Scan
-    ensures { λ r. ⌜ r ≡ slotCRow s v next ⌝ }
-{
-    let mut header = s.header;
-    if !Drive::takes_c(header.drive.model, v) {
-        return stop(Outcome::OutOfRange(s.at));
-    }
-    let board = v as u8;
-    header.drive.c = board;
-    accept(s, header, next)
-}
-
-// The start is judged with the count.
-fn note_start(s: Scan, v: u32, next: usize) -> Scan
-    ensures { λ r. ⌜ r ≡ startRow s v next ⌝ }
-{
-    let header = s.header;
-    Scan {
-        outcome: Outcome::Done,
-        header: header,
-        start: v,
-        startplace: s.at,
-        at: next,
-    }
-}
-
-fn judge_count(s: Scan, v: u32, next: usize) -> Scan
-    ensures { λ r. ⌜ r ≡ countRow s v next ⌝ }
-{
-    let place = s.at;
-    let start_place = s.startplace;
-    let count_ok = count_in_range(v);
-    let start_ok = s.start < v;
-    if !count_ok {
-        return stop(Outcome::OutOfRange(place));
-    }
-    if !start_ok {
-        return stop(Outcome::OutOfRange(start_place));
-    }
-    let mut header = s.header;
-    header.start = s.start as u16;
-    header.count = v as u16;
-    accept(s, header, next)
-}
-
-fn count_in_range(v: u32) -> bool
-    ensures { λ r. ⌜ r ≡ countInRange v ⌝ }
-{
-    if v == 0 {
-        return false;
-    }
-    v <= MOST_BLOCKS
-}
-
-// The scan with this header, at the next number's place.
-fn accept(s: Scan, header: Header, next: usize) -> Scan
-    ensures { λ r. ⌜ r ≡ accepted s header next ⌝ }
-{
-    Scan {
-        outcome: Outcome::Done,
-        header: header,
-        start: s.start,
-        startplace: s.startplace,
-        at: next,
-    }
-}
-
 // The scan that ends with this outcome: all else is 0.
 fn stop(outcome: Outcome) -> Scan
     ensures { λ r. ⌜ r ≡ stopped outcome ⌝ }
 {
-    let header = no_header();
+    let numbers = [0; ROWS];
+    let places = [0; ROWS];
     Scan {
         outcome: outcome,
-        header: header,
-        start: 0,
-        startplace: 0,
+        numbers: numbers,
+        places: places,
         at: 0,
-    }
-}
-
-fn no_header() -> Header
-    ensures { λ r. ⌜ r ≡ noHeader ⌝ }
-{
-    let drive = Drive {
-        model: 0,
-        b: 0,
-        c: 0,
-    };
-    Header {
-        format: 0,
-        drive: drive,
-        start: 0,
-        count: 0,
     }
 }

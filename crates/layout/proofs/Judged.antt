@@ -13,12 +13,10 @@ use borrow.Author.Count.{below-more}
 use borrow.Author.Tests.{ltb-true, leb-true, eqb-true, not-true, lt-ltb, le-leb, eq-eqb}
 use mir.Syntax.{w32}
 use mir.Val.{SFits}
-use Rattle.limits.specs.Limits.{bias, plc, mathematics, taskCount, mostBlocks, mostDepth, cells, mostLevel, mostSpeed, mostRamp, longest, upTo}
-use Rattle.drive.specs.Types.{types, takesB, takesC}
-use Rattle.image.specs.Good.{Good as GoodHeader}
-use Rattle.image.specs.Rows.{format1, countInRange}
+use Rattle.limits.specs.Limits.{bias, plc, mathematics, taskCount, mostDepth, cells, mostLevel, mostSpeed, mostRamp, longest, upTo}
+use Rattle.image.specs.Rows.{accepts}
 use Rattle.image.specs.declared.Header.{Header}
-use Rattle.image.proofs.Scanning.{count-range}
+use Rattle.image.proofs.Rows.{accepted-good, good-accepted}
 use Rattle.number.proofs.Choice.{by, both}
 use Rattle.state.specs.Good.{GoodWait, GoodTask, InRange, GoodValues, Good}
 use Rattle.state.specs.State.{halted, taskAt}
@@ -26,7 +24,7 @@ use Rattle.state.specs.Wait.{due}
 use Rattle.state.specs.declared.Task.{Task}
 use Rattle.state.specs.declared.Values.{Values}
 use Rattle.state.specs.declared.State.{State}
-use Rattle.layout.specs.Test.{allOf, headerIs, waitIs, entryIs, taskIs, levelIs, valuesAre, stateIs}
+use Rattle.layout.specs.Test.{allOf, waitIs, entryIs, taskIs, levelIs, valuesAre, stateIs}
 
 -- one of two tests was passed
 one : (a b : Bool) → (a || b) ≡ true → (a ≡ true) ⊎ (b ≡ true)
@@ -53,37 +51,6 @@ true-all : (test : ℕ → ℕ → Bool) (l : List ℕ) (n : ℕ) → ((k : ℕ)
 unfolding allOf
 true-all test l zero h = refl
 true-all test l (suc n) h = rw (true-all test l n (λ k lt. h k (omega arith)), h n (omega arith))
-
--- ---- the header
-
-header-judged : (h : Header) → GoodHeader h → headerIs h ≡ true
-unfolding countInRange
-header-judged h g =
-    rw (
-      eq-eqb (h .format) format1 (g .format),
-      lt-ltb (h .drive .model) types (g .model),
-      g .boardB,
-      g .boardC,
-      lt-ltb 0 (h .count) (g .count .0),
-      le-leb (h .count) mostBlocks (g .count .1),
-      lt-ltb (h .start) (h .count) (g .start),
-    )
-
-judged-header : (h : Header) → headerIs h ≡ true → GoodHeader h
-judged-header h e =
-    let r1 = both (eqb (h .format) format1) _ e in
-    let r2 = both (ltb (h .drive .model) types) _ (r1 .1) in
-    let r3 = both (takesB (h .drive .model) (h .drive .b)) _ (r2 .1) in
-    let r4 = both (takesC (h .drive .model) (h .drive .c)) _ (r3 .1) in
-    let r5 = both (countInRange (h .count)) _ (r4 .1) in
-    record {
-      format = eqb-true (h .format) format1 (r1 .0);
-      model = ltb-true (h .drive .model) types (r2 .0);
-      boardB = r3 .0;
-      boardC = r4 .0;
-      count = count-range (h .count) (r5 .0);
-      start = ltb-true (h .start) (h .count) (r5 .1);
-    }
 
 -- ---- waits
 
@@ -231,7 +198,7 @@ pub good-judged : (s : State) → Good s → stateIs s ≡ true
 unfolding stateIs
 good-judged s g =
     rw (
-      header-judged (s .header) (g .header),
+      good-accepted (s .header) (g .header),
       values-judged (s .values) (g .values),
       task-judged (s .header) (taskAt s bias) (g .task bias (omega arith)),
       task-judged (s .header) (taskAt s plc) (g .task plc (omega arith)),
@@ -241,13 +208,13 @@ good-judged s g =
 pub judged-good : (s : State) → Shaped s → stateIs s ≡ true → Good s
 unfolding stateIs
 judged-good s x e =
-    let r1 = both (headerIs (s .header)) _ e in
+    let r1 = both (accepts (s .header)) _ e in
     let r2 = both (valuesAre (s .values)) _ (r1 .1) in
     let r3 = both (taskIs (s .header) (taskAt s bias)) _ (r2 .1) in
     let r4 = both (taskIs (s .header) (taskAt s plc)) (taskIs (s .header) (taskAt s mathematics)) (r3 .1) in
     let task : (t : ℕ) → t < taskCount → GoodTask (s .header) (taskAt s t) = each (r3 .0) (r4 .0) (r4 .1) in
     record {
-      header = judged-header (s .header) (r1 .0);
+      header = accepted-good (s .header) (r1 .0);
       values = judged-values (s .values) (x .variables) (x .signed) (x .flags) (x .outputs) (x .position) (r2 .0);
       three = x .three;
       task = task;

@@ -6,8 +6,7 @@ use mathlib.Core.List.{List}
 use lib.Dec.{eqb, ltb, leb}
 use lib.ListN.{length, getD}
 use Rattle.limits.specs.Limits.{bias, plc, mathematics, mostDepth, cells, mostLevel, mostSpeed, mostRamp, longest, stateLength, upTo}
-use Rattle.drive.specs.Types.{types, takesB, takesC}
-use Rattle.image.specs.Rows.{format1, countInRange}
+use Rattle.image.specs.Rows.{accepts}
 use Rattle.image.specs.declared.Header.{Header}
 use Rattle.state.specs.State.{halted, taskAt}
 use Rattle.state.specs.Wait.{due}
@@ -22,11 +21,6 @@ use Rattle.layout.specs.Layout.{layoutAt, unusedAt, unusedLength, decode
 unfoldable pub allOf : (ℕ → ℕ → Bool) → List ℕ → ℕ → Bool
 allOf test l zero = true
 allOf test l (suc n) = allOf test l n && test n (getD l n 0)
-
-abbrev pub headerIs : Header → Bool
-headerIs h =
-    eqb (h .format) format1 && (ltb (h .drive .model) types && (takesB (h .drive .model) (h .drive .b) && (takesC (h .drive .model) (h .drive .c)
-    && (countInRange (h .count) && ltb (h .start) (h .count)))))
 
 -- none, or from 1 ms up to the longest and not over
 abbrev pub waitIs : ℕ → ℕ → ℕ → Bool
@@ -51,7 +45,7 @@ valuesAre v =
 
 unfoldable pub stateIs : State → Bool
 stateIs s =
-    headerIs (s .header) && (valuesAre (s .values) && (taskIs (s .header) (taskAt s bias) && (taskIs (s .header) (taskAt s plc) && taskIs (s .header) (taskAt s mathematics))))
+    accepts (s .header) && (valuesAre (s .values) && (taskIs (s .header) (taskAt s bias) && (taskIs (s .header) (taskAt s plc) && taskIs (s .header) (taskAt s mathematics))))
 
 -- the unused bytes are 0
 unfoldable pub unusedZero : List ℕ → ℕ → Bool

@@ -26,7 +26,8 @@ use Rattle.state.specs.declared.Task.{Task}
 use Rattle.state.specs.declared.State.{State}
 use Rattle.machine.specs.Given.{Inputs, level}
 use Rattle.machine.specs.Effect.{effectOf}
-use Rattle.machine.specs.Engine.{pointOf, given, performed, sameHeader, fits, refuse, taskStep, step}
+use Rattle.image.proofs.Numbers.{is-same}
+use Rattle.machine.specs.Engine.{pointOf, given, performed, fits, refuse, taskStep, step}
 use Rattle.machine.specs.Reference.{Thread, Machine, idle, does, stays, lost, tries, acts, turn}
 use Rattle.machine.specs.Alike.{returnsOf, SameTask}
 use Rattle.machine.specs.Each.{commandOf, executed}
@@ -95,17 +96,6 @@ module _ (image : List ℕ) where
     refused : (a : Answer) → executed a ≡ false → step image s x ≡ refuse s a → turn image m x ≡ stays m a → Case s m x
     ran : Ran s m x → Case s m x
 
-  same-header : (a : Header) → sameHeader a a ≡ true
-  same-header a =
-      rw (
-        eq-eqb (a .format) (a .format) refl,
-        eq-eqb (a .drive .model) (a .drive .model) refl,
-        eq-eqb (a .drive .b) (a .drive .b) refl,
-        eq-eqb (a .drive .c) (a .drive .c) refl,
-        eq-eqb (a .start) (a .start) refl,
-        eq-eqb (a .count) (a .count) refl,
-      )
-
   module _ (ok : Accepted image) (s : State) (m : Machine) (g : Agree s m) (x : Inputs) (l : x .task < taskCount) (r : taskAt s (x .task) .status ≡ runs) where
     abbrev t : ℕ
     t = x .task
@@ -132,7 +122,7 @@ module _ (image : List ℕ) where
         rw (
           ok .read,
           g .header,
-          same-header h,
+          is-same h,
           ok .blocks (k .block) (within image ok (pointOf t k) here .block),
           ok .fine (pointOf t k) here,
           g .both .sound t l .wait r,

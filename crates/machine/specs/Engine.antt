@@ -7,6 +7,7 @@ use lib.Dec.{eqb, ltb}
 use lib.ListN.{length, getD, set}
 use Rattle.limits.specs.Limits.{bias, taskCount, inputsLength}
 use Rattle.outcome.specs.Outcome.{done}
+use Rattle.image.specs.Rows.{sameHeader}
 use Rattle.image.specs.Scan.{headerOf, blocksOf}
 use Rattle.image.specs.declared.Header.{Header}
 use Rattle.rows.specs.Rows.{hex}
@@ -118,11 +119,6 @@ performed s x k e = record {
 }
 
 -- 17: the lent image is not the loaded one, or the block at the pointer breaks 5 to 12 or 23 at the present depth, or a wait is pending at no wait
-abbrev pub sameHeader : Header → Header → Bool
-sameHeader a b =
-    eqb (a .format) (b .format) && (eqb (a .drive .model) (b .drive .model) && (eqb (a .drive .b) (b .drive .b) && (eqb (a .drive .c) (b .drive .c)
-    && (eqb (a .start) (b .start) && eqb (a .count) (b .count)))))
-
 abbrev pub isLoaded : List ℕ → Header → Bool
 isLoaded image h = done (headerOf image .outcome) && sameHeader (headerOf image .header) h
 

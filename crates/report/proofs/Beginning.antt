@@ -12,7 +12,8 @@ use borrow.Author.Tests.{lt-ltb, le-ltb}
 use Rattle.limits.specs.Limits.{blockLength}
 use Rattle.outcome.specs.Outcome.{done}
 use Rattle.number.specs.Number.{numberAt, firstByte, secondByte}
-use Rattle.image.specs.Scan.{fromImage, taken, more, scan, mostHeaderBytes, firstRefusal, lengthOutcome, readWith, closed, headerOf, blocksOf}
+use Rattle.image.specs.Rows.{rowCount}
+use Rattle.image.specs.Scan.{fromImage, taken, more, scan, mostHeaderBytes, firstRefusal, lengthOutcome, readWith, closed, headerOf, blocksOf, scannedHeader}
 use Rattle.outcome.specs.declared.Outcome.the-variants.{LeftOver}
 use Rattle.number.specs.declared.Number.{Number}
 use Rattle.number.specs.declared.Number.the-variants.{Value}
@@ -55,7 +56,7 @@ module _ (a b : List ℕ) (long-a : longestImage < length a) (long-b : longestIm
   unfolding more
   same-more row s h = ap (λ (x : Scan). cond (done (s .outcome)) x s) (same-taken row s h)
 
-  same-scan : (k : ℕ) → k ≤ 6 → scan (length a) (fromImage a) k ≡ scan (length b) (fromImage b) k
+  same-scan : (k : ℕ) → k ≤ rowCount → scan (length a) (fromImage a) k ≡ scan (length b) (fromImage b) k
   unfolding scan
   same-scan zero h = refl
   same-scan (suc k) h =
@@ -63,27 +64,27 @@ module _ (a b : List ℕ) (long-a : longestImage < length a) (long-b : longestIm
       let near = at-most (length a) (fromImage a) (image-near a) k in
       same-more k (scan (length a) (fromImage a) k) (omega arith) ∙ ap (λ (s : Scan). more (length b) (fromImage b) k s) e
 
-  -- the six numbers of a, where the scan let them pass, leave room for no byte more
-  within : done (scan (length a) (fromImage a) 6 .outcome) ≡ true → scan (length a) (fromImage a) 6 .at + blockLength * scan (length a) (fromImage a) 6 .header .count ≤ longestImage
+  -- the numbers of a, where the scan let them pass, leave room for no byte more
+  within : done (scan (length a) (fromImage a) rowCount .outcome) ≡ true → scan (length a) (fromImage a) rowCount .at + blockLength * scannedHeader (scan (length a) (fromImage a) rowCount) .count ≤ longestImage
   within h = image-end (length a) (fromImage a) (image-sized a) (accepted-header (length a) (fromImage a) h)
 
   left-over : (at count n : ℕ) → at + blockLength * count ≤ longestImage → longestImage < n → lengthOutcome at count n ≡ LeftOver (at + blockLength * count)
   unfolding lengthOutcome
   left-over at count n h l = rw (le-ltb n (at + blockLength * count) (omega arith), lt-ltb (at + blockLength * count) n (omega arith))
 
-  same-length : (s : Scan) → (done (s .outcome) ≡ true → s .at + blockLength * s .header .count ≤ longestImage) → closed s (length a) ≡ closed s (length b)
+  same-length : (s : Scan) → (done (s .outcome) ≡ true → s .at + blockLength * scannedHeader s .count ≤ longestImage) → closed s (length a) ≡ closed s (length b)
   unfolding closed firstRefusal
   same-length s h = ap (readWith s) (go (done (s .outcome)) refl)
     where
-      go : (t : Bool) → done (s .outcome) ≡ t → cond t (lengthOutcome (s .at) (s .header .count) (length a)) (s .outcome) ≡ cond t (lengthOutcome (s .at) (s .header .count) (length b)) (s .outcome)
-      go true e = left-over (s .at) (s .header .count) (length a) (h e) long-a ∙ sym (left-over (s .at) (s .header .count) (length b) (h e) long-b)
+      go : (t : Bool) → done (s .outcome) ≡ t → cond t (lengthOutcome (s .at) (scannedHeader s .count) (length a)) (s .outcome) ≡ cond t (lengthOutcome (s .at) (scannedHeader s .count) (length b)) (s .outcome)
+      go true e = left-over (s .at) (scannedHeader s .count) (length a) (h e) long-a ∙ sym (left-over (s .at) (scannedHeader s .count) (length b) (h e) long-b)
       go false e = refl
 
   same-header : headerOf a ≡ headerOf b
   unfolding headerOf
   same-header =
-      same-length (scan (length a) (fromImage a) 6) within
-      ∙ ap (λ (s : Scan). closed s (length b)) (same-scan 6 (omega arith))
+      same-length (scan (length a) (fromImage a) rowCount) within
+      ∙ ap (λ (s : Scan). closed s (length b)) (same-scan rowCount (omega arith))
 
   -- it is refused, and has no blocks
   refused : (t : Bool) → done (headerOf a .outcome) ≡ t → t ≡ false

@@ -55,7 +55,7 @@ computed : lineOf (verdictFast caseB marksLength) ≡ documented
 unfolding lineOf decimalOf digitsOf
     types.takes
     number.secondByte number.firstByte number.numberAt
-    header.formatRow header.typeRow header.slotBRow header.slotCRow header.countInRange header.countRow header.judged
+    header.checked header.firstSame header.sameHeader scan.judged
     scan.taken scan.more scan.scan scan.firstRefusal scan.lengthOutcome scan.readWith scan.closed scan.headerOf scan.blocksOf
     rows.rows rows.rowIn rows.rowOf
     operands.laidOut operands.operands operands.usedBytes operands.allZero operands.unusedZero

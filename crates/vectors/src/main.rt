@@ -206,7 +206,7 @@ fn pin_rows() -> u8
         let model = k / 9;
         let b = k / 3 % 3;
         let c = k % 3;
-        if Drive::takes_b(model, b as u32) && Drive::takes_c(model, c as u32) {
+        if Drive::takes_b(model as u32, b as u32) && Drive::takes_c(model as u32, c as u32) {
             drive_rows(Drive { model, b, c });
         }
         k += 1;

@@ -8,6 +8,7 @@ use mathlib.Core.List.{List, _++_}
 use lib.ListN.{length, getD, length-append}
 use lib.Seq.{sets}
 use Rattle.number.specs.Number.{numberBytes}
+use Rattle.image.specs.Rows.{rowCount}
 use Rattle.image.specs.Scan.{more}
 use Rattle.image.proofs.Scanning.{Near}
 use Rattle.number.proofs.Numbers.{size-most}
@@ -50,15 +51,15 @@ module _ (numbers : List ℕ) where
       ∙ ap (λ (j : ℕ). sets out 0 (firstNumbers numbers j)) (sym (add-one k))
 
   -- the whole image: the numbers, then the blocks
-  pub whole : (out l blocks : List ℕ) (at : ℕ) → at ≡ length (firstNumbers numbers 6) → l ≡ sets out 0 (firstNumbers numbers 6)
+  pub whole : (out l blocks : List ℕ) (at : ℕ) → at ≡ length (firstNumbers numbers rowCount) → l ≡ sets out 0 (firstNumbers numbers rowCount)
       → length (imageOf numbers blocks) ≤ length out → sets l at blocks ≡ overlaid (imageOf numbers blocks) out
   unfolding imageOf overlaid
   whole out l blocks at a e h =
-      ap (λ (x : List ℕ). sets x at blocks) e ∙ next-run out (firstNumbers numbers 6) blocks at a ∙ from-front out (firstNumbers numbers 6 ++ blocks) h
+      ap (λ (x : List ℕ). sets x at blocks) e ∙ next-run out (firstNumbers numbers rowCount) blocks at a ∙ from-front out (firstNumbers numbers rowCount ++ blocks) h
 
-  pub image-length : (blocks : List ℕ) → length (imageOf numbers blocks) ≡ length (firstNumbers numbers 6) + length blocks
+  pub image-length : (blocks : List ℕ) → length (imageOf numbers blocks) ≡ length (firstNumbers numbers rowCount) + length blocks
   unfolding imageOf
-  image-length blocks = length-append (firstNumbers numbers 6) blocks
+  image-length blocks = length-append (firstNumbers numbers rowCount) blocks
 
 -- the numbers that are given are near too
 pub given-near : (numbers : List ℕ) (row at : ℕ) → Near at (given numbers row at)

@@ -9,11 +9,9 @@ use lib.ListN.{length, getD}
 use lib.Dec.{ltb}
 use borrow.Author.Tests.{ltb-false, le-ltb}
 use Rattle.limits.specs.Limits.{blockLength}
-use Rattle.drive.specs.Types.{slotB, slotC}
-use Rattle.drive.proofs.Laws.{board-small}
 use Rattle.outcome.specs.Outcome.{done}
-use Rattle.number.specs.Number.{numberLimit}
-use Rattle.image.specs.Scan.{scan, firstRefusal}
+use Rattle.image.specs.Rows.{rowCount}
+use Rattle.image.specs.Scan.{scan, scannedHeader, firstRefusal}
 use Rattle.writer.specs.Writer.{given, HaveForms, firstNumbers, imageOf, overlaid, roomOutcome, writtenWith, fitted, written, outAfter}
 use Rattle.outcome.specs.declared.Outcome.the-variants.{Done}
 use Rattle.outcome.specs.declared.Outcome.{Outcome}
@@ -22,30 +20,27 @@ use Rattle.number.specs.declared.Number as number
 use Rattle.image.specs.declared.reader.Scan.{Scan}
 use Rattle.writer.specs.declared.Written.{Written}
 use Rattle.number.proofs.Choice.{clash, other-way}
-use Rattle.image.proofs.Accepted.{place, Accepted, accepted-header, below-six}
+use Rattle.image.proofs.Accepted.{place, Accepted, accepted-header}
+use Rattle.image.proofs.Longest.{number-small}
 use Rattle.image.proofs.Read.{neither, both-pass}
 use Rattle.writer.proofs.HeaderBytes.{one-more, image-length}
 
 next-of : {v w a b : ℕ} → number.Number.Value v a ≡ number.Number.Value w b → a ≡ b
 next-of e = cc
 
-module _ (numbers : List ℕ) (ok : done (scan 0 (given numbers) 6 .outcome) ≡ true) where
+module _ (numbers : List ℕ) (ok : done (scan 0 (given numbers) rowCount .outcome) ≡ true) where
   pub judged-numbers : Accepted 0 (given numbers)
   judged-numbers = accepted-header 0 (given numbers) ok
 
   pub small-numbers : HaveForms numbers
-  small-numbers =
+  small-numbers k l =
       let a = judged-numbers in
-      let f = a .format in
-      let m = a .model in
-      let b = board-small slotB _ _ (a .boardB) in
-      let c = board-small slotC _ _ (a .boardC) in
-      let s = a .start in
-      let k = a .count .1 in
-      below-six (λ (j : ℕ). getD numbers j 0 < numberLimit) (omega arith) (omega arith) (omega arith) (omega arith) (omega arith) (omega arith)
+      let e = a .is k l in
+      let n = number-small (scan 0 (given numbers) rowCount .numbers) (a .good) k l in
+      omega arith
 
   -- the scan is where the bytes of the numbers end
-  pub placed : (k : ℕ) → k ≤ 6 → place 0 (given numbers) k ≡ length (firstNumbers numbers k)
+  pub placed : (k : ℕ) → k ≤ rowCount → place 0 (given numbers) k ≡ length (firstNumbers numbers k)
   unfolding scan firstNumbers
   placed zero h = refl
   placed (suc k) h =
@@ -57,7 +52,7 @@ module _ (numbers : List ℕ) (ok : done (scan 0 (given numbers) 6 .outcome) ≡
 -- blocks and room that fit
 pub record Fits (s : Scan) (b room : ℕ) : Type 0 where
   pub judged : done (s .outcome) ≡ true
-  pub long : b ≡ blockLength * s .header .count
+  pub long : b ≡ blockLength * scannedHeader s .count
   pub fits : s .at + b ≤ room
   pub is : fitted s b room ≡ record { outcome = Done; length = s .at + b }
 
@@ -75,35 +70,35 @@ room-passes : (at count b room : ℕ) → b ≡ blockLength * count → at + b �
 unfolding roomOutcome
 room-passes at count b room e h = rw (le-ltb b (blockLength * count) (omega arith), le-ltb (blockLength * count) b (omega arith), le-ltb room (at + b) h)
 
-pub fitted-is : (s : Scan) (b room : ℕ) → done (s .outcome) ≡ true → b ≡ blockLength * s .header .count → s .at + b ≤ room → fitted s b room ≡ record { outcome = Done; length = s .at + b }
+pub fitted-is : (s : Scan) (b room : ℕ) → done (s .outcome) ≡ true → b ≡ blockLength * scannedHeader s .count → s .at + b ≤ room → fitted s b room ≡ record { outcome = Done; length = s .at + b }
 unfolding fitted writtenWith
 fitted-is s b room d e h =
-    rw (both-pass (s .outcome) (roomOutcome (s .at) (s .header .count) b room) d, room-passes (s .at) (s .header .count) b room e h)
+    rw (both-pass (s .outcome) (roomOutcome (s .at) (scannedHeader s .count) b room) d, room-passes (s .at) (scannedHeader s .count) b room e h)
 
 pub fitted-fine : (s : Scan) (b room : ℕ) → done (fitted s b room .outcome) ≡ true → Fits s b room
 unfolding fitted writtenWith
 fitted-fine s b room h = go (done o) refl
   where
     o : Outcome
-    o = firstRefusal (s .outcome) (roomOutcome (s .at) (s .header .count) b room)
+    o = firstRefusal (s .outcome) (roomOutcome (s .at) (scannedHeader s .count) b room)
 
     go : (t : Bool) → done o ≡ t → Fits s b room
     go false e = clash (sym (rw e at h) ∙ e)
     go true e =
-        let p = neither (s .outcome) (roomOutcome (s .at) (s .header .count) b room) e in
-        let r = room-right (s .at) (s .header .count) b room (p .1) in
+        let p = neither (s .outcome) (roomOutcome (s .at) (scannedHeader s .count) b room) e in
+        let r = room-right (s .at) (scannedHeader s .count) b room (p .1) in
         record { judged = p .0; long = r .0; fits = r .1; is = fitted-is s b room (p .0) (r .0) (r .1) }
 
 -- what the writer may rely on once nothing was refused
 module _ (numbers blocks : List ℕ) (room : ℕ) (ok : done (written numbers (length blocks) room .outcome) ≡ true) where
-  pub written-fine : Fits (scan 0 (given numbers) 6) (length blocks) room
+  pub written-fine : Fits (scan 0 (given numbers) rowCount) (length blocks) room
   unfolding written
-  written-fine = fitted-fine (scan 0 (given numbers) 6) (length blocks) room ok
+  written-fine = fitted-fine (scan 0 (given numbers) rowCount) (length blocks) room ok
 
   pub has-room : length (imageOf numbers blocks) ≤ room
   has-room =
       let f = written-fine .fits in
-      let p = placed numbers (written-fine .judged) 6 (omega arith) in
+      let p = placed numbers (written-fine .judged) rowCount (omega arith) in
       let l = image-length numbers blocks in
       omega arith
 

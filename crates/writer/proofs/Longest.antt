@@ -13,7 +13,8 @@ use Rattle.outcome.specs.Outcome.{done}
 use Rattle.outcome.specs.declared.Outcome.the-variants.{Done}
 use Rattle.number.specs.Number.{numberBytes}
 use Rattle.image.specs.Rows as rows
-use Rattle.image.specs.Scan.{taken, more, scan, firstRefusal, rowCount}
+use Rattle.image.specs.Rows.{rowCount}
+use Rattle.image.specs.Scan.{judged, taken, more, scan, scannedHeader, firstRefusal}
 use Rattle.image.specs.Longest.{greatest, sizeUpTo, longestImage}
 use Rattle.image.proofs.Longest.{Sized, one-byte, two-bytes, image-end}
 use Rattle.writer.specs.Writer.{given, roomOutcome, writtenWith, fitted, written}
@@ -31,7 +32,7 @@ given-sized numbers row at most h = size-of at (getD numbers row 0) most h (ltb 
 
 -- numbers that the writer's judging let pass, with as many blocks as they say
 ends : (numbers : List ℕ) → done (scan 0 (given numbers) rowCount .outcome) ≡ true
-    → scan 0 (given numbers) rowCount .at + blockLength * scan 0 (given numbers) rowCount .header .count ≤ longestImage
+    → scan 0 (given numbers) rowCount .at + blockLength * scannedHeader (scan 0 (given numbers) rowCount) .count ≤ longestImage
 ends numbers ok = image-end 0 (given numbers) (given-sized numbers) (judged-numbers numbers ok)
 
 pub longest-write : (numbers : List ℕ) (b room : ℕ) → done (written numbers b room .outcome) ≡ true → written numbers b room .length ≤ longestImage
@@ -45,7 +46,7 @@ longest-write numbers b room ok =
 
 -- with so much room 14 does not come to numbers that pass, with as many blocks as they say
 pub room-enough : (numbers : List ℕ) (b room : ℕ) → longestImage ≤ room → done (scan 0 (given numbers) rowCount .outcome) ≡ true
-    → b ≡ blockLength * scan 0 (given numbers) rowCount .header .count → done (written numbers b room .outcome) ≡ true
+    → b ≡ blockLength * scannedHeader (scan 0 (given numbers) rowCount) .count → done (written numbers b room .outcome) ≡ true
 unfolding written
 room-enough numbers b room r ok e =
     let l = ends numbers ok in
@@ -54,6 +55,6 @@ room-enough numbers b room r ok e =
 -- header numbers at their greatest and the most blocks are written in just that room
 pub longest-written : written greatest (blockLength * mostBlocks) longestImage ≡ record { outcome = Done; length = longestImage }
 unfolding
-    types.takes rows.formatRow rows.typeRow rows.slotBRow rows.slotCRow rows.countInRange rows.countRow rows.judged
+    types.takes rows.checked judged
     numberBytes taken more scan firstRefusal roomOutcome writtenWith fitted written
 longest-written = refl

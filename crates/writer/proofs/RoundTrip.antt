@@ -12,15 +12,20 @@ use borrow.Author.Count.{below-more}
 use Rattle.limits.specs.Limits.{blockLength}
 use Rattle.outcome.specs.Outcome.{done}
 use Rattle.number.specs.Number.{numberBytes, numberAt}
-use Rattle.image.specs.Scan.{Source, fromImage, taken, more, scan, closed, headerOf, blocksOf}
-use Rattle.writer.specs.Writer.{given, numbersOf, firstNumbers, imageOf, fitted, written, overlaid, outAfter}
+use Rattle.image.specs.Rows.{rowCount}
+use Rattle.image.specs.Numbers.{numbersOf, headerFrom}
+use Rattle.image.specs.Scan.{Source, fromImage, taken, more, scan, scannedHeader, closed, headerOf, blocksOf}
+use Rattle.writer.specs.Writer.{given, firstNumbers, imageOf, fitted, written, overlaid, outAfter}
 use Rattle.outcome.specs.declared.Outcome.the-variants.{Done}
 use Rattle.number.specs.declared.Number.{Number}
+use Rattle.image.specs.declared.Header.{Header}
 use Rattle.image.specs.declared.reader.Scan.{Scan}
 use Rattle.image.specs.declared.reader.HeaderRead.{HeaderRead}
 use Rattle.writer.specs.declared.Written.{Written}
 use Rattle.le.specs.LittleEndian.{Bytes}
-use Rattle.image.proofs.Accepted.{place, value, Accepted, accepted-header, headerWith, below-six}
+use Rattle.image.proofs.Numbers.{numbers-of-header, same-numbers}
+use Rattle.image.proofs.Accepted.{place, value, Accepted, accepted-header}
+use Rattle.image.proofs.HeaderLaws.{header-is}
 use Rattle.writer.proofs.Judged.{judged-numbers, small-numbers, placed, fitted-is, written-fine, put-there}
 use Rattle.number.proofs.NumberLaws.{There, number-back, number-only}
 use Rattle.image.proofs.Read.{closed-is, read-fine, scanOf}
@@ -30,13 +35,13 @@ use Rattle.writer.proofs.HeaderBytes.{one-more, room, image-length}
 
 -- the same numbers at the same places give the same scan
 module _ (n m : ℕ) (source other : Source) (a : Accepted n source)
-    (same : (k : ℕ) → k < 6 → other k (place n source k) ≡ Number.Value (value n source k) (place n source (suc k))) where
-  pub same-scan : (k : ℕ) → k ≤ 6 → scan m other k ≡ scan n source k
+    (same : (k : ℕ) → k < rowCount → other k (place n source k) ≡ Number.Value (value n source k) (place n source (suc k))) where
+  pub same-scan : (k : ℕ) → k ≤ rowCount → scan m other k ≡ scan n source k
   unfolding scan taken
   same-scan zero h = refl
   same-scan (suc k) h =
       let s = scan n source k in
-      let l : k < 6 = omega arith in
+      let l : k < rowCount = omega arith in
       ap (more m other k) (same-scan k (omega arith))
       ∙ takes m other k s (a .fine k l) _ (same k l)
       ∙ sym (takes n source k s (a .fine k l) _ (a .numbers k l))
@@ -58,50 +63,52 @@ each-number s numbers (suc m) h k lt =
 -- what an image of these numbers and blocks is read as
 pub record ReadBack (numbers blocks image : List ℕ) : Type 0 where
   pub outcome : headerOf image .outcome ≡ Done
-  pub header : headerOf image .header ≡ headerWith (getD numbers 0 0) (getD numbers 1 0) (getD numbers 2 0) (getD numbers 3 0) (getD numbers 4 0) (getD numbers 5 0)
+  pub header : headerOf image .header ≡ headerFrom numbers
   pub body : blocksOf image ≡ blocks
 
 module _ (numbers blocks : List ℕ) (space : ℕ) (ok : done (written numbers (length blocks) space .outcome) ≡ true) where
-  fits : done (scan 0 (given numbers) 6 .outcome) ≡ true
+  fits : done (scan 0 (given numbers) rowCount .outcome) ≡ true
   fits = written-fine numbers blocks space ok .judged
 
   -- each number stands in the image where the writer judged it
-  stands : (k : ℕ) → k < 6 → numberAt (imageOf numbers blocks) (place 0 (given numbers) k) ≡ Number.Value (value 0 (given numbers) k) (place 0 (given numbers) (suc k))
+  stands : (k : ℕ) → k < rowCount → numberAt (imageOf numbers blocks) (place 0 (given numbers) k) ≡ Number.Value (value 0 (given numbers) k) (place 0 (given numbers) (suc k))
   unfolding imageOf
   stands k lt =
       let s = imageOf numbers blocks in
       let p = placed numbers fits k (omega arith) in
       let q = placed numbers fits (suc k) (omega arith) in
       let m = one-more numbers k in
-      let r = room numbers k 6 lt in
+      let r = room numbers k rowCount lt in
       let l = image-length numbers blocks in
-      let h = each-number s numbers 6 (left (firstNumbers numbers 6) blocks (itself s)) k lt in
+      let h = each-number s numbers rowCount (left (firstNumbers numbers rowCount) blocks (itself s)) k lt in
       let e : length (firstNumbers numbers k) + length (numberBytes (getD numbers k 0)) ≡ place 0 (given numbers) (suc k) = omega arith in
       ap (numberAt s) p
       ∙ number-back s (length (firstNumbers numbers k)) (getD numbers k 0) (small-numbers numbers fits k lt) h (omega arith)
       ∙ ap (Number.Value (getD numbers k 0)) e
 
-  read-scan : scanOf (imageOf numbers blocks) ≡ scan 0 (given numbers) 6
-  read-scan = same-scan 0 (length (imageOf numbers blocks)) (given numbers) (fromImage (imageOf numbers blocks)) (judged-numbers numbers fits) stands 6 (omega arith)
+  read-scan : scanOf (imageOf numbers blocks) ≡ scan 0 (given numbers) rowCount
+  read-scan = same-scan 0 (length (imageOf numbers blocks)) (given numbers) (fromImage (imageOf numbers blocks)) (judged-numbers numbers fits) stands rowCount (omega arith)
 
-  read-header : headerOf (imageOf numbers blocks) ≡ record { outcome = Done; header = scan 0 (given numbers) 6 .header; at = scan 0 (given numbers) 6 .at }
+  read-header : headerOf (imageOf numbers blocks) ≡ record { outcome = Done; header = scannedHeader (scan 0 (given numbers) rowCount); at = scan 0 (given numbers) rowCount .at }
   unfolding headerOf
   read-header =
       let l = image-length numbers blocks in
-      let p = placed numbers fits 6 (omega arith) in
+      let p = placed numbers fits rowCount (omega arith) in
       let b = written-fine numbers blocks space ok .long in
       ap (λ (s : Scan). closed s (length (imageOf numbers blocks))) read-scan
-      ∙ closed-is (scan 0 (given numbers) 6) (length (imageOf numbers blocks)) fits (omega arith)
+      ∙ closed-is (scan 0 (given numbers) rowCount) (length (imageOf numbers blocks)) fits (omega arith)
 
   pub image-read : ReadBack numbers blocks (imageOf numbers blocks)
   unfolding blocksOf imageOf
   image-read =
       record {
         outcome = ap (λ (r : HeaderRead). r .outcome) read-header;
-        header = ap (λ (r : HeaderRead). r .header) read-header ∙ judged-numbers numbers fits .header;
+        header =
+            ap (λ (r : HeaderRead). r .header) read-header
+            ∙ same-numbers (scan 0 (given numbers) rowCount .numbers) numbers (judged-numbers numbers fits .is);
         body =
             rw (read-header)
-            (ap (λ (k : ℕ). drop k (firstNumbers numbers 6 ++ blocks)) (placed numbers fits 6 (omega arith)) ∙ drop-append-seam (firstNumbers numbers 6) blocks);
+            (ap (λ (k : ℕ). drop k (firstNumbers numbers rowCount ++ blocks)) (placed numbers fits rowCount (omega arith)) ∙ drop-append-seam (firstNumbers numbers rowCount) blocks);
       }
 
 -- what the writer left at the front of the buffer is read as the numbers and blocks that it was given, and the rest of the buffer is as it was
@@ -114,9 +121,9 @@ unfolding written overlaid
 read-what-was-written numbers blocks out h =
     let ok : done (written numbers (length blocks) (length out) .outcome) ≡ true = ap done h in
     let f = written-fine numbers blocks (length out) ok in
-    let p = placed numbers (f .judged) 6 (omega arith) in
+    let p = placed numbers (f .judged) rowCount (omega arith) in
     let l = image-length numbers blocks in
-    let w : written numbers (length blocks) (length out) .length ≡ scan 0 (given numbers) 6 .at + length blocks = ap (λ (r : Written). r .length) (f .is) in
+    let w : written numbers (length blocks) (length out) .length ≡ scan 0 (given numbers) rowCount .at + length blocks = ap (λ (r : Written). r .length) (f .is) in
     let e : written numbers (length blocks) (length out) .length ≡ length (imageOf numbers blocks) = omega arith in
     let o = put-there numbers blocks out ok in
     record {
@@ -143,31 +150,26 @@ module _ (image : List ℕ) (bytes : Bytes image) (ok : headerOf image .outcome 
   p = place (length image) (fromImage image)
 
   -- the header's numbers are those that stand in the image
-  six : numbers ≡ v 0 ∷ v 1 ∷ v 2 ∷ v 3 ∷ v 4 ∷ v 5 ∷ []
-  unfolding headerOf
-  six = ap numbersOf (ap (λ (r : HeaderRead). r .header) (read-fine image fine .is) ∙ was .header)
-
-  number-is : (k : ℕ) → k < 6 → getD numbers k 0 ≡ v k
+  number-is : (k : ℕ) → k < rowCount → getD numbers k 0 ≡ v k
   number-is k lt =
-      ap (λ (l : List ℕ). getD l k 0) six
-      ∙ below-six (λ (j : ℕ). getD (v 0 ∷ v 1 ∷ v 2 ∷ v 3 ∷ v 4 ∷ v 5 ∷ []) j 0 ≡ v j) refl refl refl refl refl refl k lt
+      ap (λ (h : Header). getD (numbersOf h) k 0) (header-is image ok) ∙ numbers-of-header (scanOf image .numbers) k lt ∙ was .is k lt
 
   -- and each stands there in its shortest form
-  there : (k : ℕ) → k < 6 → There image (p k) (getD numbers k 0) (p (suc k))
+  there : (k : ℕ) → k < rowCount → There image (p k) (getD numbers k 0) (p (suc k))
   there k lt = rw (number-is k lt) (number-only image (p k) (v k) (p (suc k)) (bytes (p k)) (was .numbers k lt))
 
-  given-same : (k : ℕ) → k < 6 → given numbers k (p k) ≡ Number.Value (v k) (p (suc k))
+  given-same : (k : ℕ) → k < rowCount → given numbers k (p k) ≡ Number.Value (v k) (p (suc k))
   given-same k lt = ap (Number.Value (getD numbers k 0)) (sym (there k lt .next)) ∙ ap (λ (x : ℕ). Number.Value x (p (suc k))) (number-is k lt)
 
-  written-scan : scan 0 (given numbers) 6 ≡ scanOf image
-  written-scan = same-scan (length image) 0 (fromImage image) (given numbers) was given-same 6 (omega arith)
+  written-scan : scan 0 (given numbers) rowCount ≡ scanOf image
+  written-scan = same-scan (length image) 0 (fromImage image) (given numbers) was given-same rowCount (omega arith)
 
   -- the numbers' bytes are the front of the image
-  has-front : (k : ℕ) → k ≤ 6 → (p k ≡ length (firstNumbers numbers k)) × Has image 0 (firstNumbers numbers k)
+  has-front : (k : ℕ) → k ≤ rowCount → (p k ≡ length (firstNumbers numbers k)) × Has image 0 (firstNumbers numbers k)
   unfolding scan firstNumbers
   has-front zero h = (refl, none)
   has-front (suc k) h =
-      let lt : k < 6 = omega arith in
+      let lt : k < rowCount = omega arith in
       let t = there k lt in
       let f = has-front k (omega arith) in
       let g = f .0 in
@@ -177,19 +179,19 @@ module _ (image : List ℕ) (bytes : Bytes image) (ok : headerOf image .outcome 
         join (firstNumbers numbers k) (numberBytes (getD numbers k 0)) (f .1) (rw e at (t .has)),
       )
 
-  blocks-are : blocksOf image ≡ drop (p 6) image
+  blocks-are : blocksOf image ≡ drop (p rowCount) image
   unfolding blocksOf headerOf
   blocks-are = rw fine (ap (λ (r : HeaderRead). drop (r .at) image) (read-fine image fine .is))
 
   image-back : imageOf numbers (blocksOf image) ≡ image
   unfolding imageOf
   image-back =
-      let f = has-front 6 (omega arith) in
+      let f = has-front rowCount (omega arith) in
       let l = read-fine image fine .long in
       let g = f .0 in
       rw (blocks-are, g)
-      (ap (λ (x : List ℕ). x ++ drop (length (firstNumbers numbers 6)) image) (sym (front image (firstNumbers numbers 6) (f .1) (omega arith)))
-      ∙ take-append-drop (length (firstNumbers numbers 6)) image)
+      (ap (λ (x : List ℕ). x ++ drop (length (firstNumbers numbers rowCount)) image) (sym (front image (firstNumbers numbers rowCount) (f .1) (omega arith)))
+      ∙ take-append-drop (length (firstNumbers numbers rowCount)) image)
 
   -- the writer, given the header and the blocks that were read, answers with the image's length and puts the image itself
   pub write-what-was-read : (out : List ℕ) → length image ≤ length out
@@ -199,7 +201,7 @@ module _ (image : List ℕ) (bytes : Bytes image) (ok : headerOf image .outcome 
   write-what-was-read out h =
       let s = scanOf image in
       let l = read-fine image fine .long in
-      let b : length (blocksOf image) ≡ blockLength * s .header .count = ap length blocks-are ∙ length-drop (p 6) image ∙ omega arith in
+      let b : length (blocksOf image) ≡ blockLength * scannedHeader s .count = ap length blocks-are ∙ length-drop (p rowCount) image ∙ omega arith in
       let e : s .at + length (blocksOf image) ≡ length image = omega arith in
       let w : written numbers (length (blocksOf image)) (length out) ≡ record { outcome = Done; length = length image } =
       ap (λ (x : Scan). fitted x (length (blocksOf image)) (length out)) written-scan
@@ -215,7 +217,7 @@ module _ (numbers blocks out : List ℕ) (ok : written numbers (length blocks) (
   image = take (written numbers (length blocks) (length out) .length) (outAfter numbers blocks out)
 
   pub header-back : (headerOf image .outcome ≡ Done)
-      × (headerOf image .header ≡ headerWith (getD numbers 0 0) (getD numbers 1 0) (getD numbers 2 0) (getD numbers 3 0) (getD numbers 4 0) (getD numbers 5 0))
+      × (headerOf image .header ≡ headerFrom numbers)
   header-back = let r = read-what-was-written numbers blocks out ok .read in (r .outcome, r .header)
 
   pub blocks-back : blocksOf image ≡ blocks

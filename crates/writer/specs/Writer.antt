@@ -8,12 +8,12 @@ use lib.Dec.{ltb}
 use Rattle.limits.specs.Limits.{blockLength}
 use Rattle.outcome.specs.Outcome.{done}
 use Rattle.number.specs.Number.{numberLimit, numberBytes}
-use Rattle.image.specs.Scan.{Source, scan, firstRefusal, rowCount}
+use Rattle.image.specs.Rows.{rowCount}
+use Rattle.image.specs.Scan.{Source, scan, scannedHeader, firstRefusal}
 use Rattle.number.specs.declared.Number.{Number}
 use Rattle.number.specs.declared.Number.the-variants.{Value}
 use Rattle.outcome.specs.declared.Outcome.{Outcome}
 use Rattle.outcome.specs.declared.Outcome.the-variants.{Done, EndsEarly, LeftOver, NoRoom}
-use Rattle.image.specs.declared.Header.{Header}
 use Rattle.image.specs.declared.reader.Scan.{Scan}
 use Rattle.writer.specs.declared.Written.{Written}
 
@@ -25,16 +25,12 @@ standing v at = Value v (at + length (numberBytes v))
 abbrev pub given : List ℕ → Source
 given numbers row at = standing (getD numbers row 0) at
 
--- the six numbers of a header, as they stand in an image
-abbrev pub numbersOf : Header → List ℕ
-numbersOf h = h .format ∷ h .drive .model ∷ h .drive .b ∷ h .drive .c ∷ h .start ∷ h .count ∷ []
-
 -- the bytes of the first k numbers, one after the other
 unfoldable pub firstNumbers : List ℕ → ℕ → List ℕ
 firstNumbers numbers zero = []
 firstNumbers numbers (suc k) = firstNumbers numbers k ++ numberBytes (getD numbers k 0)
 
--- an image is the bytes of its six numbers and of its blocks
+-- an image is the bytes of its numbers and of its blocks
 unfoldable pub imageOf : List ℕ → List ℕ → List ℕ
 imageOf numbers blocks = firstNumbers numbers rowCount ++ blocks
 
@@ -58,7 +54,7 @@ writtenWith s b o = cond (done o) (record { outcome = o; length = s .at + b }) (
 
 -- the numbers, then the blocks and the room
 unfoldable pub fitted : Scan → ℕ → ℕ → Written
-fitted s b room = writtenWith s b (firstRefusal (s .outcome) (roomOutcome (s .at) (s .header .count) b room))
+fitted s b room = writtenWith s b (firstRefusal (s .outcome) (roomOutcome (s .at) (scannedHeader s .count) b room))
 
 -- what the writer answers: the header's numbers are judged first
 unfoldable pub written : List ℕ → ℕ → ℕ → Written

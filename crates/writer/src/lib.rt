@@ -1,6 +1,7 @@
 // The image writer: document 01, "Refused because of the input", its last paragraph. It judges the header's numbers as the reader
 // does, then the length of the blocks (1, 4), then the room (14); it does not judge blocks.
 use image::reader;
+use image::reader::ROWS;
 use image::reader::Scan;
 use outcome::Outcome;
 ghost use mathlib.Core.Path.{_≡_};
@@ -8,7 +9,9 @@ ghost use Prim.Native.Nat.{_+_, _<_, _≤_};
 ghost use lib.ListN.{length};
 ghost use lib.Seq.{sets};
 ghost use Rattle.number.specs.Number.{numberLimit, numberBytes};
-ghost use Rattle.image.specs.Scan.{more, scan, rowCount, mostHeaderBytes};
+ghost use Rattle.image.specs.Numbers.{Narrow};
+ghost use Rattle.image.specs.Rows.{rowCount};
+ghost use Rattle.image.specs.Scan.{more, scan, mostHeaderBytes};
 ghost use Rattle.writer.specs.Writer.{standing, given, HaveForms, roomOutcome, notWritten, fitted, written, firstNumbers, imageOf, overlaid, outAfter};
 
 // What writing came to: the outcome, and the length of the image, 0 when refused.
@@ -17,9 +20,8 @@ pub struct Written {
     pub length: usize,
 }
 
-// Writes the image of these header numbers (format, type, slot B, slot C, start, count) and blocks to the front of out, and leaves
-// what stands behind it. A refusal leaves out as it is.
-pub fn write(numbers: [u32; 6], blocks: &[u8], out: &mut [u8]) -> Written
+// Writes the image of these header numbers, in the order in which they stand, and blocks to the front of out, and leaves what stands behind it. A refusal leaves out as it is.
+pub fn write(numbers: [u32; ROWS], blocks: &[u8], out: &mut [u8]) -> Written
     ensures { λ r. ⌜ r ≡ written numbers (length (now (blocks .entry))) (length (now (out .entry))) ⌝ }
     ensures { λ _. ⌜ now (out .exit) ≡ outAfter numbers (now (blocks .entry)) (now (out .entry)) ⌝ }
 {
@@ -33,22 +35,23 @@ pub fn write(numbers: [u32; 6], blocks: &[u8], out: &mut [u8]) -> Written
     w
 }
 
-// The six numbers judged, each at the place where it would stand.
-fn judge_rows(numbers: [u32; 6]) -> Scan
+// The numbers judged, each at the place where it would stand.
+fn judge_rows(numbers: [u32; ROWS]) -> Scan
     ensures { λ r. ⌜ r ≡ scan 0 (given numbers) rowCount ⌝ }
 {
     let mut s = reader::begin();
-    let mut row: u8 = 0;
-    while row < reader::ROWS {
-        s = judge_row(s, row, numbers[row as usize]);
+    let mut row: usize = 0;
+    while row < ROWS {
+        s = judge_row(s, row, numbers[row]);
         row += 1;
     }
     s
 }
 
 // One number more, unless one before it was refused.
-fn judge_row(s: Scan, row: u8, v: u32) -> Scan
+fn judge_row(s: Scan, row: usize, v: u32) -> Scan
     requires { ⌜ s .at ≤ mostHeaderBytes ⌝ }
+    requires { ⌜ row < rowCount ⌝ }
     ensures { λ r. ⌜ r ≡ more 0 (λ k. standing v) row s ⌝ }
 {
     let outcome = s.outcome;
@@ -62,12 +65,13 @@ fn judge_row(s: Scan, row: u8, v: u32) -> Scan
 // What the judged numbers, the length of the blocks and the room come to.
 fn fit(s: Scan, blocks: usize, room: usize) -> Written
     requires { ⌜ s .at ≤ mostHeaderBytes ⌝ }
+    requires { ⌜ Narrow (s .numbers) ⌝ }
     ensures { λ r. ⌜ r ≡ fitted s blocks room ⌝ }
 {
     let judged = s.outcome;
-    let header = s.header;
+    let numbers = s.numbers;
     let at = s.at;
-    let outcome = reader::first_refusal(judged, judge_room(at, header.count, blocks, room));
+    let outcome = reader::first_refusal(judged, judge_room(at, numbers[reader::COUNT], blocks, room));
     if !outcome.is_done() {
         return not_written(outcome);
     }
@@ -78,8 +82,9 @@ fn fit(s: Scan, blocks: usize, room: usize) -> Written
 }
 
 // Whether the blocks are as long as the count says, and there is room for them behind the numbers.
-fn judge_room(at: usize, count: u16, blocks: usize, room: usize) -> Outcome
+fn judge_room(at: usize, count: u32, blocks: usize, room: usize) -> Outcome
     requires { ⌜ at ≤ mostHeaderBytes ⌝ }
+    requires { ⌜ count < 65536 ⌝ }
     ensures { λ r. ⌜ r ≡ roomOutcome at count blocks room ⌝ }
 {
     let whole = limits::BLOCK_LENGTH * (count as usize);
@@ -105,7 +110,7 @@ fn not_written(outcome: Outcome) -> Written
 }
 
 // The image itself, where there is room for it.
-fn put_image(numbers: [u32; 6], blocks: &[u8], out: &mut [u8])
+fn put_image(numbers: [u32; ROWS], blocks: &[u8], out: &mut [u8])
     requires { ⌜ HaveForms numbers × (length (imageOf numbers (now blocks)) ≤ length (now out)) ⌝ }
     ensures { λ _. ⌜ now (out .exit) ≡ overlaid (imageOf numbers (now (blocks .entry))) (now (out .entry)) ⌝ }
 {
@@ -114,14 +119,14 @@ fn put_image(numbers: [u32; 6], blocks: &[u8], out: &mut [u8])
 }
 
 // The numbers' bytes, one after the other; gives the place behind them.
-fn put_numbers(numbers: [u32; 6], out: &mut [u8]) -> usize
+fn put_numbers(numbers: [u32; ROWS], out: &mut [u8]) -> usize
     requires { ⌜ HaveForms numbers × (length (firstNumbers numbers rowCount) ≤ length (now out)) ⌝ }
     ensures { λ r. ⌜ (r ≡ length (firstNumbers numbers rowCount)) × (now (out .exit) ≡ sets (now (out .entry)) 0 (firstNumbers numbers rowCount)) ⌝ }
 {
     let mut at = 0;
-    let mut row: u8 = 0;
-    while row < reader::ROWS {
-        at = put(out, at, numbers[row as usize]);
+    let mut row: usize = 0;
+    while row < ROWS {
+        at = put(out, at, numbers[row]);
         row += 1;
     }
     at

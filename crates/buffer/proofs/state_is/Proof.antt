@@ -13,8 +13,8 @@ array-copy-out-plc c = search needs
 array-copy-out-mathematics : tie.Need-array-copy-out-mathematics
 array-copy-out-mathematics c = search needs
 
-header-is-requires : tie.Need-header-is-requires
-header-is-requires c κs = search needs
+accepts-requires : tie.Need-accepts-requires
+accepts-requires c κs = search needs
 
 values-are-requires : tie.Need-values-are-requires
 values-are-requires c κs = search needs
@@ -30,7 +30,7 @@ task-is-requires-3 c κs = search needs
 
 returns : tie.Need-returns
 unfolding stateIs
-returns c = rw (c .task-is3 .ensures, c .before .task-is2 .ensures, c .before .before .task-is .ensures, c .before .before .before .values-are .ensures, c .before .before .before .before .header-is .ensures)
+returns c = rw (c .task-is3 .ensures, c .before .task-is2 .ensures, c .before .before .task-is .ensures, c .before .before .before .values-are .ensures, c .before .before .before .before .accepts .ensures)
 
 pub state-is-spec : {M : Type 1} → statement M
 state-is-spec =
@@ -39,7 +39,7 @@ state-is-spec =
     array-copy-out-bias
     array-copy-out-plc
     array-copy-out-mathematics
-    header-is-requires
+    accepts-requires
     values-are-requires
     task-is-requires
     task-is-requires-2

@@ -22,6 +22,9 @@ returns-2 : tie.Need-returns-2
 unfolding presence
 returns-2 c = simp (c .before .enum-told3 .given .1, eq-eqb _ _ (c .if2 .taken))
 
+cast-if3 : tie.Need-cast-if3
+cast-if3 c = search needs
+
 returns-3 : tie.Need-returns-3
 unfolding presence
 returns-3 c = simp (c .before .before .enum-told3 .given .1, ne-eqb _ _ (c .before .if2 .left), le-ltb _ _ (c .if3 .taken))
@@ -31,6 +34,9 @@ enum-known-home c = search needs
 
 cast-takes-b : tie.Need-cast-takes-b
 cast-takes-b c = search needs
+
+cast-takes-b-2 : tie.Need-cast-takes-b-2
+cast-takes-b-2 c = search needs
 
 takes-b-requires : tie.Need-takes-b-requires
 takes-b-requires c κs = search needs
@@ -43,6 +49,9 @@ enum-known-home-2 c = search needs
 
 cast-takes-c : tie.Need-cast-takes-c
 cast-takes-c c = search needs
+
+cast-takes-c-2 : tie.Need-cast-takes-c-2
+cast-takes-c-2 c = search needs
 
 takes-c-requires : tie.Need-takes-c-requires
 takes-c-requires c κs = search needs
@@ -79,13 +88,16 @@ found-spec =
     returns
     enum-told-3
     returns-2
+    cast-if3
     returns-3
     enum-known-home
     cast-takes-b
+    cast-takes-b-2
     takes-b-requires
     on-board-requires
     enum-known-home-2
     cast-takes-c
+    cast-takes-c-2
     takes-c-requires
     on-board-requires-2
     returns-4

@@ -17,6 +17,9 @@ returns-2 c =
     let a = c .before .before .args in
     sym (past-types (a .t1) (a .model) (a .board) (omega arith))
 
+mul-result : tie.Need-mul-result
+mul-result c = search needs
+
 array-read-result : tie.Need-array-read-result
 array-read-result c = search needs
 
@@ -27,4 +30,4 @@ returns-3 c =
     sym (by-least (a .t1) (a .model) (a .board) (omega arith) (omega arith))
 
 pub may-take-spec : {M : Type 1} → statement M
-may-take-spec = tie.close (tie.spec returns returns-2 array-read-result returns-3)
+may-take-spec = tie.close (tie.spec returns returns-2 mul-result array-read-result returns-3)

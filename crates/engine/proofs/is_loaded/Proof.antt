@@ -3,7 +3,7 @@ use mathlib.Core.Path.{ap, ap₂, _∙_}
 use mathlib.Core.Bool.{_&&_}
 use Rattle.outcome.specs.Outcome.{done}
 use Rattle.image.specs.declared.reader.HeaderRead.{HeaderRead}
-use Rattle.machine.specs.Engine.{sameHeader}
+use Rattle.image.specs.Rows.{sameHeader}
 use Rattle.engine.proofs.is_loaded.Statement.{statement}
 use Rattle.engine.proofs.is_loaded.Tie as tie
 
@@ -17,4 +17,4 @@ is-loaded-spec =
     (λ c.
     let a = c .before .before .before .before .args in
     let e = c .before .before .read .ensures in
-    ap₂ _&&_ (c .before .is-done .ensures ∙ ap (λ (h : HeaderRead). done (h .outcome)) e) (c .same-header .ensures ∙ ap (λ (h : HeaderRead). sameHeader (h .header) (a .header)) e)))
+    ap₂ _&&_ (c .before .is-done .ensures ∙ ap (λ (h : HeaderRead). done (h .outcome)) e) (c .same .ensures ∙ ap (λ (h : HeaderRead). sameHeader (h .header) (a .header)) e)))

@@ -16,11 +16,17 @@ loop-holds c = search needs
 cast-takes-b : tie.Need-cast-takes-b Inv-loop μ-loop
 cast-takes-b c = search needs
 
+cast-takes-b-2 : tie.Need-cast-takes-b-2 Inv-loop μ-loop
+cast-takes-b-2 c = search needs
+
 takes-b-requires : tie.Need-takes-b-requires Inv-loop μ-loop
 takes-b-requires c κs = search needs
 
 cast-takes-c : tie.Need-cast-takes-c Inv-loop μ-loop
 cast-takes-c c = search needs
+
+cast-takes-c-2 : tie.Need-cast-takes-c-2 Inv-loop μ-loop
+cast-takes-c-2 c = search needs
 
 takes-c-requires : tie.Need-takes-c-requires Inv-loop μ-loop
 takes-c-requires c κs = search needs
@@ -48,8 +54,10 @@ pin-rows-spec =
     μ-loop
     loop-holds
     cast-takes-b
+    cast-takes-b-2
     takes-b-requires
     cast-takes-c
+    cast-takes-c-2
     takes-c-requires
     drive-rows-requires
     add-k

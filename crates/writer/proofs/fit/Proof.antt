@@ -5,15 +5,18 @@ use mathlib.Core.Path.{sym, ap, _∙_}
 use native.Mathlib.Omega.{arith}
 use borrow.Author.Tests.{not-true, not-false}
 use Rattle.outcome.specs.Outcome.{done}
-use Rattle.image.specs.Scan.{firstRefusal}
+use Rattle.image.specs.Scan.{scannedHeader, firstRefusal}
 use Rattle.writer.specs.Writer.{roomOutcome, writtenWith, fitted}
 use Rattle.image.proofs.Read.{neither}
 use Rattle.writer.proofs.Judged.{room-right}
 use Rattle.writer.proofs.fit.Statement.{statement}
 use Rattle.writer.proofs.fit.Tie as tie
 
+array-read-judge-room : tie.Need-array-read-judge-room
+array-read-judge-room c = search needs
+
 judge-room-requires : tie.Need-judge-room-requires
-judge-room-requires c κs = search needs
+judge-room-requires c κs = let p = c .before .pre in (p .0, p .1 .count)
 
 first-refusal-requires : tie.Need-first-refusal-requires
 first-refusal-requires c κs = search needs
@@ -33,16 +36,16 @@ returns c =
     let d = c .before .before .is-done in
     rw (← told, sym (d .ensures) ∙ not-true (d .result) (c .before .if1 .taken)) (c .not-written .ensures)
 
-add-t11 : tie.Need-add-t11
-add-t11 c =
+add-t14 : tie.Need-add-t14
+add-t14 c =
     let st = c .before .before .before .before .before in
     let o = c .before .before .first-refusal in
     let told = o .ensures ∙ ap (firstRefusal (st .args .s .outcome)) (c .before .before .before .judge-room .ensures) in
     let d = c .before .is-done in
     let s = st .args .s in
-    let room = roomOutcome (s .at) (s .header .count) (st .args .blocks) (st .args .room) in
+    let room = roomOutcome (s .at) (scannedHeader s .count) (st .args .blocks) (st .args .room) in
     let ok = sym (ap done told) ∙ sym (d .ensures) ∙ not-false (d .result) (c .if1 .left) in
-    let r = room-right (s .at) (s .header .count) (st .args .blocks) (st .args .room) (neither (s .outcome) room ok .1) .1 in
+    let r = room-right (s .at) (scannedHeader s .count) (st .args .blocks) (st .args .room) (neither (s .outcome) room ok .1) .1 in
     let h = st .fits .room .fits in
     omega arith
 
@@ -59,10 +62,11 @@ pub fit-spec : {M : Type 1} → statement M
 fit-spec =
     tie.close
     (tie.spec
+    array-read-judge-room
     judge-room-requires
     first-refusal-requires
     is-done-requires
     not-written-requires
     returns
-    add-t11
+    add-t14
     returns-2)

@@ -5,8 +5,7 @@ use Prim.Native.Nat.{ℕ, _+_}
 use native.Mathlib.Omega.{arith}
 use borrow.Author.Tests.{not-true, not-false}
 use Rattle.writer.specs.Writer.{standing}
-use Rattle.image.specs.Rows.{judged}
-use Rattle.image.specs.Scan.{taken}
+use Rattle.image.specs.Scan.{judged, taken}
 use Rattle.number.proofs.Numbers.{size-most}
 use Rattle.image.proofs.Scanning.{stays, takes}
 use Rattle.writer.proofs.judge_row.Statement.{statement}
@@ -27,7 +26,7 @@ size-requires c κs = search needs
 add-next : tie.Need-add-next
 add-next c =
     let st = c .before .before .before .before in
-    omega (arith, size-most (st .args .v), c .before .size .ensures, st .pre)
+    omega (arith, size-most (st .args .v), c .before .size .ensures, st .pre .0)
 
 judge-requires : tie.Need-judge-requires
 judge-requires c κs = search needs

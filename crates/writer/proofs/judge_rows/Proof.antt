@@ -4,6 +4,7 @@ use mathlib.Core.Path.{_≡_, ap, _∙_}
 use Prim.Native.Nat.{_≤_, _-_}
 use native.Mathlib.Omega.{arith}
 use Rattle.writer.specs.Writer.{given}
+use Rattle.image.specs.Rows.{rowCount}
 use Rattle.image.specs.Scan.{scan}
 use Rattle.image.specs.declared.reader.Scan.{Scan}
 use Rattle.image.proofs.Scanning.{at-most, next-row}
@@ -12,10 +13,10 @@ use Rattle.writer.proofs.judge_rows.Statement.{statement}
 use Rattle.writer.proofs.judge_rows.Tie as tie
 
 abbrev Inv-loop : tie.InvT-loop
-Inv-loop numbers s₀ row₀ s row = (s ≡ scan 0 (given numbers) row) × (row ≤ 6)
+Inv-loop numbers s₀ row₀ s row = (s ≡ scan 0 (given numbers) row) × (row ≤ rowCount)
 
 abbrev μ-loop : tie.MeasureT-loop
-μ-loop numbers s₀ row₀ s row = 6 - row
+μ-loop numbers s₀ row₀ s row = rowCount - row
 
 begin-requires : tie.Need-begin-requires Inv-loop μ-loop
 begin-requires c κs = search needs
@@ -23,9 +24,6 @@ begin-requires c κs = search needs
 loop-holds : tie.Need-loop-holds Inv-loop μ-loop
 unfolding scan
 loop-holds c = (c .begin .ensures, omega arith)
-
-cast-judge-row : tie.Need-cast-judge-row Inv-loop μ-loop
-cast-judge-row c = omega arith
 
 mul-judge-row : tie.Need-mul-judge-row Inv-loop μ-loop
 mul-judge-row c = omega arith
@@ -57,7 +55,7 @@ loop-again c =
 returns : tie.Need-returns Inv-loop μ-loop
 returns c =
     let row = c .before .loop .row in
-    let h : row ≡ 6 = omega (arith, c .loop-test .left, c .before .loop .inv .1) in
+    let h : row ≡ rowCount = omega (arith, c .loop-test .left, c .before .loop .inv .1) in
     rw h at (c .before .loop .inv .0)
 
 pub judge-rows-spec : {M : Type 1} → statement M
@@ -68,7 +66,6 @@ judge-rows-spec =
     μ-loop
     begin-requires
     loop-holds
-    cast-judge-row
     mul-judge-row
     array-read-judge-row
     judge-row-requires

@@ -5,6 +5,7 @@ use mathlib.Core.Path.{_≡_, ap, _∙_}
 use native.Mathlib.Omega.{arith}
 use lib.ListN.{length, length-take, length-drop}
 use lib.Seq.{length-sets}
+use Rattle.image.specs.Rows.{rowCount}
 use Rattle.writer.specs.Writer.{firstNumbers}
 use Rattle.writer.proofs.Stores.{filled}
 use Rattle.writer.proofs.HeaderBytes.{image-length, whole}
@@ -24,7 +25,7 @@ sub-copy c =
     let called = c .before .before .put-numbers in
     let l = image-length (st .args .numbers) (st .args .blocks .now) in
     let h = st .pre .1 in
-    let e : length (called .last .1 .0) ≡ length (st .args .out .now) = ap length (called .ensures .1) ∙ length-sets (st .args .out .now) 0 (firstNumbers (st .args .numbers) 6) in
+    let e : length (called .last .1 .0) ≡ length (st .args .out .now) = ap length (called .ensures .1) ∙ length-sets (st .args .out .now) 0 (firstNumbers (st .args .numbers) rowCount) in
     let a = called .ensures .0 in
     omega arith
 
@@ -34,7 +35,7 @@ part-copy-start c =
     let called = c .before .before .put-numbers in
     let l = image-length (st .args .numbers) (st .args .blocks .now) in
     let h = st .pre .1 in
-    let e : length (called .last .1 .0) ≡ length (st .args .out .now) = ap length (called .ensures .1) ∙ length-sets (st .args .out .now) 0 (firstNumbers (st .args .numbers) 6) in
+    let e : length (called .last .1 .0) ≡ length (st .args .out .now) = ap length (called .ensures .1) ∙ length-sets (st .args .out .now) 0 (firstNumbers (st .args .numbers) rowCount) in
     let a = called .ensures .0 in
     omega arith
 
@@ -47,7 +48,7 @@ copy-requires c κs =
     let called = c .before .before .before .put-numbers in
     let l = image-length (st .args .numbers) (st .args .blocks .now) in
     let h = st .pre .1 in
-    let e : length (called .last .1 .0) ≡ length (st .args .out .now) = ap length (called .ensures .1) ∙ length-sets (st .args .out .now) 0 (firstNumbers (st .args .numbers) 6) in
+    let e : length (called .last .1 .0) ≡ length (st .args .out .now) = ap length (called .ensures .1) ∙ length-sets (st .args .out .now) 0 (firstNumbers (st .args .numbers) rowCount) in
     let a = called .ensures .0 in
     simp (length-take, length-drop) (omega arith)
 
@@ -60,7 +61,7 @@ returns c =
     let called = c .before .before .before .before .before .before .put-numbers in
     let l = image-length (st .args .numbers) (st .args .blocks .now) in
     let h = st .pre .1 in
-    let e : length (called .last .1 .0) ≡ length (st .args .out .now) = ap length (called .ensures .1) ∙ length-sets (st .args .out .now) 0 (firstNumbers (st .args .numbers) 6) in
+    let e : length (called .last .1 .0) ≡ length (st .args .out .now) = ap length (called .ensures .1) ∙ length-sets (st .args .out .now) 0 (firstNumbers (st .args .numbers) rowCount) in
     let a = called .ensures .0 in
     filled (called .last .1 .0) (st .args .blocks .now) (c .before .before .copy .last .1 .0) (called .result) (omega arith) (c .before .before .copy .ensures .1)
     ∙ whole (st .args .numbers) (st .args .out .now) (called .last .1 .0) (st .args .blocks .now) (called .result) a (called .ensures .1) h

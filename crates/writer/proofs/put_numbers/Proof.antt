@@ -5,23 +5,21 @@ use native.Mathlib.Omega.{arith}
 use native.Mathlib.Numerals.{add-one}
 use lib.ListN.{length}
 use lib.Seq.{sets, length-sets}
+use Rattle.image.specs.Rows.{rowCount}
 use Rattle.writer.specs.Writer.{firstNumbers}
 use Rattle.writer.proofs.HeaderBytes.{one-more, room, stored}
 use Rattle.writer.proofs.put_numbers.Statement.{statement}
 use Rattle.writer.proofs.put_numbers.Tie as tie
 
 abbrev Inv-loop : tie.InvT-loop
-Inv-loop out₀ numbers at₀ row₀ out at row = (at ≡ length (firstNumbers numbers row)) × (out ≡ sets out₀ 0 (firstNumbers numbers row)) × (row ≤ 6)
+Inv-loop out₀ numbers at₀ row₀ out at row = (at ≡ length (firstNumbers numbers row)) × (out ≡ sets out₀ 0 (firstNumbers numbers row)) × (row ≤ rowCount)
 
 abbrev μ-loop : tie.MeasureT-loop
-μ-loop out₀ numbers at₀ row₀ out at row = 6 - row
+μ-loop out₀ numbers at₀ row₀ out at row = rowCount - row
 
 loop-holds : tie.Need-loop-holds Inv-loop μ-loop
 unfolding firstNumbers
 loop-holds c = (refl, refl, omega arith)
-
-cast-put : tie.Need-cast-put Inv-loop μ-loop
-cast-put c = omega arith
 
 mul-put : tie.Need-mul-put Inv-loop μ-loop
 mul-put c = omega arith
@@ -35,9 +33,9 @@ put-requires c κs =
     let st = at-loop .before .before in
     let ns = st .args .t1 in
     let row = at-loop .loop .row in
-    let l : row < 6 = c .before .loop-test .taken in
+    let l : row < rowCount = c .before .loop-test .taken in
     let e : length (at-loop .loop .out) ≡ length (st .args .out .now) = ap length (at-loop .loop .inv .1) ∙ length-sets (st .args .out .now) 0 (firstNumbers ns row) in
-    let r = room ns row 6 l in
+    let r = room ns row rowCount l in
     let i = at-loop .loop .inv .0 in
     let h = st .pre .1 in
     (st .pre .0 row l, omega arith)
@@ -69,7 +67,7 @@ same-length c =
 returns : tie.Need-returns Inv-loop μ-loop
 returns c =
     let row = c .before .loop .row in
-    let h : row ≡ 6 = omega (arith, c .loop-test .left, c .before .loop .inv .2) in
+    let h : row ≡ rowCount = omega (arith, c .loop-test .left, c .before .loop .inv .2) in
     (rw h at (c .before .loop .inv .0), rw h at (c .before .loop .inv .1))
 
 pub put-numbers-spec : {M : Type 1} → statement M
@@ -79,7 +77,6 @@ put-numbers-spec =
     Inv-loop
     μ-loop
     loop-holds
-    cast-put
     mul-put
     array-read-put
     put-requires

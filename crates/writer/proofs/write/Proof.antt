@@ -7,7 +7,9 @@ use denote.Ref.{now}
 use lib.ListN.{length}
 use borrow.Author.Tests.{not-true, not-false}
 use Rattle.writer.specs.Writer.{given, fitted, written}
+use Rattle.image.specs.Rows.{rowCount}
 use Rattle.image.specs.declared.reader.Scan.{Scan}
+use Rattle.image.proofs.Accepted.{scan-narrow}
 use Rattle.image.proofs.Scanning.{at-most}
 use Rattle.writer.proofs.HeaderBytes.{given-near}
 use Rattle.writer.proofs.Judged.{small-numbers, written-fine, has-room, answered, left-alone, put-there}
@@ -20,7 +22,7 @@ judge-rows-requires c κs = search needs
 fit-requires : tie.Need-fit-requires
 fit-requires c κs =
     let ns = c .before .before .before .args .numbers in
-    rw (c .judge-rows .ensures) (at-most 0 (given ns) (given-near ns) 6)
+    rw (c .judge-rows .ensures) (at-most 0 (given ns) (given-near ns) rowCount, scan-narrow 0 (given ns))
 
 is-done-requires : tie.Need-is-done-requires
 is-done-requires c κs = search needs

@@ -1,10 +1,12 @@
--- `image::reader::read` meets its contract: six numbers take at most twelve bytes, as `close` asks. Assumes nothing.
+-- `image::reader::read` meets its contract: the numbers take at most two bytes each, and fit their widths, as `close` asks. Assumes nothing.
 use borrow.Author.Needs.{needs}
 use mathlib.Core.Path.{ap, _∙_}
 use denote.Ref.{now}
 use lib.ListN.{length}
+use Rattle.image.specs.Rows.{rowCount}
 use Rattle.image.specs.Scan.{fromImage, closed, headerOf}
 use Rattle.image.specs.declared.reader.Scan.{Scan}
+use Rattle.image.proofs.Accepted.{scan-narrow}
 use Rattle.image.proofs.Scanning.{at-most, image-near}
 use Rattle.image.proofs.reader.read.Statement.{statement}
 use Rattle.image.proofs.reader.read.Tie as tie
@@ -15,7 +17,7 @@ read-rows-requires c κs = search needs
 close-requires : tie.Need-close-requires
 close-requires c κs =
     let l = now (c .before .before .args .image) in
-    rw (c .read-rows .ensures) (at-most (length l) (fromImage l) (image-near l) 6)
+    rw (c .read-rows .ensures) (at-most (length l) (fromImage l) (image-near l) rowCount, scan-narrow (length l) (fromImage l))
 
 returns : tie.Need-returns
 unfolding headerOf

@@ -4,16 +4,17 @@ use mathlib.Core.Path.{_≡_, _∙_}
 use Prim.Native.Nat.{_≤_, _-_}
 use native.Mathlib.Omega.{arith}
 use lib.ListN.{length}
+use Rattle.image.specs.Rows.{rowCount}
 use Rattle.image.specs.Scan.{fromImage, scan}
 use Rattle.image.proofs.Scanning.{next-row}
 use Rattle.image.proofs.reader.read_rows.Statement.{statement}
 use Rattle.image.proofs.reader.read_rows.Tie as tie
 
 abbrev Inv-loop : tie.InvT-loop
-Inv-loop image s₀ row₀ s row = (s ≡ scan (length image) (fromImage image) row) × (row ≤ 6)
+Inv-loop image s₀ row₀ s row = (s ≡ scan (length image) (fromImage image) row) × (row ≤ rowCount)
 
 abbrev μ-loop : tie.MeasureT-loop
-μ-loop image s₀ row₀ s row = 6 - row
+μ-loop image s₀ row₀ s row = rowCount - row
 
 begin-requires : tie.Need-begin-requires Inv-loop μ-loop
 begin-requires c κs = search needs
@@ -37,7 +38,7 @@ loop-again c = (c .read-row .ensures ∙ next-row _ _ _ _ (c .before .before .lo
 returns : tie.Need-returns Inv-loop μ-loop
 returns c =
     let row = c .before .loop .row in
-    let h : row ≡ 6 = omega (arith, c .loop-test .left, c .before .loop .inv .1) in
+    let h : row ≡ rowCount = omega (arith, c .loop-test .left, c .before .loop .inv .1) in
     rw h at (c .before .loop .inv .0)
 
 pub read-rows-spec : {M : Type 1} → statement M
