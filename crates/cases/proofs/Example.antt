@@ -49,8 +49,8 @@ record Computed : Type 0 where
 computed : Computed
 unfolding
     types.takes types.cycleOf
-    number.secondByte number.firstByte number.numberAt
-    header.checked header.firstSame header.sameHeader scan.judged
+    number.numberBytes number.secondByte number.firstByte number.numberAt
+    header.checked header.firstSame header.sameHeader scan.placeOf scan.judged
     scan.taken scan.more scan.scan scan.firstRefusal scan.lengthOutcome scan.readWith scan.closed scan.headerOf scan.blocksOf
     rows.rows rows.rowIn rows.rowOf
     operands.laidOut operands.operands operands.usedBytes operands.allZero operands.unusedZero

@@ -12,7 +12,7 @@ use borrow.Author.Tests.{lt-ltb, eq-eqb, ne-eqb, eqb-true, eqb-false}
 use Rattle.limits.specs.Limits.{taskCount, inputsLength}
 use Rattle.le.specs.LittleEndian.{Bytes}
 use Rattle.number.proofs.Choice.{clash, both}
-use Rattle.image.specs.Scan.{blocksOf}
+use Rattle.image.specs.Scan.{blocksOf, headerOf}
 use Rattle.rows.specs.Rows.{hex}
 use Rattle.operands.specs.declared.Command.{Command}
 use Rattle.point.specs.declared.Point.{Point}
@@ -128,9 +128,9 @@ module _ (image b : List ℕ) (x : Inputs) where
       performs = to-task (r .runs .held) ∙ ap handed (rw (eq-eqb (k .status) runs (r .runs .running), r .fits))
 
       -- the command's number is 0 where it does not halt its task
-      carried : answerTo (e .outcome) (pointOf (x .task) k) ≡ Done → Gives (answerFor (carriedOut image s x k .motion) Done) (encoded (carriedOut image s x k .state))
+      carried : answerTo (e .outcome) (pointOf (x .task) k) ≡ Done → Gives (answerFor (carriedOut (blocksOf image) s x k .motion) Done) (encoded (carriedOut (blocksOf image) s x k .state))
       unfolding handed performed
-      carried z = given-by _ _ (performs ∙ (λ ι. record { answer = answerFor (e .motion) (z ι); buffer = encoded (carriedOut image s x k .state) }))
+      carried z = given-by _ _ (performs ∙ (λ ι. record { answer = answerFor (e .motion) (z ι); buffer = encoded (carriedOut (blocksOf image) s x k .state) }))
 
       task-good : Good s
       task-good = good (r .runs .held .state)
@@ -147,7 +147,7 @@ module _ (image b : List ℕ) (x : Inputs) where
       wait-here : isSet (k .time) ≡ true → isWait (commandOf image s x .code) ≡ true
       unfolding fits
       wait-here t =
-          let here = both (isLoaded image (s .header)) (blockFits (s .header) (blocksOf image) (x .task) k && waitFits (blocksOf image) k) (r .fits) in
+          let here = both (isLoaded (headerOf image) (s .header)) (blockFits (s .header) (blocksOf image) (x .task) k && waitFits (blocksOf image) k) (r .fits) in
           let waiting = both (blockFits (s .header) (blocksOf image) (x .task) k) (waitFits (blocksOf image) k) (here .1) .1 in
           sym (ap (λ (u : Bool). not u || isWait (commandOf image s x .code)) t) ∙ waiting
 
@@ -168,7 +168,7 @@ module _ (image b : List ℕ) (x : Inputs) where
           }))
 
       -- a command without a reason does not halt
-      going : ((q : Cause) → ReasonHere image b x q → ⊥) → Gives (answerFor (carriedOut image s x k .motion) Done) (encoded (carriedOut image s x k .state))
+      going : ((q : Cause) → ReasonHere image b x q → ⊥) → Gives (answerFor (carriedOut (blocksOf image) s x k .motion) Done) (encoded (carriedOut (blocksOf image) s x k .state))
       going n = ⊎-elim (λ h. absurd (n (h .0) (reason-of (h .0) (h .1)))) (λ h. carried (h .0)) (halt-or-done (e .outcome) (pointOf (x .task) k))
 
     -- ---- what a way says is what the step gives

@@ -14,6 +14,7 @@ use Rattle.state.specs.declared.State.{State}
 use Rattle.layout.specs.Layout.{decoded, encoded}
 use Rattle.layout.specs.Test.{isState}
 use Rattle.machine.specs.Given.{Inputs}
+use Rattle.image.specs.Scan.{blocksOf}
 use Rattle.machine.specs.Engine.{pointOf, noted, fits, carriedOut}
 use Rattle.machine.specs.Each.{commandOf, Reason}
 use Rattle.machine.specs.declared.Cause.{Cause}
@@ -79,8 +80,8 @@ pub data Way (image b : List ℕ) (x : Inputs) : BiasAnswer → List ℕ → Typ
       → Way image b x (answerFor None (Differs (pointOf (x .task) (taskAt (decoded b) (x .task))))) b
   -- carried out: the motion and the state are those of the command
   done : Ready image b x → ((q : Cause) → ReasonHere image b x q → ⊥)
-      → Way image b x (answerFor (carriedOut image (decoded b) x (taskAt (decoded b) (x .task)) .motion) Done)
-      (encoded (carriedOut image (decoded b) x (taskAt (decoded b) (x .task)) .state))
+      → Way image b x (answerFor (carriedOut (blocksOf image) (decoded b) x (taskAt (decoded b) (x .task)) .motion) Done)
+      (encoded (carriedOut (blocksOf image) (decoded b) x (taskAt (decoded b) (x .task)) .state))
   -- 19 or 20, at the task's point, with no motion
   halts : Ready image b x → (q : Cause) → ReasonHere image b x q
       → Way image b x (answerFor None (Halted q (pointOf (x .task) (taskAt (decoded b) (x .task))))) (encoded (haltedState (decoded b) x))

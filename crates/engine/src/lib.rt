@@ -1,6 +1,7 @@
 // One step of one task: the tests in document 01's order (15, 18, 17; 16 is the buffer's), then the command.
 use image::Header;
 use image::reader;
+use image::reader::HeaderRead;
 use machine::Answer;
 use machine::Effect;
 use machine::Moment;
@@ -23,7 +24,7 @@ ghost use Rattle.state.specs.State.{taskAt};
 ghost use Rattle.state.specs.Good.{Good};
 ghost use Rattle.machine.specs.Given.{inputsOf};
 ghost use Rattle.machine.specs.Deep.{Deep};
-ghost use Rattle.machine.specs.Engine.{refuse, isWait, isLoaded, blockFits, waitFits, fits, noted, answerTo, pointOf, performed, carriedOut, taskStep, step};
+ghost use Rattle.machine.specs.Engine.{refuse, isWait, isLoaded, blockFits, waitFits, fitsAs, noted, answerTo, pointOf, performed, carriedOut, taskStep, step};
 
 // A step that is refused: nothing changes, and no motion is asked for.
 fn refuse(state: State, answer: Answer) -> Out
@@ -84,20 +85,18 @@ fn noted(t: u8, start: u8, v: Values) -> Values
     v
 }
 
-// 17: whether the lent image is the loaded one, the block at the pointer passes 5 to 12 and 23 there, and a pending wait stands at a wait.
-fn fits(image: &[u8], header: Header, t: u8, k: Task) -> bool
-    ensures { λ r. ⌜ r ≡ fits (now (image .entry)) header t k ⌝ }
+// 17: whether the lent image, whose header and blocks these are, is the loaded one, the block at the pointer passes 5 to 12 and 23 there, and a pending
+// wait stands at a wait.
+fn fits(read: HeaderRead, blocks: &[u8], header: Header, t: u8, k: Task) -> bool
+    ensures { λ r. ⌜ r ≡ fitsAs read (now (blocks .entry)) header t k ⌝ }
 {
-    let loaded = is_loaded(image, header);
-    let blocks = reader::block_part(image);
-    loaded & (block_fits(header, blocks, t, k) & wait_fits(blocks, k))
+    is_loaded(read, header) & (block_fits(header, blocks, t, k) & wait_fits(blocks, k))
 }
 
-// Whether the lent image has this header.
-fn is_loaded(image: &[u8], header: Header) -> bool
-    ensures { λ r. ⌜ r ≡ isLoaded (now (image .entry)) header ⌝ }
+// Whether what was read of the lent image is this header.
+fn is_loaded(read: HeaderRead, header: Header) -> bool
+    ensures { λ r. ⌜ r ≡ isLoaded read header ⌝ }
 {
-    let read = reader::read(image);
     let outcome = read.outcome;
     outcome.is_done() & reader::same(read.header, header)
 }
@@ -148,14 +147,14 @@ fn performed(mut state: State, t: u8, start: u8, k: Task, e: Effect) -> Out
 }
 
 // The command at the task's block, carried out.
-fn carry_out(image: &[u8], s: State, t: u8, inputs: &[u8], start: u8, reached: u8, k: Task) -> Out
+fn carry_out(blocks: &[u8], s: State, t: u8, inputs: &[u8], start: u8, reached: u8, k: Task) -> Out
     requires { ⌜ k .block < mostBlocks ⌝ }
     requires { ⌜ k .depth ≤ mostDepth ⌝ }
     requires { ⌜ k .turns < 4294967295 ⌝ }
-    requires { ⌜ fits (now image) (s .header) t k ≡ true ⌝ }
-    ensures { λ r. ⌜ r ≡ carriedOut (now (image .entry)) s (inputsOf t (now (inputs .entry)) start reached) k ⌝ }
+    requires { ⌜ blockFits (s .header) (now blocks) t k ≡ true ⌝ }
+    ensures { λ r. ⌜ r ≡ carriedOut (now (blocks .entry)) s (inputsOf t (now (inputs .entry)) start reached) k ⌝ }
 {
-    let c = command_here(reader::block_part(image), k);
+    let c = command_here(blocks, k);
     let header = s.header;
     let drive = header.drive;
     let values = s.values;
@@ -181,10 +180,12 @@ fn task_step(image: &[u8], s: State, t: u8, inputs: &[u8], start: u8, reached: u
     if k.status != state::RUNNING {
         return refuse(s, Answer::NotRunning);
     }
-    if !fits(image, s.header, t, k) {
+    let read = reader::read(image);
+    let blocks = reader::part_of(image, read);
+    if !fits(read, blocks, s.header, t, k) {
         return refuse(s, Answer::Differs(point_of(t, k)));
     }
-    carry_out(image, s, t, inputs, start, reached, k)
+    carry_out(blocks, s, t, inputs, start, reached, k)
 }
 
 // One step of a task, on a good state: 15 first, the task number, then the length of the input levels.

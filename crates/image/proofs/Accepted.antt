@@ -45,11 +45,11 @@ module _ (n : ℕ) (source : Source) where
   Stood k = source k (place k) ≡ number.Number.Value (value k) (place (suc k))
 
   -- number k was accepted
-  record Took (k : ℕ) : Type 0 where
-    before : done (scan n source k .outcome) ≡ true
-    stood : Stood k
-    numbers : scan n source (suc k) .numbers ≡ set (scan n source k .numbers) k (value k)
-    row : checked k (headerFrom (scan n source (suc k) .numbers)) ≡ Passes
+  pub record Took (k : ℕ) : Type 0 where
+    pub before : done (scan n source k .outcome) ≡ true
+    pub stood : Stood k
+    pub numbers : scan n source (suc k) .numbers ≡ set (scan n source k .numbers) k (value k)
+    pub row : checked k (headerFrom (scan n source (suc k) .numbers)) ≡ Passes
 
   -- a row that let pass left the scan with the number noted
   kept : (k v next : ℕ) (c : Check) → checked k (headerFrom (set (scan n source k .numbers) k v)) ≡ c
@@ -81,7 +81,7 @@ module _ (n : ℕ) (source : Source) where
   took k h = took-by k (done (scan n source k .outcome)) refl (source k (place k)) refl h
 
   -- so was each before it
-  went : (k : ℕ) → done (scan n source k .outcome) ≡ true → (j : ℕ) → j < k → Took j
+  pub went : (k : ℕ) → done (scan n source k .outcome) ≡ true → (j : ℕ) → j < k → Took j
   went zero h j l = absurd (omega arith)
   went (suc k) h j l = let t = took k h in below-more Took k (went k (t .before)) t j (omega arith)
 

@@ -92,3 +92,25 @@ module _ (ns ms : List ℕ) where
   looks-back (suc (suc (suc (suc zero)))) s = refl
   looks-back (suc (suc (suc (suc (suc zero))))) s = rw (s 4 (omega arith), s 5 (omega arith))
   looks-back (suc (suc (suc (suc (suc (suc row)))))) s = refl
+
+-- ---- a row blames no number behind its own
+
+-- one test
+blames-one : (t : Bool) (c : Check) (j n : ℕ) → j ≤ n → ((k : ℕ) → c ≡ Fails k → k ≤ n) → (k : ℕ) → cond t c (Fails j) ≡ Fails k → k ≤ n
+blames-one true c j n l f k e = f k e
+blames-one false c j n l f k e = let q : j ≡ k = cc in omega arith
+
+no-blame : (n k : ℕ) → Passes ≡ Fails k → k ≤ n
+no-blame n k e = clash (ap passed e)
+
+module _ (h : Header) where
+  pub blames : (row k : ℕ) → checked row h ≡ Fails k → k ≤ row
+  unfolding checked
+  blames zero k e = blames-one (formatFits h) Passes 0 0 (omega arith) (no-blame 0) k e
+  blames (suc zero) k e = blames-one (typeFits h) Passes 1 1 (omega arith) (no-blame 1) k e
+  blames (suc (suc zero)) k e = blames-one (slotBFits h) Passes 2 2 (omega arith) (no-blame 2) k e
+  blames (suc (suc (suc zero))) k e = blames-one (slotCFits h) Passes 3 3 (omega arith) (no-blame 3) k e
+  blames (suc (suc (suc (suc zero)))) k e = no-blame 4 k e
+  blames (suc (suc (suc (suc (suc zero))))) k e =
+      blames-one (countFits h) (cond (startFits h) Passes (Fails 4)) 5 5 (omega arith) (blames-one (startFits h) Passes 4 5 (omega arith) (no-blame 5)) k e
+  blames (suc (suc (suc (suc (suc (suc row)))))) k e = no-blame _ k e

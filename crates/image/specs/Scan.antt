@@ -9,7 +9,7 @@ use Rattle.limits.specs.Limits.{blockLength}
 use Rattle.outcome.specs.Outcome.{done}
 use Rattle.outcome.specs.declared.Outcome.{Outcome}
 use Rattle.outcome.specs.declared.Outcome.the-variants.{Done, EndsEarly, NotShortest, OutOfRange, LeftOver}
-use Rattle.number.specs.Number.{numberAt}
+use Rattle.number.specs.Number.{numberBytes, numberAt}
 use Rattle.number.specs.declared.Number.{Number}
 use Rattle.number.specs.declared.Number as number
 use Rattle.image.specs.Numbers.{headerFrom}
@@ -34,20 +34,25 @@ noNumbers = replicate rowCount 0
 
 -- a scan of this outcome alone: all else is 0
 abbrev pub stopped : Outcome → Scan
-stopped o = record { outcome = o; numbers = noNumbers; places = noNumbers; at = 0 }
+stopped o = record { outcome = o; numbers = noNumbers; at = 0 }
 
 -- no number yet: nothing refused, all else 0
 abbrev pub begun : Scan
 begun = stopped Done
 
--- the number v beside those read so far, with its place
+-- the number v beside those read so far
 abbrev pub noted : ℕ → Scan → ℕ → ℕ → Scan
-noted row s v next = record { outcome = Done; numbers = set (s .numbers) row v; places = set (s .places) row (s .at); at = next }
+noted row s v next = record { outcome = Done; numbers = set (s .numbers) row v; at = next }
+
+-- where number k stands: behind the bytes of those before it
+unfoldable pub placeOf : List ℕ → ℕ → ℕ
+placeOf ns zero = 0
+placeOf ns (suc k) = placeOf ns k + length (numberBytes (getD ns k 0))
 
 -- refused by 3, at the first byte of the number that is out of range
 abbrev pub unlessFailed : Check → Scan → Scan
 unlessFailed Passes s = s
-unlessFailed (Fails k) s = stopped (OutOfRange (getD (s .places) k 0))
+unlessFailed (Fails k) s = stopped (OutOfRange (placeOf (s .numbers) k))
 
 -- number `row` is v and stands at the scan's place: judged by its row, beside the numbers read so far
 unfoldable pub judged : ℕ → Scan → ℕ → ℕ → Scan

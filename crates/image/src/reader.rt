@@ -8,11 +8,11 @@ ghost use mathlib.Core.Path.{_≡_};
 ghost use mathlib.Core.Bool.{cond};
 ghost use mathlib.Core.List.{[], _∷_};
 ghost use Prim.Native.Nat.{_<_, _≤_};
-ghost use lib.ListN.{length, getD};
+ghost use lib.ListN.{length};
 ghost use Rattle.image.specs.Numbers.{numbersOf, headerFrom, Narrow};
 ghost use Rattle.image.specs.Rows.{rowCount, check, test, countFits, startFits, checked, passed, accepts, sameHeader};
 ghost use Rattle.image.specs.declared.reader.Check.the-variants.{Passes, Fails};
-ghost use Rattle.image.specs.Scan.{begun, stopped, judged, taken, more, fromImage, scan, scannedHeader, mostHeaderBytes, firstRefusal, lengthOutcome, refusedRead, closed, headerOf, blocksOf};
+ghost use Rattle.image.specs.Scan.{begun, stopped, placeOf, judged, taken, more, fromImage, scan, scannedHeader, mostHeaderBytes, firstRefusal, lengthOutcome, refusedRead, closed, headerOf, blocksOf};
 
 // The numbers of a header, in the order in which they stand.
 pub const FORMAT: usize = 0;
@@ -41,11 +41,10 @@ pub struct HeaderRead {
     pub at: usize,
 }
 
-// The numbers so far, each with its place; the place of the next one. All is 0 but the outcome where a number was refused.
+// The numbers so far, and the place of the next one. All is 0 but the outcome where a number was refused.
 pub struct Scan {
     pub outcome: Outcome,
     pub numbers: [u32; ROWS],
-    pub places: [usize; ROWS],
     pub at: usize,
 }
 
@@ -68,6 +67,14 @@ pub fn block_part(image: &[u8]) -> &[u8]
     ensures { λ r. ⌜ now r ≡ blocksOf (now (image .entry)) ⌝ }
 {
     let h = read(image);
+    part_of(image, h)
+}
+
+// The same, where its header was read before.
+pub fn part_of(image: &[u8], h: HeaderRead) -> &[u8]
+    requires { ⌜ h ≡ headerOf (now image) ⌝ }
+    ensures { λ r. ⌜ now r ≡ blocksOf (now (image .entry)) ⌝ }
+{
     let outcome = h.outcome;
     if !outcome.is_done() {
         return &image[..0];
@@ -189,28 +196,29 @@ pub fn judge(row: usize, s: Scan, v: u32, next: usize) -> Scan
     ensures { λ r. ⌜ r ≡ judged row s v next ⌝ }
 {
     let mut numbers = s.numbers;
-    let mut places = s.places;
     numbers[row] = v;
-    places[row] = s.at;
     match check_row(row, numbers) {
         Check::Passes => Scan {
             outcome: Outcome::Done,
             numbers: numbers,
-            places: places,
             at: next,
         },
-        Check::Fails(k) => stop(Outcome::OutOfRange(place_of(places, k))),
+        Check::Fails(k) => stop(Outcome::OutOfRange(place_of(numbers, k))),
     }
 }
 
-// The place of a number.
-fn place_of(places: [usize; ROWS], k: usize) -> usize
-    ensures { λ r. ⌜ r ≡ getD places k 0 ⌝ }
+// Where a number stands: behind the bytes of those before it.
+fn place_of(n: [u32; ROWS], k: usize) -> usize
+    requires { ⌜ k < rowCount ⌝ }
+    ensures { λ r. ⌜ r ≡ placeOf n k ⌝ }
 {
-    if k < ROWS {
-        return places[k];
+    let mut at: usize = 0;
+    let mut j: usize = 0;
+    while j < k {
+        at += number::size(n[j]);
+        j += 1;
     }
-    0
+    at
 }
 
 // The tests of one number, once those up to it have been read.
@@ -333,11 +341,9 @@ fn stop(outcome: Outcome) -> Scan
     ensures { λ r. ⌜ r ≡ stopped outcome ⌝ }
 {
     let numbers = [0; ROWS];
-    let places = [0; ROWS];
     Scan {
         outcome: outcome,
         numbers: numbers,
-        places: places,
         at: 0,
     }
 }

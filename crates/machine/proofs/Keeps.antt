@@ -230,7 +230,7 @@ module _ (image : List ℕ) (bytes : Bytes image) (s : State) (g : Good s) (x : 
   block-fits : (eqb (blockNumber h bs (k .block)) 0 ≡ true) × (eqb (faultNumber (faultAt h bs p)) 0 ≡ true)
   unfolding fits
   block-fits =
-      let a = both (isLoaded image h) (blockFits h bs t k && waitFits bs k) pass in
+      let a = both (isLoaded (headerOf image) h) (blockFits h bs t k && waitFits bs k) pass in
       let b = both (blockFits h bs t k) (waitFits bs k) (a .1) in
       both (eqb (blockNumber h bs (k .block)) 0) (eqb (faultNumber (faultAt h bs p)) 0) (b .0)
 

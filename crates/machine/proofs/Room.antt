@@ -1,14 +1,13 @@
 -- Where 17 lets a command pass there is room for its call, and something for its return to go to. Assumes nothing.
 use Prim.Native.Nat.{ℕ, _≤_}
 use mathlib.Core.Path.{_≡_, sym, _∙_}
-use mathlib.Core.Bool.{true, _&&_}
+use mathlib.Core.Bool.{true}
 use mathlib.Core.List.{List}
 use native.Mathlib.Omega.{arith}
 use lib.Dec.{eqb}
 use borrow.Author.Tests.{eqb-true, eqb-false, leb-false}
 use Rattle.limits.specs.Limits.{mostDepth}
 use Rattle.number.proofs.Choice.{both}
-use Rattle.image.specs.Scan.{blocksOf}
 use Rattle.image.specs.declared.Header.{Header}
 use Rattle.operands.specs.declared.Command.{Command}
 use Rattle.flow.specs.Flow.{flowOf}
@@ -20,7 +19,7 @@ use Rattle.state.specs.declared.Values.{Values}
 use Rattle.machine.specs.Deep.{Deep}
 use Rattle.machine.specs.Given.{Given}
 use Rattle.machine.specs.Effect.{effectOf}
-use Rattle.machine.specs.Engine.{pointOf, isLoaded, blockFits, waitFits, fits}
+use Rattle.machine.specs.Engine.{pointOf, blockFits}
 use Rattle.machine.specs.Ways.{May}
 use Rattle.machine.specs.declared.Outcome.{Outcome}
 use Rattle.machine.specs.declared.Outcome.the-variants.{GoOn, Stay, Jump, Call, Return, Start, Restart, End, Halt}
@@ -29,19 +28,14 @@ use Rattle.machine.proofs.Outcomes.{call-deep, return-deep}
 use Rattle.machine.proofs.StepCase.{layout-some}
 use Rattle.machine.proofs.Keeps.{no-fault}
 
-module _ (image : List ℕ) (h : Header) (t : ℕ) (k : Task) (pass : fits image h t k ≡ true) where
-  abbrev bs : List ℕ
-  bs = blocksOf image
-
+module _ (bs : List ℕ) (h : Header) (t : ℕ) (k : Task) (pass : blockFits h bs t k ≡ true) where
   abbrev c : Command
   c = commandAt bs (k .block)
 
   passed : Passes h c (pointOf t k)
-  unfolding fits faultAt
+  unfolding faultAt
   passed =
-      let a = both (isLoaded image h) (blockFits h bs t k && waitFits bs k) pass in
-      let b = both (blockFits h bs t k) (waitFits bs k) (a .1) in
-      let d = both (eqb (blockNumber h bs (k .block)) 0) (eqb (faultNumber (faultAt h bs (pointOf t k))) 0) (b .0) in
+      let d = both (eqb (blockNumber h bs (k .block)) 0) (eqb (faultNumber (faultAt h bs (pointOf t k))) 0) pass in
       passes h c (pointOf t k) (no-fault (faultAt h bs (pointOf t k)) (eqb-true _ 0 (d .1)))
 
   room : k .depth ≤ mostDepth → (o : Outcome) → May (flowOf c) o → Deep (k .depth) o

@@ -10,6 +10,7 @@ use Rattle.outcome.specs.Outcome.{done}
 use Rattle.image.specs.Rows.{sameHeader}
 use Rattle.image.specs.Scan.{headerOf, blocksOf}
 use Rattle.image.specs.declared.Header.{Header}
+use Rattle.image.specs.declared.reader.HeaderRead.{HeaderRead}
 use Rattle.rows.specs.Rows.{hex}
 use Rattle.fault.specs.Fault.{faultNumber}
 use Rattle.point.specs.Fault.{point}
@@ -119,8 +120,8 @@ performed s x k e = record {
 }
 
 -- 17: the lent image is not the loaded one, or the block at the pointer breaks 5 to 12 or 23 at the present depth, or a wait is pending at no wait
-abbrev pub isLoaded : List ℕ → Header → Bool
-isLoaded image h = done (headerOf image .outcome) && sameHeader (headerOf image .header) h
+abbrev pub isLoaded : HeaderRead → Header → Bool
+isLoaded r h = done (r .outcome) && sameHeader (r .header) h
 
 abbrev pub blockFits : Header → List ℕ → ℕ → Task → Bool
 blockFits h bs t k = eqb (blockNumber h bs (k .block)) 0 && eqb (faultNumber (faultAt h bs (pointOf t k))) 0
@@ -131,19 +132,23 @@ isWait code = eqb code (hex 5 9) || eqb code (hex 5 10)
 abbrev pub waitFits : List ℕ → Task → Bool
 waitFits bs k = not (isSet (k .time)) || isWait (commandAt bs (k .block) .code)
 
+-- of an image whose header was read as r and whose blocks are bs
+abbrev pub fitsAs : HeaderRead → List ℕ → Header → ℕ → Task → Bool
+fitsAs r bs h t k = isLoaded r h && (blockFits h bs t k && waitFits bs k)
+
 unfoldable pub fits : List ℕ → Header → ℕ → Task → Bool
-fits image h t k = isLoaded image h && (blockFits h (blocksOf image) t k && waitFits (blocksOf image) k)
+fits image h t k = fitsAs (headerOf image) (blocksOf image) h t k
 
 -- the command at the task's block
 abbrev pub carriedOut : List ℕ → State → Inputs → Task → Out
-carriedOut image s x k = performed s x k (effectOf (given s k x) (commandAt (blocksOf image) (k .block)) (s .values))
+carriedOut bs s x k = performed s x k (effectOf (given s k x) (commandAt bs (k .block)) (s .values))
 
 -- 18, then 17, then the command
 unfoldable pub taskStep : List ℕ → State → Inputs → Task → Out
 taskStep image s x k =
     cond (eqb (k .status) runs)
     (cond (fits image (s .header) (x .task) k)
-    (carriedOut image s x k)
+    (carriedOut (blocksOf image) s x k)
     (refuse s (Differs (pointOf (x .task) k))))
     (refuse s NotRunning)
 

@@ -2,7 +2,8 @@
 // in 16 bits; its place keeps the width of the image's length.
 ghost use mathlib.Core.Path.{_≡_};
 ghost use Prim.Native.Nat.{_+_, _<_};
-ghost use Rattle.number.specs.Number.{numberAt};
+ghost use lib.ListN.{length};
+ghost use Rattle.number.specs.Number.{numberAt, numberBytes};
 
 // What stands at a place: a number with the place behind it; too few bytes; or bytes that are not the shortest form of a
 // number of two bytes (a second byte that is 0 or has its top bit set).
@@ -40,4 +41,14 @@ fn wide(x: u8) -> u16
     ensures { λ r. ⌜ (r ≡ x) × (r < 256) ⌝ }
 {
     x as u16
+}
+
+// How many bytes a number takes; one that has no form counts as two, which is where the writer places what would follow it.
+pub fn size(v: u32) -> usize
+    ensures { λ r. ⌜ r ≡ length (numberBytes v) ⌝ }
+{
+    if v < 128 {
+        return 1;
+    }
+    2
 }

@@ -54,8 +54,8 @@ documented =
 computed : lineOf (verdictFast caseB marksLength) ≡ documented
 unfolding lineOf decimalOf digitsOf
     types.takes
-    number.secondByte number.firstByte number.numberAt
-    header.checked header.firstSame header.sameHeader scan.judged
+    number.numberBytes number.secondByte number.firstByte number.numberAt
+    header.checked header.firstSame header.sameHeader scan.placeOf scan.judged
     scan.taken scan.more scan.scan scan.firstRefusal scan.lengthOutcome scan.readWith scan.closed scan.headerOf scan.blocksOf
     rows.rows rows.rowIn rows.rowOf
     operands.laidOut operands.operands operands.usedBytes operands.allZero operands.unusedZero

@@ -58,7 +58,7 @@ fn judge_row(s: Scan, row: usize, v: u32) -> Scan
     if !outcome.is_done() {
         return s;
     }
-    let next = s.at + size(v);
+    let next = s.at + number::size(v);
     reader::judge(row, s, v, next)
 }
 
@@ -130,16 +130,6 @@ fn put_numbers(numbers: [u32; ROWS], out: &mut [u8]) -> usize
         row += 1;
     }
     at
-}
-
-// How many bytes a number takes; one that has no form counts as two, which is where the writer places what would follow it.
-fn size(v: u32) -> usize
-    ensures { λ r. ⌜ r ≡ length (numberBytes v) ⌝ }
-{
-    if v < 128 {
-        return 1;
-    }
-    2
 }
 
 // Writes a number at a place, and gives the place behind it.

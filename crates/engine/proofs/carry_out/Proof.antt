@@ -1,9 +1,6 @@
 -- `carry_out` meets its contract. Assumes nothing.
 use mathlib.Core.Path.{sym, ap, subst, _∙_}
-use Prim.Native.Nat.{ℕ}
-use mathlib.Core.List.{List}
 use denote.Ref.{now}
-use Rattle.walk.specs.Program.{commandAt}
 use Rattle.machine.specs.Given.{inputsOf}
 use Rattle.machine.specs.Deep.{Deep}
 use Rattle.machine.specs.Engine.{performed}
@@ -21,17 +18,15 @@ carry-out-spec =
     (λ c κs. tt)
     (λ c κs. tt)
     (λ c κs. tt)
-    (λ c κs. tt)
-    (λ c κs. c .before .before .before .before .before .before .before .before .before .pre .1 .1 .0)
+    (λ c κs. c .before .before .before .before .before .before .before .before .pre .1 .1 .0)
     (λ c κs.
-    let st = c .before .before .before .before .before .before .before .before .before .before in
+    let st = c .before .before .before .before .before .before .before .before .before in
     let a = st .args in
-    let f = same-effect (a .s) (inputsOf (a .t) (now (a .inputs)) (a .start) (a .reached)) (a .k) _ _ _ _ (c .before .before .level .ensures) (c .before .level2 .ensures)
-    (c .before .before .before .before .before .before .command-here .ensures ∙ ap (λ (bs : List ℕ). commandAt bs (a .k .block)) (c .before .before .before .before .before .before .before .block-part .ensures)) in
-    (st .pre .0, subst (λ (e : Effect). Deep (a .k .depth) (e .outcome)) (sym (c .perform .ensures ∙ f)) (deep (now (a .image)) (a .s .header) (a .t) (a .k) (st .pre .1 .1 .1) (st .pre .1 .0) _ _)))
-    (λ c.
-    let a = c .before .before .before .before .before .before .before .before .before .before .before .args in
     let x = inputsOf (a .t) (now (a .inputs)) (a .start) (a .reached) in
-    let f = same-effect (a .s) (inputsOf (a .t) (now (a .inputs)) (a .start) (a .reached)) (a .k) _ _ _ _ (c .before .before .before .level .ensures) (c .before .before .level2 .ensures)
-    (c .before .before .before .before .before .before .before .command-here .ensures ∙ ap (λ (bs : List ℕ). commandAt bs (a .k .block)) (c .before .before .before .before .before .before .before .before .block-part .ensures)) in
+    let f = same-effect (a .s) x (a .k) _ _ _ _ (c .before .before .level .ensures) (c .before .level2 .ensures) (c .before .before .before .before .before .before .command-here .ensures) in
+    (st .pre .0, subst (λ (e : Effect). Deep (a .k .depth) (e .outcome)) (sym (c .perform .ensures ∙ f)) (deep (now (a .blocks)) (a .s .header) (a .t) (a .k) (st .pre .1 .1 .1) (st .pre .1 .0) _ _)))
+    (λ c.
+    let a = c .before .before .before .before .before .before .before .before .before .before .args in
+    let x = inputsOf (a .t) (now (a .inputs)) (a .start) (a .reached) in
+    let f = same-effect (a .s) x (a .k) _ _ _ _ (c .before .before .before .level .ensures) (c .before .before .level2 .ensures) (c .before .before .before .before .before .before .before .command-here .ensures) in
     c .performed .ensures ∙ ap (performed (a .s) x (a .k)) (c .before .perform .ensures ∙ f)))

@@ -1,62 +1,16 @@
--- `image::reader::block_part` meets its contract: the blocks of an image that is read begin within it, and are all that follows.
--- Assumes nothing.
+-- `image::reader::block_part` meets its contract: the header that it hands on is the image's. Assumes nothing.
 use borrow.Author.Needs.{needs}
-use mathlib.Core.Bool.{true, false}
-use denote.Ref.{now}
-use borrow.Author.Tests.{not-true, not-false}
-use Rattle.image.proofs.Read.{asked, no-blocks, inside, all-blocks}
 use Rattle.image.proofs.reader.block_part.Statement.{statement}
 use Rattle.image.proofs.reader.block_part.Tie as tie
 
 read-requires : tie.Need-read-requires
 read-requires c κs = search needs
 
-is-done-requires : tie.Need-is-done-requires
-is-done-requires c κs = search needs
-
-slice-aggregate-result : tie.Need-slice-aggregate-result
-slice-aggregate-result c = search needs
+part-of-requires : tie.Need-part-of-requires
+part-of-requires c κs = c .read .ensures
 
 returns : tie.Need-returns
-returns c =
-    let l = now (c .before .before .before .before .before .args .image) in
-    let r = c .before .before .before .read in
-    let d = c .before .before .is-done in
-    no-blocks l (r .result) (r .ensures) (asked l (r .result) (r .ensures) (d .result) false (d .ensures) (not-true (d .result) (c .before .if1 .taken)))
-
-sub-result : tie.Need-sub-result
-sub-result c =
-    let l = now (c .before .before .before .before .args .image) in
-    let r = c .before .before .read in
-    let d = c .before .is-done in
-    inside l (r .result) (r .ensures) (asked l (r .result) (r .ensures) (d .result) true (d .ensures) (not-false (d .result) (c .if1 .left)))
-
-part-result-start : tie.Need-part-result-start
-part-result-start c =
-    let l = now (c .before .before .before .before .args .image) in
-    let r = c .before .before .read in
-    let d = c .before .is-done in
-    inside l (r .result) (r .ensures) (asked l (r .result) (r .ensures) (d .result) true (d .ensures) (not-false (d .result) (c .if1 .left)))
-
-part-result-end : tie.Need-part-result-end
-part-result-end c = search needs
-
-returns-2 : tie.Need-returns-2
-returns-2 c =
-    let l = now (c .before .before .before .before .before .args .image) in
-    let r = c .before .before .before .read in
-    let d = c .before .before .is-done in
-    all-blocks l (r .result) (r .ensures) (asked l (r .result) (r .ensures) (d .result) true (d .ensures) (not-false (d .result) (c .before .if1 .left)))
+returns c = c .part-of .ensures
 
 pub block-part-spec : {M : Type 1} → statement M
-block-part-spec =
-    tie.close
-    (tie.spec
-    read-requires
-    is-done-requires
-    slice-aggregate-result
-    returns
-    sub-result
-    part-result-start
-    part-result-end
-    returns-2)
+block-part-spec = tie.close (tie.spec read-requires part-of-requires returns)

@@ -1,9 +1,11 @@
 -- `image::reader::judge` meets its contract, by what the row finds. Assumes nothing.
 use borrow.Author.Needs.{needs}
+use native.Mathlib.Omega.{arith}
 use mathlib.Core.Path.{_≡_, sym, ap, _∙_}
 use Rattle.outcome.specs.declared.Outcome.the-variants.{OutOfRange}
 use Rattle.image.specs.Scan.{stopped, unlessFailed, judged}
 use Rattle.image.specs.declared.reader.Check.{Check}
+use Rattle.image.proofs.Rows.{blames}
 use Rattle.image.proofs.reader.judge.Statement.{statement}
 use Rattle.image.proofs.reader.judge.Tie as tie
 
@@ -12,12 +14,6 @@ mul-numbers c = search needs
 
 array-write-numbers : tie.Need-array-write-numbers
 array-write-numbers c = search needs
-
-mul-places : tie.Need-mul-places
-mul-places c = search needs
-
-array-write-places : tie.Need-array-write-places
-array-write-places c = search needs
 
 check-row-requires : tie.Need-check-row-requires
 check-row-requires c κs = search needs
@@ -29,7 +25,10 @@ enum-known-k : tie.Need-enum-known-k
 enum-known-k c = search needs
 
 place-of-requires : tie.Need-place-of-requires
-place-of-requires c κs = search needs
+place-of-requires c κs =
+    let e = sym (c .before .before .before .check-row .ensures) ∙ c .before .k .given .1 in
+    let l = blames _ _ _ e in
+    omega arith
 
 stop-requires : tie.Need-stop-requires
 stop-requires c κs = search needs
@@ -50,8 +49,6 @@ judge-spec =
     (tie.spec
     mul-numbers
     array-write-numbers
-    mul-places
-    array-write-places
     check-row-requires
     enum-told
     enum-known-k

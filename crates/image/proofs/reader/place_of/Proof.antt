@@ -1,28 +1,74 @@
--- `image::reader::place_of` meets its contract: past the last number there is 0. Assumes nothing.
+-- `image::reader::place_of` meets its contract: after j turns the bytes of the first j numbers are counted, two at most for each. Assumes nothing.
 use borrow.Author.Needs.{needs}
-use mathlib.Core.Path.{sym}
+use mathlib.Core.Path.{_≡_, refl, ap, _∙_}
+use Prim.Native.Nat.{ℕ, _-_, _*_, _≤_}
 use native.Mathlib.Omega.{arith}
-use lib.ListN.{List·getD-eq-default}
+use lib.ListN.{getD}
+use native.Mathlib.Numerals.{add-one}
+use Rattle.number.proofs.Numbers.{size-most}
+use Rattle.image.specs.Scan.{placeOf}
 use Rattle.image.proofs.reader.place_of.Statement.{statement}
 use Rattle.image.proofs.reader.place_of.Tie as tie
 
-mul-result : tie.Need-mul-result
-mul-result c = search needs
+abbrev Inv-loop : tie.InvT-loop
+Inv-loop k n at₀ j₀ at j = (j ≤ k) × ((at ≡ placeOf n j) × (at ≤ 2 * j))
 
-array-read-result : tie.Need-array-read-result
-array-read-result c = search needs
+abbrev μ-loop : tie.MeasureT-loop
+μ-loop k n at₀ j₀ at j = k - j
 
-returns : tie.Need-returns
-returns c = search needs
+loop-holds : tie.Need-loop-holds Inv-loop μ-loop
+unfolding placeOf
+loop-holds c = (omega arith, (refl, omega arith))
 
-returns-2 : tie.Need-returns-2
-returns-2 c = let a = c .before .args in sym (List·getD-eq-default (a .t1) 0 {n = a .k} (omega arith))
+mul-size : tie.Need-mul-size Inv-loop μ-loop
+mul-size c = let l = c .before .before .pre in omega arith
+
+array-read-size : tie.Need-array-read-size Inv-loop μ-loop
+array-read-size c = let l = c .before .before .pre in omega arith
+
+size-requires : tie.Need-size-requires Inv-loop μ-loop
+size-requires c κs = search needs
+
+add-at : tie.Need-add-at Inv-loop μ-loop
+add-at c =
+    let i = c .before .before .loop .inv in
+    let p = c .before .before .before .pre in
+    omega (arith, size-most (getD (c .before .before .before .args .t1) (c .before .before .loop .j) 0), c .size .ensures, i .1 .1)
+
+add-j : tie.Need-add-j Inv-loop μ-loop
+add-j c = let p = c .before .before .before .pre in omega arith
+
+loop-less : tie.Need-loop-less Inv-loop μ-loop
+loop-less c = search needs
+
+loop-again : tie.Need-loop-again Inv-loop μ-loop
+unfolding placeOf
+loop-again c =
+    let l = c .before .before .loop in
+    let e = l .inv .1 .0 in
+    let s = c .size .ensures in
+    let m = size-most (getD (c .before .before .before .args .t1) (l .j) 0) in
+    (search needs, (rw (add-one (l .j)) (omega arith), omega arith))
+
+returns : tie.Need-returns Inv-loop μ-loop
+returns c =
+    let l = c .before .loop in
+    let a = c .before .before .args in
+    let e : l .j ≡ a .k = omega arith in
+    l .inv .1 .0 ∙ ap (placeOf (a .t1)) e
 
 pub place-of-spec : {M : Type 1} → statement M
 place-of-spec =
     tie.close
     (tie.spec
-    mul-result
-    array-read-result
-    returns
-    returns-2)
+    Inv-loop
+    μ-loop
+    loop-holds
+    mul-size
+    array-read-size
+    size-requires
+    add-at
+    add-j
+    loop-less
+    loop-again
+    returns)

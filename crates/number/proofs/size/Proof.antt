@@ -1,8 +1,8 @@
--- `writer::size` meets its contract, by the two forms of a number.
+-- `number::size` meets its contract, by the two forms of a number.
 -- Assumes nothing.
 use Rattle.number.proofs.Numbers.{one, two}
-use Rattle.writer.proofs.size.Statement.{statement}
-use Rattle.writer.proofs.size.Tie as tie
+use Rattle.number.proofs.size.Statement.{statement}
+use Rattle.number.proofs.size.Tie as tie
 
 returns : tie.Need-returns
 returns c = rw (one (c .before .args .v) (c .if1 .taken))
