@@ -21,4 +21,5 @@ limits-are = record {
   marks = refl;
   state = refl;
   inputs = refl;
+  image = refl;
 }

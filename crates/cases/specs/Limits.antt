@@ -1,6 +1,7 @@
 -- The limits by the papers' own numbers, which stand here, in the reference machine and in the table of cases. Assumes nothing.
 use mathlib.Core.Path.{_≡_}
 use Rattle.limits.specs.Limits as limits
+use Rattle.image.specs.Longest.{longestImage}
 
 pub record LimitsAre : Type 0 where
   -- document 01, "Walks": 0 BIAS, 1 PLC, 2 mathematics; 15 above 2
@@ -27,3 +28,5 @@ pub record LimitsAre : Type 0 where
   pub marks : limits.marksLength ≡ 27000
   pub state : limits.stateLength ≡ 2048
   pub inputs : limits.inputsLength ≡ 256
+  -- include/bias.h, BIAS_MOST_IMAGE_LENGTH: header of 4 + 2 + 2 bytes, 1500 blocks
+  pub image : longestImage ≡ 12008

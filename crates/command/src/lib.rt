@@ -2,6 +2,7 @@
 // the drive, ranges.rt judges the operands.
 use drive::Presence;
 use image::Header;
+use limits::BLOCK_LENGTH;
 use operands::Command;
 use rows::Row;
 ghost use mathlib.Core.Path.{_≡_};
@@ -42,7 +43,7 @@ impl BlockFault {
 }
 
 // A block of an image with this header.
-pub fn judge(header: Header, block: [u8; 8]) -> BlockFault
+pub fn judge(header: Header, block: [u8; BLOCK_LENGTH]) -> BlockFault
     ensures { λ r. ⌜ r ≡ blockFault header block ⌝ }
 {
     let row = rows::find(block[0]);
@@ -53,7 +54,7 @@ pub fn judge(header: Header, block: [u8; 8]) -> BlockFault
 }
 
 // A block whose code has this row, with its operands c: what the drive must have, then the operands.
-fn judge_command(row: Row, header: Header, block: [u8; 8], c: Command) -> BlockFault
+fn judge_command(row: Row, header: Header, block: [u8; BLOCK_LENGTH], c: Command) -> BlockFault
     ensures { λ r. ⌜ r ≡ commandFault row header block c ⌝ }
 {
     match devices::presence(row.device, header.drive, c.x, c.y) {
@@ -64,7 +65,7 @@ fn judge_command(row: Row, header: Header, block: [u8; 8], c: Command) -> BlockF
 }
 
 // The operands of a block of an image of `count` blocks: their ranges, then the bytes that the command does not use.
-fn judge_operands(row: Row, count: u16, block: [u8; 8], c: Command) -> BlockFault
+fn judge_operands(row: Row, count: u16, block: [u8; BLOCK_LENGTH], c: Command) -> BlockFault
     ensures { λ r. ⌜ r ≡ operandFault row count block c ⌝ }
 {
     if !ranges::in_range(row.ranges, count, c) {

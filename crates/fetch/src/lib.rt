@@ -4,6 +4,7 @@ use command::BlockFault;
 use fault::Fault;
 use image::Header;
 use image::reader;
+use limits::BLOCK_LENGTH;
 use operands::Command;
 use point::Point;
 ghost use mathlib.Core.Path.{_≡_};
@@ -25,7 +26,7 @@ pub fn command_at(blocks: &[u8], b: u16) -> Command
 }
 
 // The eight bytes of a block.
-pub fn block_at(blocks: &[u8], b: u16) -> [u8; 8]
+pub fn block_at(blocks: &[u8], b: u16) -> [u8; BLOCK_LENGTH]
     ensures { λ r. ⌜ r ≡ blockAt (now (blocks .entry)) b ⌝ }
 {
     let at = limits::BLOCK_LENGTH * (b as usize);

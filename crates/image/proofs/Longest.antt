@@ -23,10 +23,6 @@ use Rattle.image.specs.Longest.{greatest, sizeUpTo, longestFirst, longes
 use Rattle.image.proofs.Accepted.{place, Accepted, accepted-header}
 use Rattle.image.proofs.Read.{read-fine}
 
--- the figure of include/bias.h
-pub longest-is : longestImage ≡ 12008
-longest-is = refl
-
 -- a number takes no more bytes than one that is as great or greater may
 abbrev pub Sized : ℕ → Number → Type 0
 Sized at (number.Number.Value v next) = (most : ℕ) → v ≤ most → next ≤ at + sizeUpTo most

@@ -96,7 +96,7 @@ abbrev pub Ranged : ℕ → Command → Type 0
 Ranged count c = inRange (rowOf (c .code) .ranges) count c ≡ true
 
 pub record Fit (count : ℕ) (c : Command) : Type 0 where
-  pub word : c .word ≤ 65535
+  pub word : c .word ≤ mostTime
   pub value : SFits w32 (c .value)
   pub ranges : Ranged count c
 

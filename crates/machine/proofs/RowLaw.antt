@@ -52,7 +52,7 @@ ends c g v =
     either (hex 5 1) c g v (eqb (c .x) 0) Restart End (λ e. simply (hex 5 1) c g v Restart refl (rw e May.restart)) (λ e. simply (hex 5 1) c g v End refl (rw e May.end))
 
 -- 59 and 5A: the longest times
-twice : (word : ℕ) → word ≤ 65535 → 2 * word ≤ longest
+twice : (word : ℕ) → word ≤ mostTime → 2 * word ≤ longest
 twice word l = omega arith
 
 short : (model : ℕ) (z : ℤ) → within 0 mostTime z ≡ true → timeOf model (natural z) ≤ longest

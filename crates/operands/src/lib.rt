@@ -1,5 +1,6 @@
 // The operands of a block, where its code's layout has them. Nothing is judged but that unused bytes are 0.
 use image::reader;
+use limits::BLOCK_LENGTH;
 ghost use mathlib.Core.Path.{_≡_};
 ghost use Rattle.operands.specs.Operands.{laidOut, operands, usedBytes, unusedZero};
 ghost use Rattle.operands.specs.Operands.{byteOf, wordOf, pairOf, tripleOf, tripleWordOf, byteWordOf, valueOf, byteValueOf, pairValueOf, valueJumpOf, bareOf};
@@ -15,7 +16,7 @@ pub struct Command {
 }
 
 // The command of a block, without judging it. A code that is not carried has no operands.
-pub fn read(block: [u8; 8]) -> Command
+pub fn read(block: [u8; BLOCK_LENGTH]) -> Command
     ensures { λ r. ⌜ r ≡ operands block ⌝ }
 {
     let row = rows::find(block[0]);
@@ -23,7 +24,7 @@ pub fn read(block: [u8; 8]) -> Command
 }
 
 // The command of a block whose code has this layout.
-pub fn lay_out(layout: u8, block: [u8; 8]) -> Command
+pub fn lay_out(layout: u8, block: [u8; BLOCK_LENGTH]) -> Command
     ensures { λ r. ⌜ r ≡ laidOut layout block ⌝ }
 {
     match layout {
@@ -42,7 +43,7 @@ pub fn lay_out(layout: u8, block: [u8; 8]) -> Command
     }
 }
 
-fn bare(block: [u8; 8]) -> Command
+fn bare(block: [u8; BLOCK_LENGTH]) -> Command
     ensures { λ r. ⌜ r ≡ bareOf block ⌝ }
 {
     Command {
@@ -55,7 +56,7 @@ fn bare(block: [u8; 8]) -> Command
     }
 }
 
-fn byte(block: [u8; 8]) -> Command
+fn byte(block: [u8; BLOCK_LENGTH]) -> Command
     ensures { λ r. ⌜ r ≡ byteOf block ⌝ }
 {
     Command {
@@ -68,7 +69,7 @@ fn byte(block: [u8; 8]) -> Command
     }
 }
 
-fn word(block: [u8; 8]) -> Command
+fn word(block: [u8; BLOCK_LENGTH]) -> Command
     ensures { λ r. ⌜ r ≡ wordOf block ⌝ }
 {
     let word = le::read_u16([block[1], block[2]]);
@@ -82,7 +83,7 @@ fn word(block: [u8; 8]) -> Command
     }
 }
 
-fn pair(block: [u8; 8]) -> Command
+fn pair(block: [u8; BLOCK_LENGTH]) -> Command
     ensures { λ r. ⌜ r ≡ pairOf block ⌝ }
 {
     Command {
@@ -95,7 +96,7 @@ fn pair(block: [u8; 8]) -> Command
     }
 }
 
-fn triple(block: [u8; 8]) -> Command
+fn triple(block: [u8; BLOCK_LENGTH]) -> Command
     ensures { λ r. ⌜ r ≡ tripleOf block ⌝ }
 {
     Command {
@@ -108,7 +109,7 @@ fn triple(block: [u8; 8]) -> Command
     }
 }
 
-fn triple_word(block: [u8; 8]) -> Command
+fn triple_word(block: [u8; BLOCK_LENGTH]) -> Command
     ensures { λ r. ⌜ r ≡ tripleWordOf block ⌝ }
 {
     let word = le::read_u16([block[4], block[5]]);
@@ -122,7 +123,7 @@ fn triple_word(block: [u8; 8]) -> Command
     }
 }
 
-fn byte_word(block: [u8; 8]) -> Command
+fn byte_word(block: [u8; BLOCK_LENGTH]) -> Command
     ensures { λ r. ⌜ r ≡ byteWordOf block ⌝ }
 {
     let word = le::read_u16([block[2], block[3]]);
@@ -136,7 +137,7 @@ fn byte_word(block: [u8; 8]) -> Command
     }
 }
 
-fn value(block: [u8; 8]) -> Command
+fn value(block: [u8; BLOCK_LENGTH]) -> Command
     ensures { λ r. ⌜ r ≡ valueOf block ⌝ }
 {
     let value = le::read_i32([block[1], block[2], block[3], block[4]]);
@@ -150,7 +151,7 @@ fn value(block: [u8; 8]) -> Command
     }
 }
 
-fn byte_value(block: [u8; 8]) -> Command
+fn byte_value(block: [u8; BLOCK_LENGTH]) -> Command
     ensures { λ r. ⌜ r ≡ byteValueOf block ⌝ }
 {
     let value = le::read_i32([block[2], block[3], block[4], block[5]]);
@@ -164,7 +165,7 @@ fn byte_value(block: [u8; 8]) -> Command
     }
 }
 
-fn pair_value(block: [u8; 8]) -> Command
+fn pair_value(block: [u8; BLOCK_LENGTH]) -> Command
     ensures { λ r. ⌜ r ≡ pairValueOf block ⌝ }
 {
     let value = le::read_i32([block[3], block[4], block[5], block[6]]);
@@ -179,7 +180,7 @@ fn pair_value(block: [u8; 8]) -> Command
 }
 
 // 81: the condition and the upper four bits of the address share D6.
-fn value_jump(block: [u8; 8]) -> Command
+fn value_jump(block: [u8; BLOCK_LENGTH]) -> Command
     ensures { λ r. ⌜ r ≡ valueJumpOf block ⌝ }
 {
     let value = le::read_i32([block[2], block[3], block[4], block[5]]);
@@ -195,11 +196,11 @@ fn value_jump(block: [u8; 8]) -> Command
 }
 
 // Whether the bytes that this layout does not use are 0.
-pub fn unused_zero(layout: u8, block: [u8; 8]) -> bool
+pub fn unused_zero(layout: u8, block: [u8; BLOCK_LENGTH]) -> bool
     ensures { λ r. ⌜ r ≡ unusedZero layout block ⌝ }
 {
     let mut k = 1 + used_bytes(layout);
-    while k < limits::BLOCK_LENGTH {
+    while k < BLOCK_LENGTH {
         if block[k] != 0 {
             return false;
         }

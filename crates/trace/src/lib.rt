@@ -4,6 +4,7 @@ use border::BiasAnswer;
 use border::BiasVerdict;
 use image::reader;
 use libc::STDOUT_FILENO;
+use limits::BLOCK_LENGTH;
 use limits::STATE_LENGTH;
 use limits::TASK_COUNT;
 use limits::CELLS;
@@ -75,7 +76,7 @@ fn task_at(t: u8) -> u16
 }
 
 // A block's number and bytes; gives the bytes.
-fn show_block(image: &[u8], block: u16) -> [u8; 8]
+fn show_block(image: &[u8], block: u16) -> [u8; BLOCK_LENGTH]
     ensures { λ s. ⌜ s ≡ blockAt (blocksOf (now (image .entry))) block ⌝ }
 {
     let bytes = fetch::block_at(reader::block_part(image), block);

@@ -1,4 +1,4 @@
--- `reading::decode` meets its contract, stretch by stretch. Assumes nothing.
+-- `reading::decode` meets its contract, section by section. Assumes nothing.
 use Prim.Native.Nat.{ℕ}
 use mathlib.Core.Path.{ap, _∙_}
 use mathlib.Core.List.{List, [], _∷_}
