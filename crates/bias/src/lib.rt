@@ -3,12 +3,12 @@
 use border::BiasAnswer;
 use border::BiasVerdict;
 use image::reader;
-use machine::Answer;
-use machine::Motion;
+use limits::INPUTS_LENGTH;
+use limits::MARKS_LENGTH;
 use limits::STATE_LENGTH;
 use limits::TASK_COUNT;
-use limits::MARKS_LENGTH;
-use limits::INPUTS_LENGTH;
+use machine::Answer;
+use machine::Motion;
 use state::State;
 use walk::Verdict;
 ghost use mathlib.Core.Path.{_≡_};

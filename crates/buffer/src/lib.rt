@@ -2,9 +2,9 @@
 use drive::Drive;
 use image::Header;
 use image::reader;
-use limits::STATE_LENGTH;
 use limits::CELLS;
 use limits::STACK_LENGTH;
+use limits::STATE_LENGTH;
 use state::State;
 use state::Task;
 use state::Values;

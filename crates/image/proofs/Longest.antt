@@ -12,6 +12,7 @@ use Rattle.limits.specs.Limits.{mostBlocks, blockLength}
 use Rattle.drive.specs.Types.{slotB, slotC}
 use Rattle.drive.proofs.Laws.{board-small}
 use Rattle.outcome.specs.Outcome.{done}
+use Rattle.number.proofs.Choice as choice
 use Rattle.number.specs.Number.{numberLimit, secondByte, firstByte, numberAt}
 use Rattle.number.specs.declared.Number.{Number}
 use Rattle.number.specs.declared.Number as number
@@ -31,11 +32,7 @@ Sized at number.Number.NotShortest = Unit {0}
 
 -- one byte is never too many, and two are not from 128 on
 pub one-byte : (at most : ℕ) → at + 1 ≤ at + sizeUpTo most
-one-byte at most = go (ltb most 128)
-  where
-    go : (t : Bool) → at + 1 ≤ at + cond t 1 2
-    go true = omega arith
-    go false = omega arith
+one-byte at most = choice.either (λ (n : ℕ). at + 1 ≤ at + n) (ltb most 128) (omega arith) (omega arith)
 
 pub two-bytes : (at v most : ℕ) → 128 ≤ v → v ≤ most → at + 2 ≤ at + sizeUpTo most
 two-bytes at v most l h = let e = le-ltb most 128 (omega arith) in rw e (omega arith)

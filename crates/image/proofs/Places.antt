@@ -19,7 +19,10 @@ use Rattle.image.proofs.Accepted.{place, value, went, number-is}
 same-place : (ns ms : List ℕ) (k : ℕ) → ((j : ℕ) → j < k → getD ns j 0 ≡ getD ms j 0) → placeOf ns k ≡ placeOf ms k
 unfolding placeOf
 same-place ns ms zero e = refl
-same-place ns ms (suc k) e = rw (same-place ns ms k (λ j l. e j (omega arith)), e k (omega arith)) refl
+same-place ns ms (suc k) e =
+    let a = same-place ns ms k (λ j l. e j (omega arith)) in
+    let b = ap (λ (v : ℕ). length (numberBytes v)) (e k (omega arith)) in
+    omega arith
 
 -- a source whose numbers are in their shortest form
 abbrev pub Shortest : Source → Type 0

@@ -9,6 +9,7 @@ ghost use mathlib.Core.Bool.{cond};
 ghost use mathlib.Core.List.{[], _∷_};
 ghost use Prim.Native.Nat.{_<_, _≤_};
 ghost use lib.ListN.{length};
+ghost use Rattle.limits.specs.Limits.{mostBlocks, upTo};
 ghost use Rattle.image.specs.Numbers.{numbersOf, headerFrom, Narrow};
 ghost use Rattle.image.specs.Rows.{rowCount, check, test, countFits, startFits, checked, passed, accepts, sameHeader};
 ghost use Rattle.image.specs.declared.reader.Check.the-variants.{Passes, Fails};
@@ -242,13 +243,16 @@ fn check_row(row: usize, n: [u32; ROWS]) -> Check
 fn check_count(n: [u32; ROWS]) -> Check
     ensures { λ r. ⌜ r ≡ check (test 5 countFits ∷ test 4 startFits ∷ []) (headerFrom n) ⌝ }
 {
-    if n[COUNT] == 0 {
-        return Check::Fails(COUNT);
-    }
-    if n[COUNT] > MOST_BLOCKS {
+    if !count_in_range(n[COUNT]) {
         return Check::Fails(COUNT);
     }
     fails_unless(START, n[START] < n[COUNT])
+}
+
+fn count_in_range(v: u32) -> bool
+    ensures { λ r. ⌜ r ≡ upTo mostBlocks v ⌝ }
+{
+    (0 < v) & (v <= MOST_BLOCKS)
 }
 
 fn fails_unless(number: usize, holds: bool) -> Check

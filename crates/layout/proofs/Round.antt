@@ -104,8 +104,9 @@ module _ (s : State) (g : Good s) where
 
   layout-is : layoutIs (encoded s) ≡ true
   layout-is =
-      eq-eqb (numberAt 1 (encoded s) layoutAt) layoutNumber
-      (ap (λ (ns : List ℕ). getD ns 0 0) (record-back layoutWidths (layoutNumber ∷ []) (encoded s) layoutAt (omega arith, refl) (section-at 3 (omega arith))))
+      let e : numberAt 1 (encoded s) layoutAt ≡ layoutNumber =
+      ap (λ (ns : List ℕ). getD ns 0 0) (record-back layoutWidths (layoutNumber ∷ []) (encoded s) layoutAt (omega arith, refl) (section-at 3 (omega arith))) in
+      rw e
 
   unused-zero : unusedZero (encoded s) unusedLength ≡ true
   unused-zero = zeros-pass (encoded s) unusedLength zeros

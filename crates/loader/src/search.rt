@@ -3,9 +3,9 @@
 // become pending.
 use image::Header;
 use image::reader;
+use limits::MARKS_LENGTH;
 use point::Point;
 use program::Following;
-use limits::MARKS_LENGTH;
 use walk::Verdict;
 ghost use mathlib.Core.Path.{_≡_};
 ghost use Prim.Native.Nat.{_<_, _≤_};

@@ -2,8 +2,8 @@
 // held to the file stdout, which comes from other readings of the papers and not from this code; docs/EXAMPLES.md says which, and names the examples.
 use libc::STDIN_FILENO;
 use libc::STDOUT_FILENO;
-use limits::STATE_LENGTH;
 use limits::CELLS;
+use limits::STATE_LENGTH;
 ghost use mathlib.Core.Path.{_≡_};
 ghost use Prim.Native.Nat.{_+_, _/_, _≤_};
 ghost use lib.ListN.{length, set};

@@ -1,11 +1,11 @@
 // A buffer read as a state, section by section.
 use drive::Drive;
 use image::Header;
+use limits::CELLS;
+use limits::STACK_LENGTH;
 use limits::STATE_LENGTH;
 use state::Axis;
-use limits::CELLS;
 use state::Notes;
-use limits::STACK_LENGTH;
 use state::State;
 use state::Task;
 use state::Values;

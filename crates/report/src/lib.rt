@@ -15,9 +15,11 @@ ghost use Rattle.report.specs.Line.{lineOf, lineRoom, Holds};
 
 // The most bytes that a header's six numbers take, of which start and count alone may take two, and one byte more than the longest image has: of a longer
 // input no other byte counts (proofs/Beginning.antt).
-pub const HEADER_BYTES: usize = reader::ROWS as usize + 2;
+pub const HEADER_BYTES: usize = reader::ROWS + 2;
 
-pub const INPUT_LENGTH: usize = HEADER_BYTES + limits::BLOCK_LENGTH * limits::MOST_BLOCKS as usize + 1;
+pub const BLOCK_BYTES: usize = limits::BLOCK_LENGTH * limits::MOST_BLOCKS as usize;
+
+pub const INPUT_LENGTH: usize = HEADER_BYTES + BLOCK_BYTES + 1;
 
 // Room for an image, each byte 0: all that is needed of an input.
 pub fn input() -> [u8; INPUT_LENGTH]

@@ -7,4 +7,3 @@ use Rattle.drive.specs.Types.{cycleOf}
 -- a wait of T ms is over after k turns: k cycles are at least T, in microseconds
 abbrev pub due : ℕ → ℕ → ℕ → Bool
 due model time turns = leb (1000 * time) (turns * cycleOf model)
-

@@ -5,9 +5,9 @@ use border::BiasVerdict;
 use image::reader;
 use libc::STDOUT_FILENO;
 use limits::BLOCK_LENGTH;
+use limits::CELLS;
 use limits::STATE_LENGTH;
 use limits::TASK_COUNT;
-use limits::CELLS;
 ghost use mathlib.Core.Path.{_≡_};
 ghost use mathlib.Core.Bool.{_&&_};
 ghost use Prim.Native.Nat.{_+_, _*_, _<_, _≤_};
@@ -23,7 +23,13 @@ ghost use Rattle.layout.specs.Layout.{taskPlace};
 ghost use Rattle.trace.specs.Changes.{same, sameCells, sameAxis, sameStarts, unchanged, valueAt};
 
 // The line of a step; a is the state buffer before it, b the one behind it. Gives whether nothing changed.
-pub fn show_step(image: &[u8], a: &[u8; STATE_LENGTH], b: &[u8; STATE_LENGTH], task: u32, r: BiasAnswer) -> bool
+pub fn show_step(
+    image: &[u8],
+    a: &[u8; STATE_LENGTH],
+    b: &[u8; STATE_LENGTH],
+    task: u32,
+    r: BiasAnswer,
+) -> bool
     ensures { λ s. ⌜ s ≡ unchanged (now (a .entry)) (now (b .entry)) ⌝ }
 {
     print::show(b"task ", task as u64);
@@ -171,7 +177,14 @@ fn show_axis(a: &[u8; STATE_LENGTH], b: &[u8; STATE_LENGTH], nothing: bool) -> b
     let position = show_part(a, b, layout::MOTION_AT, 4, b"position", nothing);
     let speed = show_part(a, b, layout::MOTION_AT + 4, 2, b"speed", position);
     let acceleration = show_part(a, b, layout::MOTION_AT + 6, 2, b"acceleration", speed);
-    let deceleration = show_part(a, b, layout::MOTION_AT + 8, 2, b"deceleration", acceleration);
+    let deceleration = show_part(
+        a,
+        b,
+        layout::MOTION_AT + 8,
+        2,
+        b"deceleration",
+        acceleration,
+    );
     let mark = show_part(a, b, layout::MOTION_AT + 10, 1, b"mark", deceleration);
     show_part(a, b, layout::NOTES_AT, 1, b"level", mark)
 }

@@ -71,7 +71,10 @@ fn fit(s: Scan, blocks: usize, room: usize) -> Written
     let judged = s.outcome;
     let numbers = s.numbers;
     let at = s.at;
-    let outcome = reader::first_refusal(judged, judge_room(at, numbers[reader::COUNT], blocks, room));
+    let outcome = reader::first_refusal(
+        judged,
+        judge_room(at, numbers[reader::COUNT], blocks, room),
+    );
     if !outcome.is_done() {
         return not_written(outcome);
     }
