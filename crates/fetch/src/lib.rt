@@ -3,7 +3,6 @@
 use command::BlockFault;
 use fault::Fault;
 use image::Header;
-use image::reader;
 use limits::BLOCK_LENGTH;
 use operands::Command;
 use point::Point;

@@ -4,7 +4,7 @@ use mathlib.Core.Bool.{Bool, true, false}
 use mathlib.Core.List.{List}
 use Prim.Native.Nat.{ℕ, zero, suc, _<_, _≤_}
 use native.Mathlib.Omega.{arith}
-use lib.ListN.{length, getD, set, length-set, length-replicate}
+use lib.ListN.{length, getD, set, length-set}
 use lib.Seq.{getD-set-same, getD-set-other}
 use lib.Dec.{eqb}
 use borrow.Author.Count.{below-more}
@@ -18,12 +18,11 @@ use Rattle.drive.proofs.Laws.{board-small}
 use Rattle.image.specs.Numbers.{headerFrom, Narrow}
 use Rattle.image.specs.Good.{Good}
 use Rattle.image.specs.Rows.{rowCount, checked, passed, accepts}
-use Rattle.image.specs.Scan.{Source, noNumbers, noted, unlessFailed, judged, taken, scan, scannedHeader}
-use Rattle.image.specs.declared.Header.{Header}
+use Rattle.image.specs.Scan.{Source, noted, unlessFailed, judged, taken, scan, scannedHeader}
 use Rattle.image.specs.declared.reader.Check.{Check}
 use Rattle.image.specs.declared.reader.Check.the-variants.{Passes, Fails}
 use Rattle.image.specs.declared.reader.Scan.{Scan}
-use Rattle.image.proofs.Rows.{is-passed, all-rows, accepted-good, looks-back}
+use Rattle.image.proofs.Rows.{all-rows, accepted-good, looks-back}
 use Rattle.image.proofs.Scanning.{stays, takes, refused-empty}
 
 abbrev valueOf : Number → ℕ

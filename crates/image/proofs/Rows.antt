@@ -1,15 +1,15 @@
 -- A header that load accepts is one whose numbers are each in its range, and a row looks at no number behind its own. Assumes nothing.
 use Prim.Native.Nat.{ℕ, zero, suc, _<_, _≤_}
 use native.Mathlib.Omega.{arith}
-use mathlib.Core.Path.{_≡_, refl, sym, ap, _∙_}
-use mathlib.Core.Bool.{Bool, true, false, _&&_, cond}
+use mathlib.Core.Path.{_≡_, refl, sym, ap}
+use mathlib.Core.Bool.{Bool, true, false, cond}
 use mathlib.Core.List.{List, [], _∷_}
 use lib.ListN.{getD}
-use lib.Dec.{eqb, ltb, leb}
+use lib.Dec.{ltb, leb}
 use borrow.Author.Count.{below-more}
 use borrow.Author.Tests.{eqb-true, ltb-true, leb-true, eq-eqb, lt-ltb, le-leb}
 use Rattle.limits.specs.Limits.{mostBlocks}
-use Rattle.drive.specs.Types.{types, takesB, takesC}
+use Rattle.drive.specs.Types.{types}
 use Rattle.number.proofs.Choice.{both, clash}
 use Rattle.image.specs.Numbers.{headerFrom}
 use Rattle.image.specs.Good.{Good}

@@ -1,6 +1,6 @@
 -- One number more of a header: what a scan does with it, and how far a scan can come. Assumes nothing.
-use mathlib.Core.Path.{_≡_, refl, sym, ap, _∙_}
-use mathlib.Core.Bool.{Bool, true, false}
+use mathlib.Core.Path.{_≡_, refl, sym, _∙_}
+use mathlib.Core.Bool.{true, false}
 use mathlib.Core.List.{List}
 use native.Mathlib.Omega.{arith}
 use lib.ListN.{length, getD}
@@ -8,14 +8,13 @@ use lib.Dec.{eqb, ltb}
 use Prim.Native.Nat.{ℕ, zero, suc, _+_, _*_, _≤_}
 use native.Mathlib.Numerals.{add-one}
 use Rattle.outcome.specs.Outcome.{done}
-use Rattle.outcome.specs.declared.Outcome.{Outcome}
 use Rattle.number.specs.Number.{numberAt, firstByte, secondByte}
 use Rattle.number.specs.declared.Number.{Number}
 use Rattle.number.specs.declared.Number as number
 use Rattle.number.proofs.Choice.{either, clash}
 use Rattle.image.specs.Numbers.{headerFrom}
 use Rattle.image.specs.Rows.{checked}
-use Rattle.image.specs.Scan.{Source, fromImage, noNumbers, stopped, noted, unlessFailed, judged, taken, more, scan}
+use Rattle.image.specs.Scan.{Source, fromImage, noNumbers, noted, unlessFailed, judged, taken, more, scan}
 use Rattle.image.specs.declared.reader.Check.{Check}
 use Rattle.image.specs.declared.reader.Check.the-variants.{Passes, Fails}
 use Rattle.image.specs.declared.reader.Scan.{Scan}

@@ -13,7 +13,7 @@ ghost use Rattle.limits.specs.Limits.{mostBlocks, upTo};
 ghost use Rattle.image.specs.Numbers.{numbersOf, headerFrom, Narrow};
 ghost use Rattle.image.specs.Rows.{rowCount, check, test, countFits, startFits, checked, passed, accepts, sameHeader};
 ghost use Rattle.image.specs.declared.reader.Check.the-variants.{Passes, Fails};
-ghost use Rattle.image.specs.Scan.{begun, stopped, placeOf, judged, taken, more, fromImage, scan, scannedHeader, mostHeaderBytes, firstRefusal, lengthOutcome, refusedRead, closed, headerOf, blocksOf};
+ghost use Rattle.image.specs.Scan.{begun, stopped, placeOf, judged, taken, more, fromImage, scan, mostHeaderBytes, firstRefusal, lengthOutcome, refusedRead, closed, headerOf, blocksOf};
 
 // The numbers of a header, in the order in which they stand.
 pub const FORMAT: usize = 0;

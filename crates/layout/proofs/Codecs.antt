@@ -24,7 +24,7 @@ use Rattle.places.proofs.Runs.{length-runs}
 use Rattle.places.proofs.Has.{Has, number, signed, each, run, number-below, of-number, of-signed}
 use Rattle.places.proofs.Tables.{table-is, length-table, getD-table}
 use Rattle.sections.specs.Records.{recordBytes, recordIn}
-use Rattle.sections.proofs.Sections.{lens, length-joined, section, moved, Parts, end, part, together, at-first}
+use Rattle.sections.proofs.Sections.{lens, length-joined, section, moved, end, part, together, at-first}
 use Rattle.sections.proofs.Records.{FitWidths, record-back, record-has}
 use Rattle.state.specs.Good.{GoodAxis}
 use Rattle.state.specs.State.{taskAt}

@@ -25,7 +25,7 @@ use Rattle.sections.proofs.Records.{record-back, record-has}
 use Rattle.state.specs.Good.{Good}
 use Rattle.state.specs.State.{noTask, taskAt}
 use Rattle.state.specs.declared.State.{State}
-use Rattle.layout.specs.Codecs.{layoutNumber, layoutWidths, layoutBytes, headerWidths, notesWidths, startWidths, variablesIn, levelsIn, headerIn, startsIn, stackIn, taskPart}
+use Rattle.layout.specs.Codecs.{layoutNumber, layoutWidths, layoutBytes, headerWidths, notesWidths, startWidths, variablesIn, headerIn, startsIn, stackIn, taskPart}
 use Rattle.layout.specs.Layout.{lengths, sections, variablesAt, flagsAt, outputsAt, layoutAt, headerAt, motionAt, notesAt, startsAt, taskPlace, unusedAt, unusedLength}
 use Rattle.layout.specs.Layout.{encoded, decoded}
 use Rattle.layout.specs.Test.{stateIs, layoutIs, unusedZero, frameIs, isState}

@@ -17,7 +17,6 @@ use Rattle.state.specs.State.{taskAt}
 use Rattle.state.specs.declared.Task.{Task}
 use Rattle.state.specs.declared.Axis.{Axis}
 use Rattle.state.specs.declared.Notes.{Notes}
-use Rattle.state.specs.declared.Values.{Values}
 use Rattle.state.specs.declared.State.{State}
 
 -- ---- the variables, four bytes each
@@ -39,8 +38,8 @@ levelsLength = cells
 unfoldable pub levelsIn : List ℕ → ℕ → List ℕ
 levelsIn s at = table cells (λ (k : ℕ). getD s (at + k) 0)
 
--- ---- the layout number: raised by each release that moves a byte, so that a state saved by another is none (16). 1 and 2 had none: release 1, whose
--- call stacks had eight entries, and the one behind it; both had the header here, whose first byte is 1.
+-- ---- the layout number: each release that moves a byte raises it, and 16 refuses another, so that a state saved by another release is none. The two
+-- layouts before the third had no number: they had the header here, whose first byte is the format, 1.
 
 abbrev pub layoutNumber : ℕ
 layoutNumber = 3

@@ -2,7 +2,6 @@
 // is pending, 2 for one that is done. The cursor goes up over the marks, over dirty pages only, and back to the least point that has newly
 // become pending.
 use image::Header;
-use image::reader;
 use limits::MARKS_LENGTH;
 use point::Point;
 use program::Following;

@@ -119,7 +119,9 @@ performed s x k e = record {
   answer = answerTo (e .outcome) (pointOf (x .task) k);
 }
 
--- 17: the lent image is not the loaded one, or the block at the pointer breaks 5 to 12 or 23 at the present depth, or a wait is pending at no wait
+-- ---- 17: the lent image is not the loaded one, or the block at the pointer breaks 5 to 12 or 23 at the present depth, or a wait is pending at no wait
+
+-- what was read of the lent image is the loaded header
 abbrev pub isLoaded : HeaderRead → Header → Bool
 isLoaded r h = done (r .outcome) && sameHeader (r .header) h
 

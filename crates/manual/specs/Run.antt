@@ -1,7 +1,7 @@
 -- What the program does with a line: an image, a space, and records, each of steps or of a byte to put. Assumes nothing.
 use Prim.Native.Nat.{ℕ, zero, suc, _+_, _*_, _/_, min}
 use mathlib.Core.Bool.{cond}
-use mathlib.Core.List.{List, [], _∷_}
+use mathlib.Core.List.{List}
 use lib.Dec.{eqb}
 use lib.ListN.{length, getD, set, replicate, take, drop}
 use Rattle.limits.specs.Limits.{cells, marksLength, stateLength}

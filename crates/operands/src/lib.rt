@@ -1,5 +1,4 @@
 // The operands of a block, where its code's layout has them. Nothing is judged but that unused bytes are 0.
-use image::reader;
 use limits::BLOCK_LENGTH;
 ghost use mathlib.Core.Path.{_≡_};
 ghost use Rattle.operands.specs.Operands.{laidOut, operands, usedBytes, unusedZero};

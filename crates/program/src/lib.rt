@@ -1,7 +1,6 @@
 // The blocks of an image as a graph of points: the points that follow a point, by their numbers in the marks. Blocks are any bytes.
 use flow::Flow;
 use image::Header;
-use image::reader;
 use point::Point;
 ghost use mathlib.Core.Path.{_≡_};
 ghost use mathlib.Core.Bool.{cond};

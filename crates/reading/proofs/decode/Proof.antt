@@ -1,11 +1,5 @@
 -- `reading::decode` meets its contract, section by section. Assumes nothing.
-use Prim.Native.Nat.{ℕ}
-use mathlib.Core.Path.{ap, _∙_}
-use mathlib.Core.List.{List, [], _∷_}
-use denote.Ref.{now}
-use Rattle.image.specs.declared.Header.{Header}
-use Rattle.layout.specs.Codecs.{taskIn}
-use Rattle.layout.specs.Layout.{taskPlace, decoded}
+use Rattle.layout.specs.Layout.{decoded}
 use borrow.Author.Needs.{needs}
 use Rattle.reading.proofs.decode.Statement.{statement}
 use Rattle.reading.proofs.decode.Tie as tie

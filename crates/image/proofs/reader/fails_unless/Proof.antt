@@ -1,6 +1,4 @@
 -- `image::reader::fails_unless` meets its contract, by its test. Assumes nothing.
-use borrow.Author.Needs.{needs}
-use mathlib.Core.Path.{_≡_}
 use Rattle.image.proofs.reader.fails_unless.Statement.{statement}
 use Rattle.image.proofs.reader.fails_unless.Tie as tie
 

@@ -1,10 +1,9 @@
 -- `image::reader::judge` meets its contract, by what the row finds. Assumes nothing.
 use borrow.Author.Needs.{needs}
 use native.Mathlib.Omega.{arith}
-use mathlib.Core.Path.{_≡_, sym, ap, _∙_}
+use mathlib.Core.Path.{sym, ap, _∙_}
 use Rattle.outcome.specs.declared.Outcome.the-variants.{OutOfRange}
-use Rattle.image.specs.Scan.{stopped, unlessFailed, judged}
-use Rattle.image.specs.declared.reader.Check.{Check}
+use Rattle.image.specs.Scan.{stopped, judged}
 use Rattle.image.proofs.Rows.{blames}
 use Rattle.image.proofs.reader.judge.Statement.{statement}
 use Rattle.image.proofs.reader.judge.Tie as tie
