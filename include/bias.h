@@ -22,10 +22,9 @@
  *   - Nobody but the library writes a state buffer. 16 refuses what is no state; it is no checksum either. A copy of the
  *     buffer, byte for byte, is the same state.
  *   - A state buffer has the layout of the release that loaded it. Its byte at 1536 is the layout number, which is
- *     raised by each release that moves a byte (a rule for releases, not proved). A state with another number, one
- *     saved by another release, is refused by 16: load anew, which begins the program from its start. So is a state
- *     of a release that had no such number yet: it has 1 there. A program that an earlier release loaded may be
- *     refused.
+ *     raised by each release that moves a byte or gives one another meaning (a rule for releases, not proved). A state
+ *     with another number is refused by 16: load anew, which begins the program from its start. So is a state of a
+ *     release that had no such number yet: it has 1 there. A program that an earlier release loaded may be refused.
  *
  * WHAT YOU LEND
  *   image   the program's bytes; only read. One of more than 12,008 bytes is always refused
@@ -133,8 +132,8 @@ enum {
     BIAS_ROOM_SHORT = 14,             /* bias_write: no room for the image: the length needed */
     BIAS_BAD_INPUTS = 15,             /* bias_step: no such task: its number; or not 256 inputs: their length */
     BIAS_NO_STATE = 16,               /* the state has another length than 2,048, or, in bias_step, is no state or has
-                                         another layout number than BIAS_STATE_LAYOUT (one saved by another release:
-                                         load anew): none */
+                                         another layout number than BIAS_STATE_LAYOUT (a release with another layout
+                                         saved it: load anew): none */
     /* steps */
     BIAS_OTHER_IMAGE = 17,            /* header or length not the loaded image's, or the current block breaks 5 to 12 or
                                          23, or a wait is pending there and it is no wait: block, task, depth */

@@ -129,5 +129,5 @@ fn wait_is(drive: Drive, time: u32, turns: u32) -> bool
     ensures { λ r. ⌜ r ≡ waitIs (drive .model) time turns ⌝ }
 {
     ((time == 0) & (turns == 0))
-        | ((0 < time) & ((time <= limits::LONGEST) & !state::is_due(drive, time, turns)))
+        | ((0 < time) & ((time <= limits::LONGEST_WAIT) & !state::is_due(drive, time, turns)))
 }

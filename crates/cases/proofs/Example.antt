@@ -50,7 +50,7 @@ computed : Computed
 unfolding
     types.takes types.cycleOf
     number.numberBytes number.secondByte number.firstByte number.numberAt
-    header.checked header.firstSame header.sameHeader scan.placeOf scan.judged
+    header.checked header.firstSame header.sameHeader scan.standsAt scan.judged
     scan.taken scan.more scan.scan scan.firstRefusal scan.lengthOutcome scan.readWith scan.closed scan.headerOf scan.blocksOf
     rows.rows rows.rowIn rows.rowOf
     operands.laidOut operands.operands operands.usedBytes operands.allZero operands.unusedZero

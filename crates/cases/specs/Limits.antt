@@ -14,16 +14,16 @@ pub record LimitsAre : Type 0 where
   pub block : limits.blockLength ≡ 8
   -- change request 6: 5 in place of document 01's 8
   pub depth : limits.mostDepth ≡ 5
-  -- document 01, "Running": 256 variables, flags and outputs; levels 0 and 1
+  -- document 01, "Running": 256 variables, flags and outputs; 000, the pages of 60 and 72: levels 0 and 1
   pub cells : limits.cells ≡ 256
   pub level : limits.mostLevel ≡ 1
-  -- 000, the pages of 86, 21, 22 and 23
+  -- 000, the page of 86; document 01, "The commands carried", and 000, the pages of 21 to 23: speed and ramps
   pub run : limits.mostRun ≡ 32
   pub speed : limits.mostSpeed ≡ 12000
   pub ramp : limits.mostRamp ≡ 64000
   -- 000, the pages of 59 and 5A: twice the word, in ms
   pub time : limits.mostTime ≡ 65535
-  pub wait : limits.longest ≡ 131070
+  pub wait : limits.longestWait ≡ 131070
   -- 13, by change request 6: three tasks, 1500 blocks, depths 0 to 5; document 01, "Running": the stretch, the input levels
   pub marks : limits.marksLength ≡ 27000
   pub state : limits.stateLength ≡ 2048

@@ -18,6 +18,7 @@ pub const MOST_BIT: u8 = 31;
 // Conditions of 81 and 89.
 pub const MOST_CONDITION: u8 = 7;
 
+// How many flags there are.
 const FLAGS: u16 = limits::CELLS as u16;
 
 // Whether the operands of a command are in range, in an image of this many blocks.

@@ -2,6 +2,7 @@
 use Prim.Native.Nat.{ℕ}
 use mathlib.Core.Path.{_≡_, refl}
 use mathlib.Core.Bool.{false}
+use Rattle.limits.specs.Limits.{taskCount}
 use Rattle.operands.proofs.Tables.{NoneFrom, by-default}
 use Rattle.rows.specs.Rows.{rowOf}
 use Rattle.flow.specs.Flow.{flows, flowBy}
@@ -12,6 +13,6 @@ pub no-flow : (n x word : ℕ) → NoneFrom 1 10 n → flowBy n x word ≡ End
 unfolding flowBy
 no-flow n x word h = by-default End 1 (flows x word) refl n h
 
-pub no-box : (code task : ℕ) → NoneFrom 0 3 task → permitted code task ≡ false
+pub no-box : (code task : ℕ) → NoneFrom 0 taskCount task → permitted code task ≡ false
 unfolding permitted
 no-box code task h = by-default false 0 (boxes (rowOf code .tasks)) refl task h

@@ -18,7 +18,7 @@ use Rattle.drive.proofs.Laws.{board-small}
 use Rattle.image.specs.Numbers.{headerFrom, Narrow}
 use Rattle.image.specs.Good.{Good}
 use Rattle.image.specs.Rows.{rowCount, checked, passed, accepts}
-use Rattle.image.specs.Scan.{Source, noted, unlessFailed, judged, taken, scan, scannedHeader}
+use Rattle.image.specs.Scan.{Source, withNumber, unlessFailed, judged, taken, scan, scannedHeader}
 use Rattle.image.specs.declared.reader.Check.{Check}
 use Rattle.image.specs.declared.reader.Check.the-variants.{Passes, Fails}
 use Rattle.image.specs.declared.reader.Scan.{Scan}
@@ -50,10 +50,10 @@ module _ (n : ℕ) (source : Source) where
     pub numbers : scan n source (suc k) .numbers ≡ set (scan n source k .numbers) k (value k)
     pub row : checked k (headerFrom (scan n source (suc k) .numbers)) ≡ Passes
 
-  -- a row that let pass left the scan with the number noted
+  -- a row that let pass left the scan with the number withNumber
   kept : (k v next : ℕ) (c : Check) → checked k (headerFrom (set (scan n source k .numbers) k v)) ≡ c
-      → scan n source (suc k) ≡ unlessFailed c (noted k (scan n source k) v next) → done (scan n source (suc k) .outcome) ≡ true
-      → (c ≡ Passes) × (scan n source (suc k) ≡ noted k (scan n source k) v next)
+      → scan n source (suc k) ≡ unlessFailed c (withNumber k (scan n source k) v next) → done (scan n source (suc k) .outcome) ≡ true
+      → (c ≡ Passes) × (scan n source (suc k) ≡ withNumber k (scan n source k) v next)
   kept k v next Passes q e h = (refl, e)
   kept k v next (Fails j) q e h = clash (sym h ∙ ap (λ (s : Scan). done (s .outcome)) e)
 

@@ -12,12 +12,12 @@ use Rattle.number.specs.Number.{numberBytes}
 use Rattle.number.specs.declared.Number as number
 use Rattle.number.proofs.NumberLaws.{number-only}
 use Rattle.image.specs.Rows.{rowCount}
-use Rattle.image.specs.Scan.{Source, fromImage, placeOf, scan}
+use Rattle.image.specs.Scan.{Source, fromImage, standsAt, scan}
 use Rattle.image.proofs.Accepted.{place, value, went, number-is}
 
 -- a number's place hangs on the numbers before it alone
-same-place : (ns ms : List ℕ) (k : ℕ) → ((j : ℕ) → j < k → getD ns j 0 ≡ getD ms j 0) → placeOf ns k ≡ placeOf ms k
-unfolding placeOf
+same-place : (ns ms : List ℕ) (k : ℕ) → ((j : ℕ) → j < k → getD ns j 0 ≡ getD ms j 0) → standsAt ns k ≡ standsAt ms k
+unfolding standsAt
 same-place ns ms zero e = refl
 same-place ns ms (suc k) e =
     let a = same-place ns ms k (λ j l. e j (omega arith)) in
@@ -32,8 +32,8 @@ pub image-shortest : (image : List ℕ) → ((k : ℕ) → getD image k 0 < 256)
 image-shortest image bytes row at v next e = number-only image at v next (bytes at) e .next
 
 module _ (n : ℕ) (source : Source) (shortest : Shortest source) (row : ℕ) (l : row < rowCount) (ok : done (scan n source row .outcome) ≡ true) where
-  stands-at : (k : ℕ) → k ≤ row → placeOf (scan n source row .numbers) k ≡ place n source k
-  unfolding placeOf scan
+  stands-at : (k : ℕ) → k ≤ row → standsAt (scan n source row .numbers) k ≡ place n source k
+  unfolding standsAt scan
   stands-at zero u = refl
   stands-at (suc k) u =
       let t = went n source row ok k (omega arith) in
@@ -43,7 +43,7 @@ module _ (n : ℕ) (source : Source) (shortest : Shortest source) (row : ℕ) (l
       rw v (omega arith)
 
   -- once number `row` has been read, whatever it is, the place of number k is where k stands
-  pub blamed-at : (v k : ℕ) → k ≤ row → placeOf (set (scan n source row .numbers) row v) k ≡ place n source k
+  pub blamed-at : (v k : ℕ) → k ≤ row → standsAt (set (scan n source row .numbers) row v) k ≡ place n source k
   blamed-at v k u =
       same-place (set (scan n source row .numbers) row v) (scan n source row .numbers) k
       (λ j h. getD-set-other (scan n source row .numbers) row j v 0 (λ q. absurd (omega arith)))

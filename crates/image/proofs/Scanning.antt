@@ -14,7 +14,7 @@ use Rattle.number.specs.declared.Number as number
 use Rattle.number.proofs.Choice.{either, clash}
 use Rattle.image.specs.Numbers.{headerFrom}
 use Rattle.image.specs.Rows.{checked}
-use Rattle.image.specs.Scan.{Source, fromImage, noNumbers, noted, unlessFailed, judged, taken, more, scan}
+use Rattle.image.specs.Scan.{Source, fromImage, noNumbers, withNumber, unlessFailed, judged, taken, more, scan}
 use Rattle.image.specs.declared.reader.Check.{Check}
 use Rattle.image.specs.declared.reader.Check.the-variants.{Passes, Fails}
 use Rattle.image.specs.declared.reader.Scan.{Scan}
@@ -50,7 +50,7 @@ unless-near (Fails k) s m h = omega arith
 
 taken-near : (n row : ℕ) (s : Scan) (x : Number) (m : ℕ) → Near (s .at) x → s .at + 2 ≤ m → taken n row s x .at ≤ m
 unfolding taken judged
-taken-near n row s (number.Number.Value v next) m h k = unless-near (checked row (headerFrom (noted row s v next .numbers))) (noted row s v next) m (omega arith)
+taken-near n row s (number.Number.Value v next) m h k = unless-near (checked row (headerFrom (withNumber row s v next .numbers))) (withNumber row s v next) m (omega arith)
 taken-near n row s number.Number.EndsEarly m h k = omega arith
 taken-near n row s number.Number.NotShortest m h k = omega arith
 
@@ -86,7 +86,7 @@ unless-empty (Fails k) s d e = refl
 
 taken-empty : (n row : ℕ) (s : Scan) (x : Number) → Empty (taken n row s x)
 unfolding taken judged
-taken-empty n row s (number.Number.Value v next) = unless-empty (checked row (headerFrom (noted row s v next .numbers))) (noted row s v next) refl
+taken-empty n row s (number.Number.Value v next) = unless-empty (checked row (headerFrom (withNumber row s v next .numbers))) (withNumber row s v next) refl
 taken-empty n row s number.Number.EndsEarly = λ e. refl
 taken-empty n row s number.Number.NotShortest = λ e. refl
 

@@ -43,6 +43,7 @@ pub record Test : Type 0 where
   pub number : ℕ
   pub fits : Header → Bool
 
+-- number k is out of range unless f holds
 abbrev pub test : ℕ → (Header → Bool) → Test
 test k f = record { number = k; fits = f }
 
@@ -66,11 +67,13 @@ abbrev pub check : List Test → Header → Check
 check [] h = Passes
 check (t ∷ ts) h = cond (t .fits h) (check ts h) (Fails (t .number))
 
+-- what the row of a number finds
 unfoldable pub checked : ℕ → Header → Check
 checked row h = check (getD rows row []) h
 
 -- ---- a header that load accepts: each row lets it pass
 
+-- nothing is wrong
 abbrev pub passed : Check → Bool
 passed Passes = true
 passed (Fails k) = false

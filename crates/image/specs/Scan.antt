@@ -41,22 +41,22 @@ abbrev pub begun : Scan
 begun = stopped Done
 
 -- the number v beside those read so far
-abbrev pub noted : ℕ → Scan → ℕ → ℕ → Scan
-noted row s v next = record { outcome = Done; numbers = set (s .numbers) row v; at = next }
+abbrev pub withNumber : ℕ → Scan → ℕ → ℕ → Scan
+withNumber row s v next = record { outcome = Done; numbers = set (s .numbers) row v; at = next }
 
 -- where number k stands: behind the bytes of those before it
-unfoldable pub placeOf : List ℕ → ℕ → ℕ
-placeOf ns zero = 0
-placeOf ns (suc k) = placeOf ns k + length (numberBytes (getD ns k 0))
+unfoldable pub standsAt : List ℕ → ℕ → ℕ
+standsAt ns zero = 0
+standsAt ns (suc k) = standsAt ns k + length (numberBytes (getD ns k 0))
 
 -- refused by 3, at the first byte of the number that is out of range
 abbrev pub unlessFailed : Check → Scan → Scan
 unlessFailed Passes s = s
-unlessFailed (Fails k) s = stopped (OutOfRange (placeOf (s .numbers) k))
+unlessFailed (Fails k) s = stopped (OutOfRange (standsAt (s .numbers) k))
 
 -- number `row` is v and stands at the scan's place: judged by its row, beside the numbers read so far
 unfoldable pub judged : ℕ → Scan → ℕ → ℕ → Scan
-judged row s v next = unlessFailed (checked row (headerFrom (set (s .numbers) row v))) (noted row s v next)
+judged row s v next = unlessFailed (checked row (headerFrom (set (s .numbers) row v))) (withNumber row s v next)
 
 -- what stands at the next place of an image of n bytes, taken as number `row`
 unfoldable pub taken : ℕ → ℕ → Scan → Number → Scan

@@ -6,14 +6,13 @@ use number::Number;
 use outcome::Outcome;
 ghost use mathlib.Core.Path.{_≡_};
 ghost use mathlib.Core.Bool.{cond};
-ghost use mathlib.Core.List.{[], _∷_};
 ghost use Prim.Native.Nat.{_<_, _≤_};
 ghost use lib.ListN.{length};
 ghost use Rattle.limits.specs.Limits.{mostBlocks, upTo};
 ghost use Rattle.image.specs.Numbers.{numbersOf, headerFrom, Narrow};
-ghost use Rattle.image.specs.Rows.{rowCount, check, test, countFits, startFits, checked, passed, accepts, sameHeader};
+ghost use Rattle.image.specs.Rows.{rowCount, checked, passed, accepts, sameHeader};
 ghost use Rattle.image.specs.declared.reader.Check.the-variants.{Passes, Fails};
-ghost use Rattle.image.specs.Scan.{begun, stopped, placeOf, judged, taken, more, fromImage, scan, mostHeaderBytes, firstRefusal, lengthOutcome, refusedRead, closed, headerOf, blocksOf};
+ghost use Rattle.image.specs.Scan.{begun, stopped, standsAt, judged, taken, more, fromImage, scan, mostHeaderBytes, firstRefusal, lengthOutcome, refusedRead, closed, headerOf, blocksOf};
 
 // The numbers of a header, in the order in which they stand.
 pub const FORMAT: usize = 0;
@@ -33,6 +32,7 @@ pub const ROWS: usize = 6;
 // The one format.
 pub const FORMAT_1: u32 = 1;
 
+// As a header has it.
 const MOST_BLOCKS: u32 = limits::MOST_BLOCKS as u32;
 
 // A header as read: the outcome; the header, all 0 when refused; the place of the blocks, 0 when refused.
@@ -211,7 +211,7 @@ pub fn judge(row: usize, s: Scan, v: u32, next: usize) -> Scan
 // Where a number stands: behind the bytes of those before it.
 fn place_of(n: [u32; ROWS], k: usize) -> usize
     requires { ⌜ k < rowCount ⌝ }
-    ensures { λ r. ⌜ r ≡ placeOf n k ⌝ }
+    ensures { λ r. ⌜ r ≡ standsAt n k ⌝ }
 {
     let mut at: usize = 0;
     let mut j: usize = 0;
@@ -241,20 +241,27 @@ fn check_row(row: usize, n: [u32; ROWS]) -> Check
 
 // The count, then the start, which must be below it.
 fn check_count(n: [u32; ROWS]) -> Check
-    ensures { λ r. ⌜ r ≡ check (test 5 countFits ∷ test 4 startFits ∷ []) (headerFrom n) ⌝ }
+    ensures { λ r. ⌜ r ≡ checked 5 (headerFrom n) ⌝ }
 {
-    if !count_in_range(n[COUNT]) {
+    let count_fits = count_in_range(n[COUNT]);
+    let start_fits = n[START] < n[COUNT];
+    if !count_fits {
         return Check::Fails(COUNT);
     }
-    fails_unless(START, n[START] < n[COUNT])
+    if !start_fits {
+        return Check::Fails(START);
+    }
+    Check::Passes
 }
 
+// A block count: 1 to the most.
 fn count_in_range(v: u32) -> bool
     ensures { λ r. ⌜ r ≡ upTo mostBlocks v ⌝ }
 {
     (0 < v) & (v <= MOST_BLOCKS)
 }
 
+// What a row with one test finds.
 fn fails_unless(number: usize, holds: bool) -> Check
     ensures { λ r. ⌜ r ≡ cond holds Passes (Fails number) ⌝ }
 {
@@ -264,6 +271,7 @@ fn fails_unless(number: usize, holds: bool) -> Check
     Check::Fails(number)
 }
 
+// Whether a row lets pass.
 fn passed(c: Check) -> bool
     ensures { λ r. ⌜ r ≡ passed c ⌝ }
 {

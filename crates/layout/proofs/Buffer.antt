@@ -10,7 +10,7 @@ use Rattle.sections.proofs.Sections.{lens, length-filled, Chain, written}
 use Rattle.sections.proofs.Records.{record-long}
 use Rattle.state.specs.State.{taskAt}
 use Rattle.state.specs.declared.State.{State}
-use Rattle.layout.specs.Codecs.{layoutNumber, layoutWidths, headerWidths, motionWidths, motionNumbers, notesWidths, startWidths}
+use Rattle.layout.specs.Codecs.{layoutNumber, layoutWidths, headerWidths, motionWidths, motionRecord, notesWidths, startWidths}
 use Rattle.layout.specs.Layout.{lengths, sections, encoded}
 use Rattle.layout.proofs.Codecs.{variables-long, task-long}
 
@@ -22,7 +22,7 @@ module _ (s : State) (flags : length (s .values .flags) ≡ cells) (outputs : le
       let variables = variables-long (v .variables) in
       let layout = record-long layoutWidths (layoutNumber ∷ []) refl in
       let header = record-long headerWidths (numbersOf (s .header)) refl in
-      let motion = record-long motionWidths (motionNumbers (v .axis) (v .mark)) refl in
+      let motion = record-long motionWidths (motionRecord (v .axis) (v .mark)) refl in
       let notes = record-long notesWidths (v .notes .level ∷ []) refl in
       let starts = record-long startWidths (taskAt s plc .start ∷ taskAt s mathematics .start ∷ []) refl in
       let t0 = task-long (taskAt s bias) in

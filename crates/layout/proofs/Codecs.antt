@@ -33,7 +33,7 @@ use Rattle.state.specs.declared.Task.{Task}
 use Rattle.state.specs.declared.Axis.{Axis}
 use Rattle.state.specs.declared.Notes.{Notes}
 use Rattle.layout.specs.Codecs.{variablesLength, variableBytes, variablesIn, levelsLength, levelsIn, headerWidths, headerBytes, headerIn}
-use Rattle.layout.specs.Codecs.{motionWidths, motionNumbers, motionBytes, axisFrom, axisIn, markIn, notesWidths, notesBytes, notesIn, startWidths, startBytes, startsIn}
+use Rattle.layout.specs.Codecs.{motionWidths, motionRecord, motionBytes, axisFrom, axisIn, markIn, notesWidths, notesBytes, notesIn, startWidths, startBytes, startsIn}
 use Rattle.layout.specs.Codecs.{stackBytes, stackIn, taskLengths, taskLength, taskPart, taskParts, taskBytes, taskIn}
 use Rattle.layout.proofs.Bounds.{TaskFits}
 
@@ -91,13 +91,13 @@ header-back l at h g x = ap headerFrom (record-back headerWidths (numbersOf h) l
 -- ---- motion
 
 module _ (l : List ℕ) (at : ℕ) (a : Axis) (mark : ℕ) (g : GoodAxis a) (m : mark ≤ mostLevel) (x : Has l at (motionBytes a mark)) where
-  motion-back : recordIn motionWidths l at ≡ motionNumbers a mark
+  motion-back : recordIn motionWidths l at ≡ motionRecord a mark
   motion-back =
       let p = word-fits w32 (a .position) .fits in
       let s = g .speed .bounded in
       let c = g .acceleration .bounded in
       let d = g .deceleration .bounded in
-      record-back motionWidths (motionNumbers a mark) l at (p, (omega arith, (omega arith, (omega arith, (omega arith, refl))))) x
+      record-back motionWidths (motionRecord a mark) l at (p, (omega arith, (omega arith, (omega arith, (omega arith, refl))))) x
 
   pub axis-back : axisIn l at ≡ a
   unfolding wrap

@@ -13,7 +13,7 @@ use borrow.Author.Count.{below-more}
 use borrow.Author.Tests.{ltb-true, leb-true, eqb-true, not-true, lt-ltb, le-leb, eq-eqb}
 use mir.Syntax.{w32}
 use mir.Val.{SFits}
-use Rattle.limits.specs.Limits.{bias, plc, mathematics, taskCount, mostDepth, cells, mostLevel, mostSpeed, mostRamp, longest, upTo}
+use Rattle.limits.specs.Limits.{bias, plc, mathematics, taskCount, mostDepth, cells, mostLevel, mostSpeed, mostRamp, longestWait, upTo}
 use Rattle.image.specs.Rows.{accepts}
 use Rattle.image.specs.declared.Header.{Header}
 use Rattle.image.proofs.Rows.{accepted-good, good-accepted}
@@ -61,14 +61,14 @@ judged-wait m time turns e =
     let r = both (eqb time 0) (eqb turns 0) c in
     subst (λ (x : ℕ). GoodWait m x turns) (sym (eqb-true time 0 (r .0))) (subst (λ (y : ℕ). GoodWait m 0 y) (sym (eqb-true turns 0 (r .1))) GoodWait.none))
     (λ c.
-    let r = both (ltb 0 time) (leb time longest && not (due m time turns)) c in
-    let q = both (leb time longest) (not (due m time turns)) (r .1) in
-    GoodWait.pending (ltb-true 0 time (r .0)) (leb-true time longest (q .0)) (not-true (due m time turns) (q .1)))
-    (one (eqb time 0 && eqb turns 0) (ltb 0 time && (leb time longest && not (due m time turns))) e)
+    let r = both (ltb 0 time) (leb time longestWait && not (due m time turns)) c in
+    let q = both (leb time longestWait) (not (due m time turns)) (r .1) in
+    GoodWait.pending (ltb-true 0 time (r .0)) (leb-true time longestWait (q .0)) (not-true (due m time turns) (q .1)))
+    (one (eqb time 0 && eqb turns 0) (ltb 0 time && (leb time longestWait && not (due m time turns))) e)
 
 wait-judged : (m time turns : ℕ) → GoodWait m time turns → waitIs m time turns ≡ true
 wait-judged m time turns GoodWait.none = refl
-wait-judged m time turns (GoodWait.pending a b e) = second (eqb time 0 && eqb turns 0) _ (rw (lt-ltb 0 time a, le-leb time longest b, e))
+wait-judged m time turns (GoodWait.pending a b e) = second (eqb time 0 && eqb turns 0) _ (rw (lt-ltb 0 time a, le-leb time longestWait b, e))
 
 -- ---- tasks
 

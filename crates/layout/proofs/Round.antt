@@ -179,7 +179,7 @@ module _ (b : List ℕ) (bytes : Bytes b) where
         let r3 = both (layoutIs b) (unusedZero b unusedLength) (r2 .0) in
         record { long = eqb-true (length b) stateLength (r1 .0); layout = r3 .0; unused = r3 .1; state = r2 .1 }
 
-    -- a state saved by another release is none
+    -- a state with another layout number is none
     pub own-layout : numberAt 1 b layoutAt ≡ layoutNumber
     own-layout = eqb-true (numberAt 1 b layoutAt) layoutNumber (passed .layout)
 

@@ -38,8 +38,8 @@ levelsLength = cells
 unfoldable pub levelsIn : List ℕ → ℕ → List ℕ
 levelsIn s at = table cells (λ (k : ℕ). getD s (at + k) 0)
 
--- ---- the layout number: each release that moves a byte raises it, and 16 refuses another, so that a state saved by another release is none. The two
--- layouts before the third had no number: they had the header here, whose first byte is the format, 1.
+-- ---- the layout number: each release that moves a byte, or gives one another meaning, raises it, and 16 refuses another, so that a state saved by a
+-- release with another layout is none. The two layouts before the third had no number: they had the header here, whose first byte is the format, 1.
 
 abbrev pub layoutNumber : ℕ
 layoutNumber = 3
@@ -66,11 +66,11 @@ headerIn s at = headerFrom (recordIn headerWidths s at)
 abbrev pub motionWidths : List ℕ
 motionWidths = 4 ∷ 2 ∷ 2 ∷ 2 ∷ 1 ∷ []
 
-abbrev pub motionNumbers : Axis → ℕ → List ℕ
-motionNumbers a mark = word w32 (a .position) ∷ a .speed ∷ a .acceleration ∷ a .deceleration ∷ mark ∷ []
+abbrev pub motionRecord : Axis → ℕ → List ℕ
+motionRecord a mark = word w32 (a .position) ∷ a .speed ∷ a .acceleration ∷ a .deceleration ∷ mark ∷ []
 
 abbrev pub motionBytes : Axis → ℕ → List ℕ
-motionBytes a mark = recordBytes motionWidths (motionNumbers a mark)
+motionBytes a mark = recordBytes motionWidths (motionRecord a mark)
 
 abbrev pub axisFrom : List ℕ → Axis
 axisFrom ns = record { position = toZ w32 (getD ns 0 0); speed = getD ns 1 0; acceleration = getD ns 2 0; deceleration = getD ns 3 0 }

@@ -5,7 +5,7 @@ use mathlib.Core.Bool.{Bool, true, _&&_, _||_, not}
 use mathlib.Core.List.{List}
 use lib.Dec.{eqb, ltb, leb}
 use lib.ListN.{length, getD}
-use Rattle.limits.specs.Limits.{bias, plc, mathematics, mostDepth, cells, mostLevel, mostSpeed, mostRamp, longest, stateLength, upTo}
+use Rattle.limits.specs.Limits.{bias, plc, mathematics, mostDepth, cells, mostLevel, mostSpeed, mostRamp, longestWait, stateLength, upTo}
 use Rattle.image.specs.Rows.{accepts}
 use Rattle.image.specs.declared.Header.{Header}
 use Rattle.state.specs.State.{halted, taskAt}
@@ -24,7 +24,7 @@ allOf test l (suc n) = allOf test l n && test n (getD l n 0)
 
 -- none, or from 1 ms up to the longest and not over
 abbrev pub waitIs : ℕ → ℕ → ℕ → Bool
-waitIs model time turns = (eqb time 0 && eqb turns 0) || (ltb 0 time && (leb time longest && not (due model time turns)))
+waitIs model time turns = (eqb time 0 && eqb turns 0) || (ltb 0 time && (leb time longestWait && not (due model time turns)))
 
 -- an entry of a call stack: under the depth a block, above it 0
 abbrev pub entryIs : ℕ → ℕ → ℕ → ℕ → Bool

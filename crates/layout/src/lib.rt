@@ -1,7 +1,7 @@
 // The layout of the state buffer that firmware keeps between steps (docs/STATE.md): the place of each section, behind the one before it. The definitions say
 // which state a buffer holds, which bytes a state has, and which buffers are no state (16); crates reading, writing and buffer do it.
 
-// Raised by each release that moves a byte: 16 refuses a state with another.
+// Raised by each release that moves a byte or gives one another meaning, an unused one included: 16 refuses a state with another.
 pub const LAYOUT_NUMBER: u8 = 3;
 
 pub const VARIABLES_AT: u16 = 0;
@@ -12,6 +12,7 @@ pub const OUTPUTS_AT: u16 = FLAGS_AT + limits::CELLS as u16;
 
 pub const LAYOUT_AT: u16 = OUTPUTS_AT + limits::CELLS as u16;
 
+// Format, type, slot B, slot C, a byte each; start, count, two each.
 pub const HEADER_AT: u16 = LAYOUT_AT + 1;
 
 // Position, speed, acceleration, deceleration, start mark.

@@ -1,5 +1,5 @@
--- The limits, each once, as the definitions have them; src/lib.rt has the code's. The reference machine and the table of cases have document 01's
--- numbers instead, so that a wrong limit is not wrong on both sides. Assumes nothing.
+-- The limits, each once, as the definitions have them; src/lib.rt has the code's. The reference machine has document 01's own numbers of tasks, cells and
+-- inputs, the table of cases those that it names, so that a wrong limit is not wrong on both sides; cases/proofs/Limits.antt holds each. Assumes nothing.
 use Prim.Native.Nat.{ℕ, _+_, _*_}
 use mathlib.Core.Bool.{Bool, _&&_}
 use lib.Dec.{ltb, leb}
@@ -57,8 +57,8 @@ abbrev pub mostTime : ℕ
 mostTime = 65535
 
 -- the longest wait, in ms
-abbrev pub longest : ℕ
-longest = 2 * mostTime
+abbrev pub longestWait : ℕ
+longestWait = 2 * mostTime
 
 -- the marks: one for each block, task and depth (13)
 abbrev pub marksLength : ℕ

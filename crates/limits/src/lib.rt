@@ -45,7 +45,7 @@ pub const MOST_RAMP: u16 = 64000;
 // The most that an operand of 59 says, in 2 ms, and a variable of 5A, in ms; the longest wait, in ms.
 pub const MOST_TIME: u32 = 65535;
 
-pub const LONGEST: u32 = 2 * MOST_TIME;
+pub const LONGEST_WAIT: u32 = 2 * MOST_TIME;
 
 // The lengths of what C lends: a mark for each block, task and depth; the state; a level for each input pin.
 pub const MARKS_LENGTH: usize = MOST_BLOCKS as usize * TASKS * DEPTHS;

@@ -9,7 +9,6 @@ use lib.IntN.{pos}
 use mir.Syntax.{w32}
 use mir.Val.{SFits}
 use mir.ValLaws.{toZ-fits}
-use Rattle.limits.specs.Limits.{mostTime}
 use Rattle.le.specs.LittleEndian.{leNumber}
 use Rattle.image.specs.declared.Header.{Header}
 use Rattle.rows.specs.Rows.{rowOf}
@@ -31,10 +30,10 @@ BlockBytes b = (k : ℕ) → byteAt b k < 256
 
 record Laid (f : List ℕ → Command) : Type 0 where
   code : (b : List ℕ) → f b .code ≡ byteAt b 0
-  word : (b : List ℕ) → BlockBytes b → f b .word ≤ mostTime
+  word : (b : List ℕ) → BlockBytes b → f b .word ≤ 65535
   value : (b : List ℕ) → BlockBytes b → SFits w32 (f b .value)
 
-word-small : (b : List ℕ) → BlockBytes b → (k : ℕ) → wordAt b k ≤ mostTime
+word-small : (b : List ℕ) → BlockBytes b → (k : ℕ) → wordAt b k ≤ 65535
 word-small b h k = let x = h k in let y = h (k + 1) in omega arith
 
 value-fits : (b : List ℕ) → BlockBytes b → (k : ℕ) → SFits w32 (valueAt b k)
@@ -48,10 +47,10 @@ value-fits b h k =
 no-value : SFits w32 (pos 0)
 no-value = record { sfits = omega arith }
 
-no-word : 0 ≤ mostTime
+no-word : 0 ≤ 65535
 no-word = omega arith
 
-half-word : (b : List ℕ) → BlockBytes b → 256 * (byteAt b 6 % 16) + byteAt b 7 ≤ mostTime
+half-word : (b : List ℕ) → BlockBytes b → 256 * (byteAt b 6 % 16) + byteAt b 7 ≤ 65535
 half-word b h = let x = h 6 in let y = h 7 in omega arith
 
 all-laid : All Laid layouts

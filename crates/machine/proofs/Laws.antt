@@ -10,7 +10,7 @@ use lib.Signed.{quotZ}
 use borrow.Author.Tests.{eqb-true, eqb-false, not-false}
 use mir.Syntax.{w32}
 use mir.Val.{SFits}
-use Rattle.limits.specs.Limits.{mostTime, longest}
+use Rattle.limits.specs.Limits.{mostTime, longestWait}
 use Rattle.arith.specs.Wrap.{wrap}
 use Rattle.arith.specs.Ops.{quotient, eqZ}
 use Rattle.arith.proofs.Cut.{wrap-fits}
@@ -96,7 +96,7 @@ abbrev pub Ranged : ℕ → Command → Type 0
 Ranged count c = inRange (rowOf (c .code) .ranges) count c ≡ true
 
 pub record Fit (count : ℕ) (c : Command) : Type 0 where
-  pub word : c .word ≤ mostTime
+  pub word : c .word ≤ 65535
   pub value : SFits w32 (c .value)
   pub ranges : Ranged count c
 
@@ -203,7 +203,7 @@ module _ (k : ℕ) (c : Command) (g : Given) (v : Values) where
   stays-law t further again = flows-law (cond t GoOn (Stay 0 0)) (either t GoOn (Stay 0 0) (λ _. simply GoOn refl further) (λ _. stays-on again))
 
   pub waits-lawful : (time : ℕ) → isWait k ≡ true → In GoOn → ((t n : ℕ) → In (Stay t n))
-      → (eqb (g .time) 0 ≡ true → (count : ℕ) → Fit count c → time ≤ longest) → Lawful k c g v (waits time g)
+      → (eqb (g .time) 0 ≡ true → (count : ℕ) → Fit count c → time ≤ longestWait) → Lawful k c g v (waits time g)
   waits-lawful time w further again short =
       either (eqb (g .time) 0) _ _
       (λ z. either (due (g .model) time 0) GoOn (Stay time 0) (λ _. simply GoOn refl further)
@@ -235,7 +235,7 @@ module _ (k : ℕ) (c : Command) (g : Given) (v : Values) where
 
   pub waits-variable-law : isWait k ≡ true → In GoOn → ((t n : ℕ) → In (Stay t n)) → In (Halt BadContent)
       → (g .time ≡ 0 → within 0 mostTime (variable v (c .x)) ≡ false → Reason c v (g .time) BadContent)
-      → (g .time ≡ 0 → within 0 mostTime (variable v (c .x)) ≡ true → timeOf (g .model) (natural (variable v (c .x))) ≤ longest)
+      → (g .time ≡ 0 → within 0 mostTime (variable v (c .x)) ≡ true → timeOf (g .model) (natural (variable v (c .x))) ≤ longestWait)
       → Law k c g v (waitsVariable g c v)
   waits-variable-law w further again stops reason short =
       let z = variable v (c .x) in

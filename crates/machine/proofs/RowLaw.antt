@@ -8,7 +8,7 @@ use lib.ListN.{getD}
 use lib.IntN.{ℤ, pos, negsuc, _+ℤ_, _-ℤ_, _*ℤ_}
 use borrow.Author.Tests.{leb-true}
 use mir.Syntax.{w32}
-use Rattle.limits.specs.Limits.{bias, plc, mathematics, mostLevel, mostSpeed, mostRamp, mostTime, longest}
+use Rattle.limits.specs.Limits.{bias, plc, mathematics, mostLevel, mostSpeed, mostRamp, mostTime, longestWait}
 use Rattle.arith.specs.Wrap.{wrap}
 use Rattle.arith.specs.Ops.{holds, bitAt, eqZ}
 use Rattle.arith.proofs.Cut.{wrap-fits}
@@ -52,10 +52,10 @@ ends c g v =
     either (hex 5 1) c g v (eqb (c .x) 0) Restart End (λ e. simply (hex 5 1) c g v Restart refl (rw e May.restart)) (λ e. simply (hex 5 1) c g v End refl (rw e May.end))
 
 -- 59 and 5A: the longest times
-twice : (word : ℕ) → word ≤ mostTime → 2 * word ≤ longest
+twice : (word : ℕ) → word ≤ 65535 → 2 * word ≤ longestWait
 twice word l = omega arith
 
-short : (model : ℕ) (z : ℤ) → within 0 mostTime z ≡ true → timeOf model (natural z) ≤ longest
+short : (model : ℕ) (z : ℤ) → within 0 mostTime z ≡ true → timeOf model (natural z) ≤ longestWait
 short model (negsuc n) e = clash (sym e)
 short model (pos n) e = let b = leb-true n mostTime (both (leb 0 n) (leb n mostTime) e .1) in let l = rounded model n .low in omega arith
 

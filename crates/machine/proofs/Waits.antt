@@ -6,7 +6,7 @@ use mathlib.Core.Logic.{_↔_}
 use native.Mathlib.Omega.{arith}
 use lib.Dec.{ltb}
 use borrow.Author.Tests.{leb-false, ltb-false, ltb-true, ne-eqb}
-use Rattle.limits.specs.Limits.{longest}
+use Rattle.limits.specs.Limits.{longestWait}
 use Rattle.drive.specs.Types.{type637Plus, cycleOf}
 use Rattle.number.proofs.Choice.{clash}
 use Rattle.state.specs.Wait.{due}
@@ -56,7 +56,7 @@ passes-exactly time g n = rw (ne-eqb (g .time) 0 n) (go (due (g .model) (g .time
 -- ---- good waits
 
 -- a wait that begins is not over, and has a time
-pub begins : (model time : ℕ) → time ≤ longest → due model time 0 ≡ false → GoodWait model time 0
+pub begins : (model time : ℕ) → time ≤ longestWait → due model time 0 ≡ false → GoodWait model time 0
 begins model time l e = let n = leb-false (1000 * time) (0 * cycleOf model) e in GoodWait.pending {time = time} {turns = 0} (omega arith) l e
 
 -- one that is not over at the next turn stays pending

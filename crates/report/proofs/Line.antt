@@ -55,7 +55,7 @@ computed : lineOf (verdictFast caseB marksLength) ≡ documented
 unfolding lineOf decimalOf digitsOf
     types.takes
     number.numberBytes number.secondByte number.firstByte number.numberAt
-    header.checked header.firstSame header.sameHeader scan.placeOf scan.judged
+    header.checked header.firstSame header.sameHeader scan.standsAt scan.judged
     scan.taken scan.more scan.scan scan.firstRefusal scan.lengthOutcome scan.readWith scan.closed scan.headerOf scan.blocksOf
     rows.rows rows.rowIn rows.rowOf
     operands.laidOut operands.operands operands.usedBytes operands.allZero operands.unusedZero

@@ -11,6 +11,7 @@ packed [] ns = []
 packed (w ∷ ws) [] = []
 packed (w ∷ ws) (n ∷ ns) = leBytes w n ∷ packed ws ns
 
+-- the bytes of a record
 abbrev pub recordBytes : List ℕ → List ℕ → List ℕ
 recordBytes widths numbers = joined (packed widths numbers)
 
@@ -19,5 +20,6 @@ abbrev pub unpacked : List ℕ → List ℕ → ℕ → ℕ → List ℕ
 unpacked [] s at off = []
 unpacked (w ∷ ws) s at off = numberAt w s (at + off) ∷ unpacked ws s at (off + w)
 
+-- the numbers of the record at a place
 abbrev pub recordIn : List ℕ → List ℕ → ℕ → List ℕ
 recordIn widths s at = unpacked widths s at 0

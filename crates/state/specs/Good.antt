@@ -7,7 +7,7 @@ use lib.ListN.{length, getD}
 use lib.IntN.{pos}
 use mir.Syntax.{w32}
 use mir.Val.{SFits}
-use Rattle.limits.specs.Limits.{bias, taskCount, mostDepth, cells, mostLevel, mostSpeed, mostRamp, longest}
+use Rattle.limits.specs.Limits.{bias, taskCount, mostDepth, cells, mostLevel, mostSpeed, mostRamp, longestWait}
 use Rattle.image.specs.Good.{Good as GoodHeader}
 use Rattle.image.specs.declared.Header.{Header}
 use Rattle.state.specs.State.{halted, noTask}
@@ -20,7 +20,7 @@ use Rattle.state.specs.declared.State.{State}
 -- a wait: none, or one of 1 ms up to the longest that is not over yet
 pub data GoodWait (model : ℕ) : ℕ → ℕ → Type 0 where
   none : GoodWait model 0 0
-  pending : {time turns : ℕ} → 0 < time → time ≤ longest → due model time turns ≡ false → GoodWait model time turns
+  pending : {time turns : ℕ} → 0 < time → time ≤ longestWait → due model time turns ≡ false → GoodWait model time turns
 
 -- a task: block and start in the image; the call stack's entries under the depth too, and those above it 0
 pub record GoodTask (h : Header) (k : Task) : Type 0 where

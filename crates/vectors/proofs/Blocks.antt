@@ -56,7 +56,7 @@ quick-is (i ∷ is) = ap (λ (v : Verdict). length (by i v)) (sym (fast-is i mar
 computed : map quick images ≡ 8 ∷ 16 ∷ 0 ∷ 0 ∷ 0 ∷ 0 ∷ []
 unfolding types.takes homes.outputsWritten homes.homeIn homes.homeOf pins.onBoard pins.presence pins.pinOf
     number.numberBytes number.secondByte number.firstByte number.numberAt
-    header.checked header.firstSame header.sameHeader scan.placeOf scan.judged
+    header.checked header.firstSame header.sameHeader scan.standsAt scan.judged
     scan.taken scan.more scan.scan scan.firstRefusal scan.lengthOutcome scan.readWith scan.closed scan.headerOf scan.blocksOf
     rows.rows rows.rowIn rows.rowOf
     operands.laidOut operands.operands operands.usedBytes operands.allZero operands.unusedZero

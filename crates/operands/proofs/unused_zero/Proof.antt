@@ -4,6 +4,7 @@ use mathlib.Core.Path.{_≡_, sym, _∙_}
 use Prim.Native.Nat.{_-_}
 use native.Mathlib.Omega.{arith}
 use lib.ListN.{drop}
+use Rattle.limits.specs.Limits.{blockLength}
 use Rattle.operands.specs.Operands.{allZero, unusedZero}
 use Rattle.operands.proofs.Unused.{used-most, done, found, passed}
 use Rattle.operands.proofs.unused_zero.Statement.{statement}
@@ -13,7 +14,7 @@ abbrev Inv-loop : tie.InvT-loop
 Inv-loop layout block k₀ k = allZero (drop k block) ≡ unusedZero layout block
 
 abbrev μ-loop : tie.MeasureT-loop
-μ-loop layout block k₀ k = 8 - k
+μ-loop layout block k₀ k = blockLength - k
 
 used-bytes-requires : tie.Need-used-bytes-requires Inv-loop μ-loop
 used-bytes-requires c κs = tt

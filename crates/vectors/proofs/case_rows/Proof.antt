@@ -4,7 +4,7 @@ use mathlib.Core.Path.{refl}
 use Rattle.drive.specs.Types.{takes}
 use Rattle.number.specs.Number.{numberAt, firstByte, secondByte, numberBytes}
 use Rattle.image.specs.Rows.{checked}
-use Rattle.image.specs.Scan.{headerOf, closed, readWith, firstRefusal, lengthOutcome, scan, more, taken, judged, placeOf}
+use Rattle.image.specs.Scan.{headerOf, closed, readWith, firstRefusal, lengthOutcome, scan, more, taken, judged, standsAt}
 use Rattle.vectors.proofs.Rows.{_◂_}
 use Rattle.vectors.proofs.case_rows.Statement.{statement}
 use Rattle.vectors.proofs.case_rows.Tie as tie
@@ -46,7 +46,7 @@ header-outcome-requires-6 : tie.Need-header-outcome-requires-6
 header-outcome-requires-6 c κs = search needs
 
 returns : tie.Need-returns
-unfolding headerOf closed readWith lengthOutcome numberAt firstByte secondByte scan more taken judged checked placeOf numberBytes takes firstRefusal
+unfolding headerOf closed readWith lengthOutcome numberAt firstByte secondByte scan more taken judged checked standsAt numberBytes takes firstRefusal
 returns c =
     let c5 = c .before .before in
     let c4 = c5 .before .before in

@@ -4,7 +4,7 @@ use mathlib.Core.Path.{refl}
 use Rattle.drive.specs.Types.{takes}
 use Rattle.number.specs.Number.{numberAt, firstByte, secondByte, numberBytes}
 use Rattle.image.specs.Rows.{checked}
-use Rattle.image.specs.Scan.{headerOf, closed, readWith, firstRefusal, lengthOutcome, scan, more, taken, judged, placeOf}
+use Rattle.image.specs.Scan.{headerOf, closed, readWith, firstRefusal, lengthOutcome, scan, more, taken, judged, standsAt}
 use Rattle.vectors.proofs.Rows.{_◂_}
 use Rattle.vectors.proofs.range_rows.Statement.{statement}
 use Rattle.vectors.proofs.range_rows.Tie as tie
@@ -76,7 +76,7 @@ header-outcome-requires-11 : tie.Need-header-outcome-requires-11
 header-outcome-requires-11 c κs = search needs
 
 returns : tie.Need-returns
-unfolding headerOf closed readWith lengthOutcome numberAt firstByte secondByte scan more taken judged checked placeOf numberBytes takes firstRefusal
+unfolding headerOf closed readWith lengthOutcome numberAt firstByte secondByte scan more taken judged checked standsAt numberBytes takes firstRefusal
 returns c =
     let c10 = c .before .before in
     let c9 = c10 .before .before in

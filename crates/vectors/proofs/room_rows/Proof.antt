@@ -4,7 +4,7 @@ use mathlib.Core.Path.{refl, ap}
 use Rattle.drive.specs.Types.{takes}
 use Rattle.number.specs.Number.{numberBytes}
 use Rattle.image.specs.Rows.{checked}
-use Rattle.image.specs.Scan.{firstRefusal, scan, more, taken, judged, placeOf}
+use Rattle.image.specs.Scan.{firstRefusal, scan, more, taken, judged, standsAt}
 use Rattle.writer.specs.Writer.{written, fitted, writtenWith, roomOutcome}
 use Rattle.writer.specs.declared.Written.{Written}
 use Rattle.vectors.proofs.Rows.{_◂_}
@@ -24,7 +24,7 @@ write-row-requires-2 : tie.Need-write-row-requires-2
 write-row-requires-2 c κs = search needs
 
 returns : tie.Need-returns
-unfolding written fitted writtenWith roomOutcome numberBytes scan more taken judged checked placeOf takes firstRefusal
+unfolding written fitted writtenWith roomOutcome numberBytes scan more taken judged checked standsAt takes firstRefusal
 returns c = ap (λ (w : Written). w .outcome) (c .before .before .before .before .before .write-row .ensures .0) ◂ ap (λ (w : Written). w .outcome) (c .before .write-row2 .ensures .0) ◂ refl
 
 pub room-rows-spec : {M : Type 1} → statement M

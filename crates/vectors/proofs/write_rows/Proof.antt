@@ -4,7 +4,7 @@ use mathlib.Core.Path.{refl}
 use Rattle.drive.specs.Types.{takes}
 use Rattle.number.specs.Number.{numberBytes}
 use Rattle.image.specs.Rows.{checked}
-use Rattle.image.specs.Scan.{firstRefusal, scan, more, taken, judged, placeOf}
+use Rattle.image.specs.Scan.{firstRefusal, scan, more, taken, judged, standsAt}
 use Rattle.writer.specs.Writer.{written, fitted, writtenWith, roomOutcome}
 use Rattle.vectors.proofs.Rows.{_◂_}
 use Rattle.vectors.proofs.write_rows.Statement.{statement}
@@ -41,7 +41,7 @@ write-outcome-requires-8 : tie.Need-write-outcome-requires-8
 write-outcome-requires-8 c κs = search needs
 
 returns : tie.Need-returns
-unfolding written fitted writtenWith roomOutcome numberBytes scan more taken judged checked placeOf takes firstRefusal
+unfolding written fitted writtenWith roomOutcome numberBytes scan more taken judged checked standsAt takes firstRefusal
 returns c =
     let c7 = c .before .before in
     let c6 = c7 .before .before in

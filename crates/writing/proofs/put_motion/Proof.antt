@@ -10,7 +10,7 @@ use mir.Facts.{toZ-ofZ}
 use Rattle.places.specs.Places.{puts, signedBytes}
 use Rattle.sections.proofs.Sections.{put, done}
 use Rattle.sections.proofs.Records.{record-put}
-use Rattle.layout.specs.Codecs.{motionWidths, motionNumbers}
+use Rattle.layout.specs.Codecs.{motionWidths, motionRecord}
 use Rattle.layout.specs.Layout.{motionAt}
 use borrow.Author.Needs.{needs}
 use Rattle.writing.proofs.put_motion.Statement.{statement}
@@ -54,7 +54,7 @@ returns c =
     let f : mag (a .position) < 2147483648 = omega (arith, k0 .before .struct-told .given) in
     let z = toZ-ofZ {w = w32} {z = a .position} (record { sfits = f }) in
     let p = k0 .put-signed .ensures ∙ ap (λ (y : ℤ). puts (now (st .args .b)) motionAt (signedBytes y)) z in
-    record-put motionWidths (motionNumbers a (st .args .mark)) motionAt refl
+    record-put motionWidths (motionRecord a (st .args .mark)) motionAt refl
     (put p
     (put (k1 .put-word .ensures)
     (put (k2 .put-word2 .ensures)

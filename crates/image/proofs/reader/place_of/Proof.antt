@@ -6,18 +6,18 @@ use native.Mathlib.Omega.{arith}
 use lib.ListN.{getD}
 use native.Mathlib.Numerals.{add-one}
 use Rattle.number.proofs.Numbers.{size-most}
-use Rattle.image.specs.Scan.{placeOf}
+use Rattle.image.specs.Scan.{standsAt}
 use Rattle.image.proofs.reader.place_of.Statement.{statement}
 use Rattle.image.proofs.reader.place_of.Tie as tie
 
 abbrev Inv-loop : tie.InvT-loop
-Inv-loop k n at₀ j₀ at j = (j ≤ k) × ((at ≡ placeOf n j) × (at ≤ 2 * j))
+Inv-loop k n at₀ j₀ at j = (j ≤ k) × ((at ≡ standsAt n j) × (at ≤ 2 * j))
 
 abbrev μ-loop : tie.MeasureT-loop
 μ-loop k n at₀ j₀ at j = k - j
 
 loop-holds : tie.Need-loop-holds Inv-loop μ-loop
-unfolding placeOf
+unfolding standsAt
 loop-holds c = (omega arith, (refl, omega arith))
 
 mul-size : tie.Need-mul-size Inv-loop μ-loop
@@ -42,7 +42,7 @@ loop-less : tie.Need-loop-less Inv-loop μ-loop
 loop-less c = search needs
 
 loop-again : tie.Need-loop-again Inv-loop μ-loop
-unfolding placeOf
+unfolding standsAt
 loop-again c =
     let l = c .before .before .loop in
     let e = l .inv .1 .0 in
@@ -55,7 +55,7 @@ returns c =
     let l = c .before .loop in
     let a = c .before .before .args in
     let e : l .j ≡ a .k = omega arith in
-    l .inv .1 .0 ∙ ap (placeOf (a .t1)) e
+    l .inv .1 .0 ∙ ap (standsAt (a .t1)) e
 
 pub place-of-spec : {M : Type 1} → statement M
 place-of-spec =
