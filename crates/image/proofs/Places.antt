@@ -40,7 +40,8 @@ module _ (n : ℕ) (source : Source) (shortest : Shortest source) (row : ℕ) (l
       let e = stands-at k (omega arith) in
       let v = number-is n source row ok (omega arith) k (omega arith) in
       let p = shortest k (place n source k) (value n source k) (place n source (suc k)) (t .stood) in
-      rw v (omega arith)
+      let w = ap (λ (x : ℕ). length (numberBytes x)) v in
+      omega arith
 
   -- once number `row` has been read, whatever it is, the place of number k is where k stands
   pub blamed-at : (v k : ℕ) → k ≤ row → standsAt (set (scan n source row .numbers) row v) k ≡ place n source k

@@ -1,6 +1,9 @@
 -- `writer::judge_room` meets its contract, by its tests. Assumes nothing.
 use borrow.Author.Needs.{needs}
+use native.Mathlib.Omega.{arith}
+use Prim.Native.Nat.{_*_}
 use borrow.Author.Tests.{lt-ltb, le-ltb}
+use Rattle.limits.specs.Limits.{blockLength}
 use Rattle.writer.specs.Writer.{roomOutcome}
 use Rattle.writer.proofs.judge_room.Statement.{statement}
 use Rattle.writer.proofs.judge_room.Tie as tie
@@ -10,7 +13,9 @@ mul-whole c = search needs
 
 returns : tie.Need-returns
 unfolding roomOutcome
-returns c = rw (lt-ltb _ _ (c .if1 .taken))
+returns c =
+    let a = c .before .args in
+    rw (lt-ltb (a .blocks) (blockLength * a .count) (omega (arith, c .if1 .taken)))
 
 returns-2 : tie.Need-returns-2
 unfolding roomOutcome
