@@ -5,7 +5,7 @@ use limits::MOST_SPEED;
 use machine::Cause;
 use machine::Effect;
 use machine::Moment;
-use machine::Motion;
+use machine::Request;
 use machine::Outcome;
 use operands::Command;
 use state::Values;
@@ -18,7 +18,7 @@ ghost use Rattle.state.specs.State.{withAxis, withMark, withPosition, withSpeed
 ghost use Rattle.machine.specs.Given.{givenAt};
 ghost use Rattle.machine.specs.Effect.{effect, sets, flows, halts, assigns, variable, within, natural, started, axisRows, deedIn};
 ghost use Rattle.machine.specs.declared.Cause.the-variants.{BadContent};
-ghost use Rattle.machine.specs.declared.Motion.the-variants as motion;
+ghost use Rattle.machine.specs.declared.Request.the-variants as request;
 ghost use Rattle.machine.specs.declared.Outcome.the-variants.{GoOn, Stay};
 
 // What a command of this group does; any other leaves its task where it is.
@@ -59,45 +59,45 @@ fn started(m: Moment, v: Values) -> bool
 }
 
 // A move starts, and clears the start mark, or its task stays.
-fn moves(m: Moment, motion: Motion, v: Values) -> Effect
-    ensures { λ r. ⌜ r ≡ cond (started (givenAt m []) v) (effect (withMark 0 v) motion GoOn) (flows v (Stay 0 0)) ⌝ }
+fn moves(m: Moment, request: Request, v: Values) -> Effect
+    ensures { λ r. ⌜ r ≡ cond (started (givenAt m []) v) (effect (withMark 0 v) request GoOn) (flows v (Stay 0 0)) ⌝ }
 {
     if started(m, v) {
-        return effect::asks(v.with_mark(0), motion);
+        return effect::asks(v.with_mark(0), request);
     }
     effect::flows(v, Outcome::Stay(0, 0))
 }
 
 // 00: a move to the stored position.
 fn move_to(m: Moment, v: Values) -> Effect
-    ensures { λ r. ⌜ r ≡ cond (started (givenAt m []) v) (effect (withMark 0 v) (motion.MoveTo (v .axis)) GoOn) (flows v (Stay 0 0)) ⌝ }
+    ensures { λ r. ⌜ r ≡ cond (started (givenAt m []) v) (effect (withMark 0 v) (request.MoveTo (v .axis)) GoOn) (flows v (Stay 0 0)) ⌝ }
 {
     let axis = v.axis;
-    moves(m, Motion::MoveTo(axis), v)
+    moves(m, Request::MoveTo(axis), v)
 }
 
 // 01: a move by the stored position.
 fn move_by(m: Moment, v: Values) -> Effect
-    ensures { λ r. ⌜ r ≡ cond (started (givenAt m []) v) (effect (withMark 0 v) (motion.MoveBy (v .axis)) GoOn) (flows v (Stay 0 0)) ⌝ }
+    ensures { λ r. ⌜ r ≡ cond (started (givenAt m []) v) (effect (withMark 0 v) (request.MoveBy (v .axis)) GoOn) (flows v (Stay 0 0)) ⌝ }
 {
     let axis = v.axis;
-    moves(m, Motion::MoveBy(axis), v)
+    moves(m, Request::MoveBy(axis), v)
 }
 
 // 03: endless, forward.
 fn forward(m: Moment, v: Values) -> Effect
-    ensures { λ r. ⌜ r ≡ cond (started (givenAt m []) v) (effect (withMark 0 v) (motion.Forward (v .axis)) GoOn) (flows v (Stay 0 0)) ⌝ }
+    ensures { λ r. ⌜ r ≡ cond (started (givenAt m []) v) (effect (withMark 0 v) (request.Forward (v .axis)) GoOn) (flows v (Stay 0 0)) ⌝ }
 {
     let axis = v.axis;
-    moves(m, Motion::Forward(axis), v)
+    moves(m, Request::Forward(axis), v)
 }
 
 // 04: endless, backward.
 fn backward(m: Moment, v: Values) -> Effect
-    ensures { λ r. ⌜ r ≡ cond (started (givenAt m []) v) (effect (withMark 0 v) (motion.Backward (v .axis)) GoOn) (flows v (Stay 0 0)) ⌝ }
+    ensures { λ r. ⌜ r ≡ cond (started (givenAt m []) v) (effect (withMark 0 v) (request.Backward (v .axis)) GoOn) (flows v (Stay 0 0)) ⌝ }
 {
     let axis = v.axis;
-    moves(m, Motion::Backward(axis), v)
+    moves(m, Request::Backward(axis), v)
 }
 
 // 0E: the start mark is set.
@@ -109,17 +109,17 @@ fn set_mark(v: Values) -> Effect
 
 // 0F: a stop of mode x, with the stored deceleration.
 fn stop(c: Command, v: Values) -> Effect
-    ensures { λ r. ⌜ r ≡ effect v (motion.Stop (c .x) (v .axis .deceleration)) GoOn ⌝ }
+    ensures { λ r. ⌜ r ≡ effect v (request.Stop (c .x) (v .axis .deceleration)) GoOn ⌝ }
 {
     let axis = v.axis;
-    effect::asks(v, Motion::Stop(c.x, axis.deceleration))
+    effect::asks(v, Request::Stop(c.x, axis.deceleration))
 }
 
 // 1F: a stop of mode x, with the deceleration in word.
 fn stop_by(c: Command, v: Values) -> Effect
-    ensures { λ r. ⌜ r ≡ effect v (motion.Stop (c .x) (c .word)) GoOn ⌝ }
+    ensures { λ r. ⌜ r ≡ effect v (request.Stop (c .x) (c .word)) GoOn ⌝ }
 {
-    effect::asks(v, Motion::Stop(c.x, c.word))
+    effect::asks(v, Request::Stop(c.x, c.word))
 }
 
 // 20: position = value.

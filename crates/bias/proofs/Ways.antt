@@ -17,7 +17,7 @@ use Rattle.layout.specs.Test.{frameIs, stateIs, isState}
 use Rattle.machine.specs.Given.{Inputs}
 use Rattle.machine.specs.Engine.{step}
 use Rattle.machine.specs.Theorem.{loaded}
-use Rattle.machine.specs.declared.Motion.the-variants.{None}
+use Rattle.machine.specs.declared.Request.the-variants.{None}
 use Rattle.machine.specs.declared.Answer.the-variants.{NoTask, Inputs as BadInputs}
 use Rattle.border.specs.Border.{noState, numbered, verdictFor, noStateAnswer, answerFor}
 use Rattle.border.specs.declared.BiasVerdict.{BiasVerdict}

@@ -11,7 +11,7 @@ use Rattle.layout.specs.Test.{isState}
 use Rattle.machine.specs.Given.{Inputs}
 use Rattle.machine.specs.Engine.{step}
 use Rattle.machine.specs.declared.Out.{Out}
-use Rattle.machine.specs.declared.Motion.the-variants.{None}
+use Rattle.machine.specs.declared.Request.the-variants.{None}
 use Rattle.machine.specs.declared.Answer.the-variants.{NoTask, Inputs as BadInputs}
 use Rattle.border.specs.Border.{noStateAnswer, answerFor}
 use Rattle.border.specs.declared.BiasAnswer.{BiasAnswer}
@@ -26,7 +26,7 @@ refuse a b = record { answer = a; buffer = b }
 
 -- what a step of the state hands out, and the bytes of the state after it
 unfoldable pub handed : Out → Stepped
-handed o = record { answer = answerFor (o .motion) (o .answer); buffer = encoded (o .state) }
+handed o = record { answer = answerFor (o .request) (o .answer); buffer = encoded (o .state) }
 
 -- the step of a buffer
 unfoldable pub stepState : List ℕ → List ℕ → Inputs → Stepped

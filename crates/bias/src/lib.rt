@@ -8,7 +8,7 @@ use limits::MARKS_LENGTH;
 use limits::STATE_LENGTH;
 use limits::TASK_COUNT;
 use machine::Answer;
-use machine::Motion;
+use machine::Request;
 use state::State;
 use walk::Verdict;
 ghost use mathlib.Core.Path.{_≡_};
@@ -90,11 +90,11 @@ pub extern "C" fn bias_step(
     ensures { λ _. ⌜ now (state .exit) ≡ stepped (now (image .entry)) (now (state .entry)) (inputsOf task (now (inputs .entry)) start reached) .buffer ⌝ }
 {
     if task >= TASK_COUNT {
-        return border::answer(Motion::None, Answer::NoTask(task));
+        return border::answer(Request::None, Answer::NoTask(task));
     }
     let n = inputs.len();
     if n != INPUTS_LENGTH {
-        return border::answer(Motion::None, Answer::Inputs(n));
+        return border::answer(Request::None, Answer::Inputs(n));
     }
     if state.len() != STATE_LENGTH {
         return border::no_state();
@@ -142,10 +142,10 @@ fn step_state(
     ensures { λ _. ⌜ now (state .exit) ≡ handed (step (now (image .entry)) s (inputsOf task (now (inputs .entry)) start reached)) .buffer ⌝ }
 {
     let out = engine::step(image, s, task, inputs, start, reached);
-    let motion = out.motion;
+    let request = out.request;
     let answer = out.answer;
     put_state(state, out.state);
-    border::answer(motion, answer)
+    border::answer(request, answer)
 }
 
 // Writes the image of these header numbers and blocks to the front of out.

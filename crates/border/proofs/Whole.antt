@@ -3,8 +3,8 @@ use mathlib.Core.Path.{_≡_, refl}
 use mathlib.Core.Bool.{cond}
 use lib.Dec.{eqb}
 use Rattle.state.specs.declared.Axis.{Axis}
-use Rattle.machine.specs.declared.Motion.{Motion}
-use Rattle.machine.specs.declared.Motion.the-variants.{None, MoveTo, MoveBy, Forward, Backward, Stop}
+use Rattle.machine.specs.declared.Request.{Request}
+use Rattle.machine.specs.declared.Request.the-variants.{None, MoveTo, MoveBy, Forward, Backward, Stop}
 use Rattle.machine.specs.declared.Answer.{Answer}
 use Rattle.border.specs.Border.{answerFor}
 use Rattle.border.specs.declared.BiasAnswer.{BiasAnswer}
@@ -12,7 +12,7 @@ use Rattle.border.specs.declared.BiasAnswer.{BiasAnswer}
 abbrev axisFrom : BiasAnswer → Axis
 axisFrom r = record { position = r .position; speed = r .speed; acceleration = r .acceleration; deceleration = r .deceleration }
 
-abbrev pub motionFrom : BiasAnswer → Motion
+abbrev pub motionFrom : BiasAnswer → Request
 motionFrom r =
     cond (eqb (r .motion) 1) (MoveTo (axisFrom r))
     (cond (eqb (r .motion) 2) (MoveBy (axisFrom r))
@@ -20,7 +20,7 @@ motionFrom r =
     (cond (eqb (r .motion) 4) (Backward (axisFrom r))
     (cond (eqb (r .motion) 5) (Stop (r .mode) (r .deceleration)) None))))
 
-pub motion-back : (m : Motion) (a : Answer) → motionFrom (answerFor m a) ≡ m
+pub motion-back : (m : Request) (a : Answer) → motionFrom (answerFor m a) ≡ m
 motion-back None a = refl
 motion-back (MoveTo x) a = refl
 motion-back (MoveBy x) a = refl

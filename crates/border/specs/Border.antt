@@ -8,7 +8,7 @@ use Rattle.walk.specs.Verdict.{verdictNumber, verdictPlace, verdictTask, verdic
 use Rattle.walk.specs.declared.Verdict.{Verdict}
 use Rattle.writer.specs.declared.Written.{Written}
 use Rattle.machine.specs.Numbers.{answerNumber, answerPlace, answerTask, answerDepth, motionNumber, motionAxis, motionMode}
-use Rattle.machine.specs.declared.Motion.{Motion}
+use Rattle.machine.specs.declared.Request.{Request}
 use Rattle.machine.specs.declared.Answer.{Answer}
 use Rattle.border.specs.declared.BiasVerdict.{BiasVerdict}
 use Rattle.border.specs.declared.BiasAnswer.{BiasAnswer}
@@ -46,7 +46,7 @@ noStateAnswer = record {
   mode = 0;
 }
 
-abbrev pub answerFor : Motion → Answer → BiasAnswer
+abbrev pub answerFor : Request → Answer → BiasAnswer
 answerFor m a = record {
   place = answerPlace a;
   number = answerNumber a;

@@ -1,7 +1,7 @@
 // What C is handed (include/bias.h): the two structs of results, and document 01's numbers and places in them. Parts that an answer does not name are 0.
 use machine::Answer;
 use machine::Cause;
-use machine::Motion;
+use machine::Request;
 use state::Axis;
 use walk::Verdict;
 use writer::Written;
@@ -90,7 +90,7 @@ pub fn no_state() -> BiasAnswer
 }
 
 // The result of any other step.
-pub fn answer(motion: Motion, a: Answer) -> BiasAnswer
+pub fn answer(motion: Request, a: Answer) -> BiasAnswer
     ensures { λ r. ⌜ r ≡ answerFor motion a ⌝ }
 {
     let axis = axis_of(motion);
@@ -173,16 +173,16 @@ fn depth_of(a: Answer) -> u8
 }
 
 // The number of a motion request.
-fn motion_of(m: Motion) -> u32
+fn motion_of(m: Request) -> u32
     ensures { λ r. ⌜ r ≡ motionNumber m ⌝ }
 {
     match m {
-        Motion::None => 0,
-        Motion::MoveTo(_) => 1,
-        Motion::MoveBy(_) => 2,
-        Motion::Forward(_) => 3,
-        Motion::Backward(_) => 4,
-        Motion::Stop(_, _) => 5,
+        Request::None => 0,
+        Request::MoveTo(_) => 1,
+        Request::MoveBy(_) => 2,
+        Request::Forward(_) => 3,
+        Request::Backward(_) => 4,
+        Request::Stop(_, _) => 5,
     }
 }
 
@@ -199,29 +199,29 @@ fn stop_axis(deceleration: u16) -> Axis
 }
 
 // The parameters that a request carries.
-fn axis_of(m: Motion) -> Axis
+fn axis_of(m: Request) -> Axis
     ensures { λ r. ⌜ r ≡ motionAxis m ⌝ }
 {
     match m {
-        Motion::None => stop_axis(0),
-        Motion::MoveTo(axis) => axis,
-        Motion::MoveBy(axis) => axis,
-        Motion::Forward(axis) => axis,
-        Motion::Backward(axis) => axis,
-        Motion::Stop(_, deceleration) => stop_axis(deceleration),
+        Request::None => stop_axis(0),
+        Request::MoveTo(axis) => axis,
+        Request::MoveBy(axis) => axis,
+        Request::Forward(axis) => axis,
+        Request::Backward(axis) => axis,
+        Request::Stop(_, deceleration) => stop_axis(deceleration),
     }
 }
 
 // A stop's mode.
-fn mode_of(m: Motion) -> u8
+fn mode_of(m: Request) -> u8
     ensures { λ r. ⌜ r ≡ motionMode m ⌝ }
 {
     match m {
-        Motion::None => 0,
-        Motion::MoveTo(_) => 0,
-        Motion::MoveBy(_) => 0,
-        Motion::Forward(_) => 0,
-        Motion::Backward(_) => 0,
-        Motion::Stop(mode, _) => mode,
+        Request::None => 0,
+        Request::MoveTo(_) => 0,
+        Request::MoveBy(_) => 0,
+        Request::Forward(_) => 0,
+        Request::Backward(_) => 0,
+        Request::Stop(mode, _) => mode,
     }
 }

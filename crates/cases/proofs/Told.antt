@@ -3,7 +3,7 @@ use mathlib.Core.Path.{_≡_, refl}
 use mathlib.Core.List.{[], _∷_, map}
 use lib.IntN.{negsuc}
 use Rattle.state.specs.State.{startAxis}
-use Rattle.machine.specs.declared.Motion.the-variants.{None, MoveTo}
+use Rattle.machine.specs.declared.Request.the-variants.{None, MoveTo}
 use Rattle.cases.specs.Images.{block}
 use Rattle.cases.specs.Table.{Name, Answer, Row, stand, accepted, table}
 use Rattle.cases.specs.Table.Name.{A, B, C, D, E, F, G, H, I, J, K, L, chainOf, marksOf, blockBeforeTask, taskBeforeDepth, onDrive, outputInstead, heldStart, startMark}

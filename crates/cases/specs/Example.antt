@@ -3,7 +3,6 @@
 use Prim.Native.Nat.{ℕ}
 use mathlib.Core.List.{List, [], _∷_, map}
 use lib.ListN.{replicate}
-use Rattle.rows.specs.Rows.{hex}
 use Rattle.point.specs.Fault.{point}
 use Rattle.state.specs.State.{runs}
 use Rattle.machine.specs.Given.{Inputs}
@@ -15,20 +14,20 @@ use Rattle.cases.specs.Images.{block, plain, toward, image}
 abbrev pub program : List ℕ
 program =
     image
-    (toward (hex 5 4) 8 ∷  -- 0, BIAS: start the PLC
-    toward (hex 9 0) 12 ∷  -- 1: start mathematics
-    toward (hex 5 2) 5 ∷  -- 2: call
-    toward (hex 5 9) 1 ∷  -- 3: wait for 2 ms
-    plain (hex 5 1) ∷  -- 4: return to start
-    toward (hex 5 2) 7 ∷  -- 5: a sub-program, which calls another
-    plain (hex 5 3) ∷  -- 6
-    plain (hex 5 3) ∷  -- 7: the other
-    toward (hex 5 2) 10 ∷  -- 8, PLC: call
-    toward (hex 5 5) 8 ∷  -- 9
-    block (hex 6 0) 1 1 0 ∷  -- 10: a sub-program, which sets flag 1
-    plain (hex 5 3) ∷  -- 11
-    block (hex 8 13) 1 2 3 ∷  -- 12, mathematics: variable 1 = variable 2 / variable 3, which is 0
-    toward (hex 5 5) 12 ∷  -- 13
+    (toward 0x54 8 ∷  -- 0, BIAS: start the PLC
+    toward 0x90 12 ∷  -- 1: start mathematics
+    toward 0x52 5 ∷  -- 2: call
+    toward 0x59 1 ∷  -- 3: wait for 2 ms
+    plain 0x51 ∷  -- 4: return to start
+    toward 0x52 7 ∷  -- 5: a sub-program, which calls another
+    plain 0x53 ∷  -- 6
+    plain 0x53 ∷  -- 7: the other
+    toward 0x52 10 ∷  -- 8, PLC: call
+    toward 0x55 8 ∷  -- 9
+    block 0x60 1 1 0 ∷  -- 10: a sub-program, which sets flag 1
+    plain 0x53 ∷  -- 11
+    block 0x8D 1 2 3 ∷  -- 12, mathematics: variable 1 = variable 2 / variable 3, which is 0
+    toward 0x55 12 ∷  -- 13
     [])
 
 -- a step of a task, with all inputs low

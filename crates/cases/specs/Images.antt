@@ -3,7 +3,6 @@
 use Prim.Native.Nat.{ℕ, zero, suc, _+_}
 use mathlib.Core.List.{List, [], _∷_, _++_}
 use lib.ListN.{length}
-use Rattle.rows.specs.Rows.{hex}
 
 -- a block: its code, D1, D2 and D3; the others are 00
 abbrev pub block : ℕ → ℕ → ℕ → ℕ → List ℕ
@@ -23,7 +22,7 @@ bytesOf (b ∷ bs) = b ++ bytesOf bs
 
 -- four numbers: format 1, a type, the boards in slots B and C
 abbrev pub headerWith : ℕ → ℕ → ℕ → List ℕ → List ℕ
-headerWith model b c rest = hex 0 1 ∷ model ∷ b ∷ c ∷ rest
+headerWith model b c rest = 0x01 ∷ model ∷ b ∷ c ∷ rest
 
 -- both slots empty
 abbrev pub headerFor : ℕ → List ℕ → List ℕ
@@ -31,7 +30,7 @@ headerFor model = headerWith model 0 0
 
 -- those of every example of document 01 but J's second: type 2, a 637
 abbrev pub header : List ℕ → List ℕ
-header = headerFor (hex 0 2)
+header = headerFor 0x02
 
 -- an image for a type of drive with these boards that begins at block 0
 abbrev pub imageWith : ℕ → ℕ → ℕ → List (List ℕ) → List ℕ
@@ -51,7 +50,7 @@ image = imageAt 0
 
 -- case A's block: a jump to block 0
 abbrev pub blockA : List ℕ
-blockA = plain (hex 5 5)
+blockA = plain 0x55
 
 abbrev pub caseA : List ℕ
 caseA = image (blockA ∷ [])
@@ -60,7 +59,7 @@ caseA = image (blockA ∷ [])
 -- last block alone. The last block of a sub-program is 53.
 abbrev pub calls : ℕ → ℕ → List ℕ → List (List ℕ)
 calls zero b last = last ∷ []
-calls (suc n) b last = toward (hex 5 2) (b + 2) ∷ last ∷ calls n (b + 2) (plain (hex 5 3))
+calls (suc n) b last = toward 0x52 (b + 2) ∷ last ∷ calls n (b + 2) (plain 0x53)
 
 -- a chain of n nested calls: the main program stands at block 0 and its last block is A's; sub-program k stands at block 2 k
 abbrev pub chain : ℕ → List ℕ

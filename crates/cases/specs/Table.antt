@@ -4,7 +4,6 @@ use Prim.Native.Nat.{ℕ}
 use mathlib.Core.List.{List, [], _∷_, map}
 use lib.ListN.{replicate}
 use lib.IntN.{ℤ, pos, negsuc}
-use Rattle.rows.specs.Rows.{hex}
 use Rattle.number.specs.Number.{numberAt}
 use Rattle.number.specs.declared.Number.{Number}
 use Rattle.number.specs.declared.Number.the-variants.{Value, EndsEarly, NotShortest}
@@ -25,8 +24,8 @@ use Rattle.machine.specs.declared.Answer as machine
 use Rattle.machine.specs.Numbers.{answerNumber, answerPlace, answerTask, answerDepth}
 use Rattle.machine.specs.Run.{outs, stateAfter}
 use Rattle.machine.specs.Theorem.{loaded}
-use Rattle.machine.specs.declared.Motion.{Motion}
-use Rattle.machine.specs.declared.Motion.the-variants.{None, MoveTo}
+use Rattle.machine.specs.declared.Request.{Request}
+use Rattle.machine.specs.declared.Request.the-variants.{None, MoveTo}
 use Rattle.cases.specs.Images.{block, plain, toward, header, image, imageWith, imageFor, imageAt, blockA, caseA, chain}
 
 -- ---- names
@@ -92,7 +91,7 @@ pub data Answer : Type 0 where
   noNumber : ℕ → Answer
   standing : Stand → Stand → Answer
   whole : ℤ → Answer
-  motions : List Motion → Answer
+  motions : List Request → Answer
 
 abbrev pub accepted : Answer
 accepted = refusal 0 0 0 0
@@ -126,8 +125,8 @@ standAt k = stand (k .block) (k .time) (k .turns)
 unfoldable pub standings : List ℕ → State → Answer
 standings bytes s = standing (standAt (taskAt s 0)) (standAt (taskAt (step bytes s (biasStep 0) .state) 0))
 
-abbrev pub motionsOf : List Out → List Motion
-motionsOf = map (λ (o : Out). o .motion)
+abbrev pub motionsOf : List Out → List Request
+motionsOf = map (λ (o : Out). o .request)
 
 abbrev pub ask : Question → Answer
 ask (verdict bytes) = answerOf (verdictOf bytes 27000)
@@ -135,8 +134,8 @@ ask (lent n) = answerOf (verdictOf caseA n)
 ask (instead loadedImage lentImage) = stepAnswerOf (step lentImage (loaded loadedImage) (biasStep 0) .answer)
 ask (number bytes) = valueOf (numberAt bytes 0)
 ask (passes bytes k) = standings bytes (stateAfter bytes (loaded bytes) (replicate k (biasStep 0)))
-ask (divided a b) = whole (resultOf (command (hex 8 5) 0 1 0 0 b) a b)
-ask (dividedBy a b) = whole (resultOf (command (hex 8 13) 0 1 2 0 (pos 0)) a b)
+ask (divided a b) = whole (resultOf (command 0x85 0 1 0 0 b) a b)
+ask (dividedBy a b) = whole (resultOf (command 0x8D 0 1 2 0 (pos 0)) a b)
 ask (requested bytes starts) = motions (motionsOf (outs bytes (loaded bytes) (map biasStep starts)))
 
 -- ---- the table
@@ -151,24 +150,24 @@ row n q a = record { name = n; question = q; answer = a }
 
 -- a move to the stored position, for ever; and one with the start mark set before it
 abbrev pub mover : List ℕ
-mover = image (plain (hex 0 0) ∷ blockA ∷ [])
+mover = image (plain 0x00 ∷ blockA ∷ [])
 
 abbrev pub marked : List ℕ
-marked = image (plain (hex 0 14) ∷ plain (hex 0 0) ∷ toward (hex 5 5) 1 ∷ [])
+marked = image (plain 0x0E ∷ plain 0x00 ∷ toward 0x55 1 ∷ [])
 
 -- a wait of 1000 ms, then a jump back to it, on a type of drive
 abbrev pub waiter : ℕ → List ℕ
-waiter model = imageFor model (block (hex 5 9) (hex 15 4) 1 0 ∷ blockA ∷ [])
+waiter model = imageFor model (block 0x59 0xF4 1 0 ∷ blockA ∷ [])
 
 -- 72, an output set; 63, flag 0 read from an input; 6E, a jump to block 0 by bit 0 of variable 0
 abbrev pub outputSet : ℕ → List ℕ
-outputSet pin = block (hex 7 2) pin 1 0
+outputSet pin = block 0x72 pin 1 0
 
 abbrev pub inputRead : ℕ → List ℕ
-inputRead pin = block (hex 6 3) 0 pin 0
+inputRead pin = block 0x63 0 pin 0
 
 abbrev pub bitJump : List ℕ
-bitJump = plain (hex 6 14)
+bitJump = plain 0x6E
 
 abbrev pub driveRow : ℕ → ℕ → ℕ → List (List ℕ) → Answer → Row
 driveRow model b c blocks = row (onDrive model b c blocks) (verdict (imageWith model b c blocks))
@@ -181,34 +180,34 @@ table =
     -- A: 55 and seven 00: accepted
     row A (verdict caseA) accepted ∷
     -- B: 50 and seven 00: 12 at block 0
-    row B (verdict (image (plain (hex 5 0) ∷ []))) (refusal 12 0 0 0) ∷
+    row B (verdict (image (plain 0x50 ∷ []))) (refusal 12 0 0 0) ∷
     -- C: A with start 1: 3 at byte 4
     row C (verdict (imageAt 1 (blockA ∷ []))) (refusal 3 4 0 0) ∷
     -- D: 52, 53, operands 00: 10 at block 0, at the greatest depth, which is 5 (change request 6)
-    row D (verdict (image (plain (hex 5 2) ∷ plain (hex 5 3) ∷ []))) (refusal 10 0 0 5) ∷
+    row D (verdict (image (plain 0x52 ∷ plain 0x53 ∷ []))) (refusal 10 0 0 5) ∷
     -- E: 50, 53, 52, 55, operands 00, start 2: 11 at block 1, depth 0
-    row E (verdict (imageAt 2 (plain (hex 5 0) ∷ plain (hex 5 3) ∷ plain (hex 5 2) ∷ plain (hex 5 5) ∷ []))) (refusal 11 1 0 0) ∷
+    row E (verdict (imageAt 2 (plain 0x50 ∷ plain 0x53 ∷ plain 0x52 ∷ plain 0x55 ∷ []))) (refusal 11 1 0 0) ∷
     -- F: 20 10 27 00 00 00 00 00, then 54, 55 with operands 00: 9 at task 1, block 0
-    row F (verdict (image (block (hex 2 0) (hex 1 0) (hex 2 7) 0 ∷ plain (hex 5 4) ∷ plain (hex 5 5) ∷ []))) (refusal 9 0 1 0) ∷
+    row F (verdict (image (block 0x20 0x10 0x27 0 ∷ plain 0x54 ∷ plain 0x55 ∷ []))) (refusal 9 0 1 0) ∷
     -- G: 1F 01 00 FA 00 00 00 00, then A's block: accepted
-    row G (verdict (image (block (hex 1 15) 1 0 (hex 15 10) ∷ blockA ∷ []))) accepted ∷
+    row G (verdict (image (block 0x1F 1 0 0xFA ∷ blockA ∷ []))) accepted ∷
     -- H: 1F 01 01 FA instead: 7 at block 0
-    row H (verdict (image (block (hex 1 15) 1 1 (hex 15 10) ∷ blockA ∷ []))) (refusal 7 0 0 0) ∷
+    row H (verdict (image (block 0x1F 1 1 0xFA ∷ blockA ∷ []))) (refusal 7 0 0 0) ∷
     -- I: 72 08 01 then 00s: 6
-    row I (verdict (image (block (hex 7 2) (hex 0 8) 1 0 ∷ []))) (refusal 6 0 0 0) ∷
+    row I (verdict (image (block 0x72 0x08 1 0 ∷ []))) (refusal 6 0 0 0) ∷
     -- I: 72 0C 01 and A's block: accepted
-    row I (verdict (image (block (hex 7 2) (hex 0 12) 1 0 ∷ blockA ∷ []))) accepted ∷
+    row I (verdict (image (block 0x72 0x0C 1 0 ∷ blockA ∷ []))) accepted ∷
     -- J: a wait of 1000 ms (59 F4 01) passes at k = 527 on type 2, where it was pending with k = 526
     row J (passes (waiter 2) 527) (standing (stand 0 1000 526) (stand 1 0 0)) ∷
     -- J: at 1185 on type 4
     row J (passes (waiter 4) 1185) (standing (stand 0 1000 1184) (stand 1 0 0)) ∷
     -- K: DC 0B is 1500
-    row K (number (hex 13 12 ∷ hex 0 11 ∷ [])) (value 1500) ∷
+    row K (number (0xDC ∷ 0x0B ∷ [])) (value 1500) ∷
     -- K: 80 00 gives 2, and 80 alone ends early, 1
-    row K (number (hex 8 0 ∷ hex 0 0 ∷ [])) (noNumber 2) ∷
-    row K (number (hex 8 0 ∷ [])) (noNumber 1) ∷
+    row K (number (0x80 ∷ 0x00 ∷ [])) (noNumber 2) ∷
+    row K (number (0x80 ∷ [])) (noNumber 1) ∷
     -- K: as the start of A, at byte 4
-    row K (verdict (header (hex 8 0 ∷ hex 0 0 ∷ 1 ∷ blockA))) (refusal 2 4 0 0) ∷
+    row K (verdict (header (0x80 ∷ 0x00 ∷ 1 ∷ blockA))) (refusal 2 4 0 0) ∷
     -- L: -7 by 2 is -3
     row L (divided (negsuc 6) (pos 2)) (whole (negsuc 2)) ∷
     row L (dividedBy (negsuc 6) (pos 2)) (whole (negsuc 2)) ∷
@@ -221,26 +220,26 @@ table =
     -- 27,000 are enough
     row (marksOf 27000) (lent 27000) accepted ∷
     -- change request 2, 54 01, 20, 50: the PLC's 9 at block 1 comes before the 12 of BIAS at block 2
-    row blockBeforeTask (verdict (image (toward (hex 5 4) 1 ∷ plain (hex 2 0) ∷ plain (hex 5 0) ∷ []))) (refusal 9 1 1 0) ∷
+    row blockBeforeTask (verdict (image (toward 0x54 1 ∷ plain 0x20 ∷ plain 0x50 ∷ []))) (refusal 9 1 1 0) ∷
     -- change request 2, 54 03, 52 03, 55 02, 50: at block 3 the 12 of BIAS at depth 1 comes before the PLC's at depth 0
-    row taskBeforeDepth (verdict (image (toward (hex 5 4) 3 ∷ toward (hex 5 2) 3 ∷ toward (hex 5 5) 2 ∷ plain (hex 5 0) ∷ []))) (refusal 12 3 0 1) ∷
+    row taskBeforeDepth (verdict (image (toward 0x54 3 ∷ toward 0x52 3 ∷ toward 0x55 2 ∷ plain 0x50 ∷ []))) (refusal 12 3 0 1) ∷
     -- change request 3, 72 D9 01 on type 2: 23, pin 217 is on RP-EAE, which goes into slot C
-    driveRow 2 0 0 (outputSet (hex 13 9) ∷ []) (refusal 23 0 0 0) ∷
+    driveRow 2 0 0 (outputSet 0xD9 ∷ []) (refusal 23 0 0 0) ∷
     -- with slot C 1, and A's block behind it: accepted
-    driveRow 2 0 1 (outputSet (hex 13 9) ∷ blockA ∷ []) accepted ∷
+    driveRow 2 0 1 (outputSet 0xD9 ∷ blockA ∷ []) accepted ∷
     -- on type 0, which takes no board: 6
-    driveRow 0 0 0 (outputSet (hex 13 9) ∷ []) (refusal 6 0 0 0) ∷
+    driveRow 0 0 0 (outputSet 0xD9 ∷ []) (refusal 6 0 0 0) ∷
     -- change request 3, 72 7D 01 on type 2: 6, pin 125 is on RP-2C8, which only type 4 takes
-    driveRow 2 0 0 (outputSet (hex 7 13) ∷ []) (refusal 6 0 0 0) ∷
+    driveRow 2 0 0 (outputSet 0x7D ∷ []) (refusal 6 0 0 0) ∷
     -- on type 4 with slot B empty, or with RP-EA5 there: 23
-    driveRow 4 0 0 (outputSet (hex 7 13) ∷ []) (refusal 23 0 0 0) ∷
-    driveRow 4 1 0 (outputSet (hex 7 13) ∷ []) (refusal 23 0 0 0) ∷
+    driveRow 4 0 0 (outputSet 0x7D ∷ []) (refusal 23 0 0 0) ∷
+    driveRow 4 1 0 (outputSet 0x7D ∷ []) (refusal 23 0 0 0) ∷
     -- change request 3, 63 00 65 on type 2: 23, pin 101 is an input of RP-EA5
-    driveRow 2 0 0 (inputRead (hex 6 5) ∷ []) (refusal 23 0 0 0) ∷
+    driveRow 2 0 0 (inputRead 0x65 ∷ []) (refusal 23 0 0 0) ∷
     -- 72 65 01, an input set as an output: 6
-    driveRow 2 0 0 (outputSet (hex 6 5) ∷ []) (refusal 6 0 0 0) ∷
+    driveRow 2 0 0 (outputSet 0x65 ∷ []) (refusal 6 0 0 0) ∷
     -- 72 D9 02: 23 comes before the 7 of a level above 1
-    driveRow 2 0 0 (block (hex 7 2) (hex 13 9) 2 0 ∷ []) (refusal 23 0 0 0) ∷
+    driveRow 2 0 0 (block 0x72 0xD9 2 0 ∷ []) (refusal 23 0 0 0) ∷
     -- 6E on type 3: 6, which no board mends
     driveRow 3 0 0 (bitJump ∷ []) (refusal 6 0 0 0) ∷
     -- change request 3, a step at a block that 23 refuses, then one that 6 does: 17 for either

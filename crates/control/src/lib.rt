@@ -1,4 +1,5 @@
-// Commands of control (50 to 55, 57 to 5A, 90): one function for each, and the one that finds it. They change nothing but tasks.
+// Commands of control (50 to 55, 57 to 5A) and of mathematics (90): one function for each, and for each group the one that finds it. They change nothing
+// but tasks.
 use drive::Drive;
 use machine::Cause;
 use machine::Effect;
@@ -14,7 +15,7 @@ ghost use lib.Dec.{eqb};
 ghost use Rattle.limits.specs.Limits.{bias, plc, mathematics, mostTime};
 ghost use Rattle.state.specs.Wait.{due};
 ghost use Rattle.machine.specs.Given.{givenAt};
-ghost use Rattle.machine.specs.Effect.{sets, flows, halts, variable, within, natural, isSet, waits, waitsVariable, timeOf, controlRows, deedIn};
+ghost use Rattle.machine.specs.Effect.{sets, flows, halts, variable, within, natural, isSet, waits, waitsVariable, timeOf, controlRows, mathematicsRows, deedIn};
 ghost use Rattle.machine.specs.declared.Outcome.the-variants.{GoOn, Stay, Jump, Call, Return, Start, Restart, End};
 
 // What a command of this group does; any other leaves its task where it is. The turns of a pending wait can be counted on.
@@ -34,6 +35,16 @@ pub fn perform(m: Moment, inputs: &[u8], c: Command, v: Values) -> Effect
         0x58 => wait_for_position(m, v),
         0x59 => wait(m, c, v),
         0x5A => wait_by_variable(m, c, v),
+        _ => effect::flows(v, Outcome::Stay(0, 0)),
+    }
+}
+
+// What a command of mathematics does; any other leaves its task where it is.
+pub fn mathematics(m: Moment, inputs: &[u8], c: Command, v: Values) -> Effect
+    ensures { λ r. ⌜ r ≡ deedIn mathematicsRows (c .code) (givenAt m (now (inputs .entry))) c v ⌝ }
+{
+    let code = c.code;
+    match code {
         0x90 => start_mathematics(c, v),
         _ => effect::flows(v, Outcome::Stay(0, 0)),
     }
@@ -82,13 +93,6 @@ fn start_bias(c: Command, v: Values) -> Effect
     ensures { λ r. ⌜ r ≡ flows v (Start bias (c .word)) ⌝ }
 {
     effect::flows(v, Outcome::Start(limits::BIAS, c.word))
-}
-
-// 90: mathematics is started.
-fn start_mathematics(c: Command, v: Values) -> Effect
-    ensures { λ r. ⌜ r ≡ flows v (Start mathematics (c .word)) ⌝ }
-{
-    effect::flows(v, Outcome::Start(limits::MATHEMATICS, c.word))
 }
 
 // 58: on when the position is reached.
@@ -164,4 +168,11 @@ fn time_of(drive: Drive, content: u32) -> u32
         return content - content % 2;
     }
     content
+}
+
+// 90: mathematics is started.
+fn start_mathematics(c: Command, v: Values) -> Effect
+    ensures { λ r. ⌜ r ≡ flows v (Start mathematics (c .word)) ⌝ }
+{
+    effect::flows(v, Outcome::Start(limits::MATHEMATICS, c.word))
 }

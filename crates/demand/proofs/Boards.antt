@@ -38,7 +38,7 @@ use Rattle.machine.specs.Engine.{pointOf, fits}
 use Rattle.machine.specs.Numbers.{causeNumber}
 use Rattle.machine.specs.declared.Cause.{Cause}
 use Rattle.machine.specs.declared.Cause.the-variants.{ZeroDivisor, BadContent}
-use Rattle.machine.specs.declared.Motion.the-variants.{None}
+use Rattle.machine.specs.declared.Request.the-variants.{None}
 use Rattle.machine.specs.declared.Answer.the-variants.{Differs}
 use Rattle.border.specs.Border.{verdictFor, answerFor}
 use Rattle.border.specs.declared.BiasAnswer.{BiasAnswer}

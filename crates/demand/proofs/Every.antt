@@ -13,7 +13,6 @@ use Rattle.limits.specs.Limits.{taskCount, inputsLength}
 use Rattle.le.specs.LittleEndian.{Bytes}
 use Rattle.number.proofs.Choice.{clash, both}
 use Rattle.image.specs.Scan.{blocksOf, headerOf}
-use Rattle.rows.specs.Rows.{hex}
 use Rattle.operands.specs.declared.Command.{Command}
 use Rattle.point.specs.declared.Point.{Point}
 use Rattle.state.specs.State.{runs, halted, task, taskAt}
@@ -30,7 +29,7 @@ use Rattle.machine.specs.Engine.{given, isWait, isLoaded, blockFits, waitFits, 
 use Rattle.machine.specs.Engine as engine
 use Rattle.machine.specs.Each.{commandOf, Reason}
 use Rattle.machine.specs.declared.Cause.{Cause}
-use Rattle.machine.specs.declared.Motion.the-variants.{None}
+use Rattle.machine.specs.declared.Request.the-variants.{None}
 use Rattle.machine.specs.declared.Answer.{Answer}
 use Rattle.machine.specs.declared.Answer.the-variants.{Done, NotRunning, Differs, Halted}
 use Rattle.machine.specs.declared.Effect.{Effect}
@@ -57,10 +56,10 @@ not-waiting c time code w e f = go (eqb time 0) refl
 
 -- 8D and 31 to 33 are none, and a 5A halts only where none is pending
 unpending : (c : Command) (v : Values) (time : ℕ) {q : Cause} → Reason c v time q → (isSet time ≡ true → isWait (c .code) ≡ true) → time ≡ 0
-unpending c v time (Reason.divisor e z) w = not-waiting c time (hex 8 13) w e refl
-unpending c v time (Reason.speed e z) w = not-waiting c time (hex 3 1) w e refl
-unpending c v time (Reason.acceleration e z) w = not-waiting c time (hex 3 2) w e refl
-unpending c v time (Reason.deceleration e z) w = not-waiting c time (hex 3 3) w e refl
+unpending c v time (Reason.divisor e z) w = not-waiting c time 0x8D w e refl
+unpending c v time (Reason.speed e z) w = not-waiting c time 0x31 w e refl
+unpending c v time (Reason.acceleration e z) w = not-waiting c time 0x32 w e refl
+unpending c v time (Reason.deceleration e z) w = not-waiting c time 0x33 w e refl
 unpending c v time (Reason.waiting e t z) w = t
 
 -- then no turns are counted either
@@ -128,9 +127,9 @@ module _ (image b : List ℕ) (x : Inputs) where
       performs = to-task (r .runs .held) ∙ ap handed (rw (eq-eqb (k .status) runs (r .runs .running), r .fits))
 
       -- the command's number is 0 where it does not halt its task
-      carried : answerTo (e .outcome) (pointOf (x .task) k) ≡ Done → Gives (answerFor (carriedOut (blocksOf image) s x k .motion) Done) (encoded (carriedOut (blocksOf image) s x k .state))
+      carried : answerTo (e .outcome) (pointOf (x .task) k) ≡ Done → Gives (answerFor (carriedOut (blocksOf image) s x k .request) Done) (encoded (carriedOut (blocksOf image) s x k .state))
       unfolding handed performed
-      carried z = given-by _ _ (performs ∙ (λ ι. record { answer = answerFor (e .motion) (z ι); buffer = encoded (carriedOut (blocksOf image) s x k .state) }))
+      carried z = given-by _ _ (performs ∙ (λ ι. record { answer = answerFor (e .request) (z ι); buffer = encoded (carriedOut (blocksOf image) s x k .state) }))
 
       task-good : Good s
       task-good = good (r .runs .held .state)
@@ -168,7 +167,7 @@ module _ (image b : List ℕ) (x : Inputs) where
           }))
 
       -- a command without a reason does not halt
-      going : ((q : Cause) → ReasonHere image b x q → ⊥) → Gives (answerFor (carriedOut (blocksOf image) s x k .motion) Done) (encoded (carriedOut (blocksOf image) s x k .state))
+      going : ((q : Cause) → ReasonHere image b x q → ⊥) → Gives (answerFor (carriedOut (blocksOf image) s x k .request) Done) (encoded (carriedOut (blocksOf image) s x k .state))
       going n = ⊎-elim (λ h. absurd (n (h .0) (reason-of (h .0) (h .1)))) (λ h. carried (h .0)) (halt-or-done (e .outcome) (pointOf (x .task) k))
 
     -- ---- what a way says is what the step gives

@@ -60,7 +60,7 @@ module _ (image : List ℕ) (s : State) (g : Good s) (x : Inputs) where
   unfolding handed
   buffer-is = ap (λ (m : Stepped). m .buffer) is-step
 
-  answer-is : stepped image (encoded s) x .answer ≡ answerFor (step image s x .motion) (step image s x .answer)
+  answer-is : stepped image (encoded s) x .answer ≡ answerFor (step image s x .request) (step image s x .answer)
   unfolding handed
   answer-is = ap (λ (m : Stepped). m .answer) is-step
 
@@ -164,7 +164,7 @@ module _ (image : List ℕ) (bytes : Bytes image) where
       record {
         held = good-state s g;
         parts = subst (λ (r : State). Step image calls r x) (sym d) p;
-        answer = answer-is image s g x ∙ ap (λ (r : State). answerFor (step image r x .motion) (step image r x .answer)) (sym d);
+        answer = answer-is image s g x ∙ ap (λ (r : State). answerFor (step image r x .request) (step image r x .answer)) (sym d);
         state = ap decoded (buffer-is image s g x) ∙ decode-encode (step image s x .state) (next-good s g x) ∙ ap (λ (r : State). step image r x .state) (sym d);
         same = ap (λ (r : State). differs (step image r x .answer)) d ∙ same;
         stays = λ r. buffer-is image s g x ∙ ap encoded (refused-stays image s x (sym (ap (λ (r : State). refused (step image r x .answer)) d) ∙ r));

@@ -18,7 +18,7 @@ use Rattle.image.specs.Scan.{blocksOf}
 use Rattle.machine.specs.Engine.{pointOf, noted, fits, carriedOut}
 use Rattle.machine.specs.Each.{commandOf, Reason}
 use Rattle.machine.specs.declared.Cause.{Cause}
-use Rattle.machine.specs.declared.Motion.the-variants.{None}
+use Rattle.machine.specs.declared.Request.the-variants.{None}
 use Rattle.machine.specs.declared.Answer.the-variants.{Done, NoTask, Inputs as BadInputs, NotRunning, Differs, Halted}
 use Rattle.border.specs.Border.{noStateAnswer, answerFor}
 use Rattle.border.specs.declared.BiasAnswer.{BiasAnswer}
@@ -80,7 +80,7 @@ pub data Way (image b : List ℕ) (x : Inputs) : BiasAnswer → List ℕ → Typ
       → Way image b x (answerFor None (Differs (pointOf (x .task) (taskAt (decoded b) (x .task))))) b
   -- carried out: the motion and the state are those of the command
   done : Ready image b x → ((q : Cause) → ReasonHere image b x q → ⊥)
-      → Way image b x (answerFor (carriedOut (blocksOf image) (decoded b) x (taskAt (decoded b) (x .task)) .motion) Done)
+      → Way image b x (answerFor (carriedOut (blocksOf image) (decoded b) x (taskAt (decoded b) (x .task)) .request) Done)
       (encoded (carriedOut (blocksOf image) (decoded b) x (taskAt (decoded b) (x .task)) .state))
   -- 19 or 20, at the task's point, with no motion
   halts : Ready image b x → (q : Cause) → ReasonHere image b x q

@@ -58,7 +58,7 @@ pub record StepOn (image : List ℕ) (calls : Calls) (b : List ℕ) (x : Inputs)
   -- parts 4, 5 and 6 (machine/specs/Each.antt), of the state that the buffer holds
   pub parts : Step image calls (decoded b) x
   -- which are of this step: what it hands out is the answer, and the state after it is what the buffer holds then
-  pub answer : stepped image b x .answer ≡ answerFor (step image (decoded b) x .motion) (step image (decoded b) x .answer)
+  pub answer : stepped image b x .answer ≡ answerFor (step image (decoded b) x .request) (step image (decoded b) x .answer)
   pub state : decoded (stepped image b x .buffer) ≡ step image (decoded b) x .state
   -- it is not refused by 17 (nor by 16, since the buffer is a state)
   pub same : differs (step image (decoded b) x .answer) ≡ false

@@ -1,7 +1,7 @@
 // Effects in their forms, and what several commands read alike.
 use machine::Cause;
 use machine::Effect;
-use machine::Motion;
+use machine::Request;
 use machine::Outcome;
 use operands::Command;
 use state::Values;
@@ -14,7 +14,7 @@ ghost use Rattle.machine.specs.Effect.{effect, assigns, sets, flows, jumpIf, ha
 pub fn sets(values: Values) -> Effect
     ensures { λ r. ⌜ r ≡ sets values ⌝ }
 {
-    asks(values, Motion::None)
+    asks(values, Request::None)
 }
 
 // Nothing changes but the task.
@@ -23,7 +23,7 @@ pub fn flows(values: Values, outcome: Outcome) -> Effect
 {
     Effect {
         values: values,
-        motion: Motion::None,
+        request: Request::None,
         outcome: outcome,
     }
 }
@@ -92,12 +92,12 @@ pub fn assigns(c: Command, value: i32, values: Values) -> Effect
 }
 
 // The values change, a motion is asked for, and the task goes on.
-pub fn asks(values: Values, motion: Motion) -> Effect
-    ensures { λ r. ⌜ r ≡ effect values motion GoOn ⌝ }
+pub fn asks(values: Values, request: Request) -> Effect
+    ensures { λ r. ⌜ r ≡ effect values request GoOn ⌝ }
 {
     Effect {
         values: values,
-        motion: motion,
+        request: request,
         outcome: Outcome::GoOn,
     }
 }

@@ -32,7 +32,7 @@ not-not false = refl
 -- the parts of what a command comes to
 pub together : (s : State) (t start : ℕ) (k : Task) (e : Effect) (v : Values) (ts : List Task) (a : Answer)
     → v ≡ noted t start (e .values) → ts ≡ tasksAfter (s .header .start) t k (e .outcome) (s .tasks) → a ≡ answerTo (e .outcome) (pointOf t k)
-    → _≡_ {A = Out} (record { state = record { values = v; header = s .header; tasks = ts }; motion = e .motion; answer = a }) (performed s (inputsOf t [] start 0) k e)
+    → _≡_ {A = Out} (record { state = record { values = v; header = s .header; tasks = ts }; request = e .request; answer = a }) (performed s (inputsOf t [] start 0) k e)
 unfolding performed
 together s t start k e v ts a i j l = rw (i, j, l) refl
 

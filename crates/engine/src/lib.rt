@@ -5,7 +5,7 @@ use image::reader::HeaderRead;
 use machine::Answer;
 use machine::Effect;
 use machine::Moment;
-use machine::Motion;
+use machine::Request;
 use machine::Out;
 use machine::Outcome;
 use operands::Command;
@@ -32,7 +32,7 @@ fn refuse(state: State, answer: Answer) -> Out
 {
     Out {
         state: state,
-        motion: Motion::None,
+        request: Request::None,
         answer: answer,
     }
 }
@@ -133,7 +133,7 @@ fn performed(mut state: State, t: u8, start: u8, k: Task, e: Effect) -> Out
 {
     let header = state.header;
     let outcome = e.outcome;
-    let motion = e.motion;
+    let request = e.request;
     let values = noted(t, start, e.values);
     let before = state.tasks;
     let after = tasks::after(header.start, t, k, outcome, before);
@@ -141,7 +141,7 @@ fn performed(mut state: State, t: u8, start: u8, k: Task, e: Effect) -> Out
     state.tasks = after;
     Out {
         state: state,
-        motion: motion,
+        request: request,
         answer: answer_to(outcome, point_of(t, k)),
     }
 }

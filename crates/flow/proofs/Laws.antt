@@ -8,37 +8,37 @@ use native.Mathlib.Omega.{arith}
 use lib.Dec.{T, eqb}
 use borrow.Author.Tests.{eqb-true, eqb-false, eq-eqb, ne-eqb, not-true}
 use Rattle.number.proofs.Choice.{both}
-use Rattle.rows.specs.Rows.{hex, noRow, rows, rowIn, rowOf, ending}
+use Rattle.rows.specs.Rows.{noRow, rows, rowIn, rowOf, ending}
 use Rattle.rows.specs.declared.Row.{Row}
 use Rattle.rows.proofs.Laws.{every, every-row, same, same-is}
 use Rattle.operands.specs.declared.Command.{Command}
 use Rattle.flow.specs.Tasks.{foreign}
 
 only51 : ℕ → Row → Bool
-only51 code r = same (eqb (r .flow) ending) (eqb code (hex 5 1))
+only51 code r = same (eqb (r .flow) ending) (eqb code 0x51)
 
 all-rows : T (every only51 rows)
 unfolding only51 rows
 all-rows = tt
 
-ends-51 : rowIn rows (hex 5 1) .flow ≡ ending
+ends-51 : rowIn rows 0x51 .flow ≡ ending
 unfolding rowIn rows
 ends-51 = refl
 
 -- the flow of an end is that of 51
-ends-is : (code : ℕ) → eqb (rowOf code .flow) ending ≡ eqb code (hex 5 1)
+ends-is : (code : ℕ) → eqb (rowOf code .flow) ending ≡ eqb code 0x51
 unfolding rowOf only51
 ends-is code = ⊎-elim none (λ e. same-is _ _ (subst T (sym e) tt)) (every-row only51 rows all-rows code)
   where
-    unlike : rowIn rows code ≡ noRow → code ≡ hex 5 1 → ⊥
+    unlike : rowIn rows code ≡ noRow → code ≡ 0x51 → ⊥
     unlike n e = let k = sym ends-51 ∙ ap (λ (k : ℕ). rowIn rows k .flow) (sym e) ∙ ap (λ (r : Row). r .flow) n in omega arith
 
-    none : rowIn rows code ≡ noRow → eqb (rowIn rows code .flow) ending ≡ eqb code (hex 5 1)
-    none n = ap (λ (r : Row). eqb (r .flow) ending) n ∙ sym (ne-eqb code (hex 5 1) (unlike n))
+    none : rowIn rows code ≡ noRow → eqb (rowIn rows code .flow) ending ≡ eqb code 0x51
+    none n = ap (λ (r : Row). eqb (r .flow) ending) n ∙ sym (ne-eqb code 0x51 (unlike n))
 
 -- a 51 of another task's mode, in words
 pub record EndsAnother (task : ℕ) (c : Command) : Type 0 where
-  pub code : c .code ≡ hex 5 1
+  pub code : c .code ≡ 0x51
   pub mode : c .x ≡ 0 → ⊥
   pub other : c .x ≡ task + 1 → ⊥
 
@@ -51,7 +51,7 @@ foreign-exactly task c = (to, from)
         let a = both (eqb (rowOf (c .code) .flow) ending) _ e in
         let b = both (not (eqb (c .x) 0)) _ (a .1) in
         record {
-          code = eqb-true (c .code) (hex 5 1) (sym (ends-is (c .code)) ∙ a .0);
+          code = eqb-true (c .code) 0x51 (sym (ends-is (c .code)) ∙ a .0);
           mode = eqb-false (c .x) 0 (not-true _ (b .0));
           other = eqb-false (c .x) (task + 1) (not-true _ (b .1));
         }

@@ -12,7 +12,6 @@ use borrow.Author.Tests.{eqb-true, eq-eqb}
 use Rattle.limits.specs.Limits.{taskCount, mostDepth}
 use Rattle.image.specs.Scan.{headerOf, blocksOf}
 use Rattle.number.proofs.Choice.{clash}
-use Rattle.rows.specs.Rows.{hex}
 use Rattle.fault.specs.Fault.{faultNumber}
 use Rattle.fault.specs.declared.Fault.{Fault}
 use Rattle.walk.specs.Walk.{starts}
@@ -27,7 +26,7 @@ use Rattle.machine.specs.Alike.{returnsOf, SameTask, SameValues, Alike}
 use Rattle.machine.specs.Run.{SameHanded, Permitted}
 use Rattle.machine.specs.Each.{Calls, callsAfter, commandOf, executed, Behind, Reason, Stopped, Step, EachStep}
 use Rattle.machine.specs.declared.Cause.{Cause}
-use Rattle.machine.specs.declared.Motion.the-variants.{None}
+use Rattle.machine.specs.declared.Request.the-variants.{None}
 use Rattle.machine.specs.declared.Answer.{Answer}
 use Rattle.machine.specs.declared.Answer.the-variants.{Done, NoTask, Inputs as BadInputs, NotRunning, Differs, Halted}
 use Rattle.machine.specs.declared.Out.{Out}
@@ -38,7 +37,7 @@ pub answers-are : {os : List Out} {ds : List Did} → SameHanded os ds → map (
 answers-are SameHanded.none = refl
 answers-are (SameHanded.more a m h) = λ ι. a ι ∷ answers-are h ι
 
-pub motions-are : {os : List Out} {ds : List Did} → SameHanded os ds → map (λ (o : Out). o .motion) os ≡ map (λ (d : Did). d .motion) ds
+pub motions-are : {os : List Out} {ds : List Did} → SameHanded os ds → map (λ (o : Out). o .request) os ≡ map (λ (d : Did). d .request) ds
 motions-are SameHanded.none = refl
 motions-are (SameHanded.more a m h) = λ ι. m ι ∷ motions-are h ι
 
@@ -110,22 +109,22 @@ pub record ByRefusal (image : List ℕ) (s : State) (x : Inputs) : Type 0 where
   pub answer : step image s x .answer ≡ Halted cause (pointOf (x .task) (taskAt s (x .task)))
   pub values : step image s x .state .values ≡ noted (x .task) (x .start) (s .values)
   pub task : taskAt (step image s x .state) (x .task) ≡ stopped halted (taskAt s (x .task))
-  pub motion : step image s x .motion ≡ None
+  pub request : step image s x .request ≡ None
 
 -- or by its own 51
 pub record ByItself (image : List ℕ) (s : State) (x : Inputs) : Type 0 where
-  pub code : commandOf image s x .code ≡ hex 5 1
+  pub code : commandOf image s x .code ≡ 0x51
   pub mode : commandOf image s x .x ≡ x .task + 1
   pub answer : step image s x .answer ≡ Done
   pub task : taskAt (step image s x .state) (x .task) ≡ stopped ended (taskAt s (x .task))
 
 pub how : {image : List ℕ} {s : State} {x : Inputs} → Stopped image s x → ByRefusal image s x ⊎ ByItself image s x
-how (Stopped.byRefusal q r a v k m) = inl (record { cause = q; reason = r; answer = a; values = v; task = k; motion = m })
+how (Stopped.byRefusal q r a v k m) = inl (record { cause = q; reason = r; answer = a; values = v; task = k; request = m })
 how (Stopped.byItself c m a k) = inr (record { code = c; mode = m; answer = a; task = k })
 
 module _ {image : List ℕ} {calls : Calls} {s : State} {x : Inputs} (e : Step image calls s x) where
   -- a 53 comes to the block behind the call that is the latest
-  pub returns-to : (b : ℕ) (bs : List ℕ) → calls (x .task) ≡ b ∷ bs → executed (step image s x .answer) ≡ true → commandOf image s x .code ≡ hex 5 3
+  pub returns-to : (b : ℕ) (bs : List ℕ) → calls (x .task) ≡ b ∷ bs → executed (step image s x .answer) ≡ true → commandOf image s x .code ≡ 0x53
       → taskAt (step image s x .state) (x .task) .block ≡ b + 1
   returns-to b bs q a c = behind-is b _ bs (rw q at (e .returns a c))
 

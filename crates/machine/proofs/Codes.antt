@@ -9,7 +9,7 @@ use lib.Dec.{eqb}
 use borrow.Author.Tests.{eqb-true, eqb-false, eq-eqb, not-true}
 use Rattle.limits.specs.Limits.{bias, plc, mathematics}
 use Rattle.number.proofs.Choice.{clash, both}
-use Rattle.rows.specs.Rows.{hex, rowOf, return, startBias, startPlc, startMathematics, ending}
+use Rattle.rows.specs.Rows.{rowOf, return, startBias, startPlc, startMathematics, ending}
 use Rattle.rows.specs.Rows.{call as called}
 use Rattle.operands.specs.declared.Command.{Command}
 use Rattle.flow.specs.Flow.{flowBy, flowOf}
@@ -90,9 +90,9 @@ module _ (c : Command) (f : Flows (c .code) (rowOf (c .code) .flow)) where
       (counted (c .x) (c .word) t b calls (rowOf (c .code) .flow) (f .some) (f .known) .count)
 
   -- a 53 returns
-  pub return-flow : c .code ≡ hex 5 3 → flowOf c ≡ flow.Return
+  pub return-flow : c .code ≡ 0x53 → flowOf c ≡ flow.Return
   unfolding flowOf flowBy
-  return-flow e = rw (eqb-true (rowOf (c .code) .flow) return (sym (f .returns) ∙ eq-eqb (c .code) (hex 5 3) e)) refl
+  return-flow e = rw (eqb-true (rowOf (c .code) .flow) return (sym (f .returns) ∙ eq-eqb (c .code) 0x53 e)) refl
 
   -- a start of a task names it
   pub start-code : (u a : ℕ) → May (flowOf c) (Start u a) → starts (c .code) u ≡ true
@@ -105,7 +105,7 @@ module _ (c : Command) (f : Flows (c .code) (rowOf (c .code) .flow)) where
       names _ May.start = eq-eqb u u refl
 
   -- an end is a 51 of its own task's mode
-  pub end-code : (t : ℕ) → foreign t c ≡ false → May (flowOf c) End → (c .code ≡ hex 5 1) × (c .x ≡ t + 1)
+  pub end-code : (t : ℕ) → foreign t c ≡ false → May (flowOf c) End → (c .code ≡ 0x51) × (c .x ≡ t + 1)
   unfolding flowOf
   end-code t own m = (code, mode (ℕ-discrete (c .x) (t + 1)))
     where
@@ -115,8 +115,8 @@ module _ (c : Command) (f : Flows (c .code) (rowOf (c .code) .flow)) where
       known : (eqb (rowOf (c .code) .flow) ending && not (eqb (c .x) 0)) ≡ true
       known = sym (counted (c .x) (c .word) 0 0 noCalls (rowOf (c .code) .flow) (f .some) (f .known) .ends) ∙ ends (flowOf c) m
 
-      code : c .code ≡ hex 5 1
-      code = eqb-true (c .code) (hex 5 1) (f .ends ∙ both _ _ known .0)
+      code : c .code ≡ 0x51
+      code = eqb-true (c .code) 0x51 (f .ends ∙ both _ _ known .0)
 
       mode : Dec (c .x ≡ t + 1) → c .x ≡ t + 1
       mode (yes e) = e

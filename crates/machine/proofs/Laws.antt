@@ -34,8 +34,8 @@ use Rattle.machine.specs.Ways.{May}
 use Rattle.machine.specs.declared.Cause.{Cause}
 use Rattle.machine.specs.declared.Cause.the-variants.{ZeroDivisor, BadContent}
 use Rattle.machine.specs.declared.Effect.{Effect}
-use Rattle.machine.specs.declared.Motion.{Motion}
-use Rattle.machine.specs.declared.Motion.the-variants.{None}
+use Rattle.machine.specs.declared.Request.{Request}
+use Rattle.machine.specs.declared.Request.the-variants.{None}
 use Rattle.machine.specs.declared.Outcome.{Outcome}
 use Rattle.machine.specs.declared.Outcome.the-variants.{GoOn, Stay, Jump, Call, Return, Start, Restart, End, Halt}
 use Rattle.machine.proofs.Waits.{begins, goes-on}
@@ -111,7 +111,7 @@ pub record Lawful (k : ℕ) (c : Command) (g : Given) (v : Values) (o : Outcome)
 pub record Law (k : ℕ) (c : Command) (g : Given) (v : Values) (e : Effect) : Type 0 where
   pub outcome : Lawful k c g v (e .outcome)
   pub values : (count : ℕ) → Fit count c → GoodValues v → GoodValues (e .values)
-  pub still : isHalt (e .outcome) ≡ true → (e .values ≡ v) × (e .motion ≡ None)
+  pub still : isHalt (e .outcome) ≡ true → (e .values ≡ v) × (e .request ≡ None)
 
 -- ---- outcomes
 
@@ -180,7 +180,7 @@ module _ (k : ℕ) (c : Command) (g : Given) (v : Values) where
   halts-law q m r = flows-law (Halt q) (halts-by q m r)
 
   -- the values change, and the task goes on
-  pub effect-law : (w : Values) (m : Motion) → In GoOn → ((count : ℕ) → Fit count c → GoodValues v → GoodValues w) → Law k c g v (effect w m GoOn)
+  pub effect-law : (w : Values) (m : Request) → In GoOn → ((count : ℕ) → Fit count c → GoodValues v → GoodValues w) → Law k c g v (effect w m GoOn)
   effect-law w m further h = record { outcome = simply GoOn refl further; values = h; still = λ i. clash (sym i) }
 
   pub sets-law : (w : Values) → In GoOn → ((count : ℕ) → Fit count c → GoodValues v → GoodValues w) → Law k c g v (sets w)
@@ -192,7 +192,7 @@ module _ (k : ℕ) (c : Command) (g : Given) (v : Values) where
   pub jump-law : (t : Bool) (a : ℕ) → In (Jump a) → In GoOn → Law k c g v (jumpIf t a v)
   jump-law t a m further = flows-law (cond t (Jump a) GoOn) (either t (Jump a) GoOn (λ _. simply (Jump a) refl m) (λ _. simply GoOn refl further))
 
-  pub moves-law : (kind : Axis → Motion) → In GoOn → In (Stay 0 0) → Law k c g v (moves kind g c v)
+  pub moves-law : (kind : Axis → Request) → In GoOn → In (Stay 0 0) → Law k c g v (moves kind g c v)
   moves-law kind further again =
       either-effect (started g v) (effect (withMark 0 v) (kind (v .axis)) GoOn) (flows v (Stay 0 0))
       (λ _. effect-law (withMark 0 v) (kind (v .axis)) further (λ _ _ d. mark-good v d 0 (omega arith)))

@@ -13,7 +13,7 @@ use Rattle.arith.specs.Wrap.{wrap}
 use Rattle.arith.specs.Ops.{holds, bitAt, eqZ}
 use Rattle.arith.proofs.Cut.{wrap-fits}
 use Rattle.number.proofs.Choice.{clash, both}
-use Rattle.rows.specs.Rows.{hex, rows, rowIn, rowOf}
+use Rattle.rows.specs.Rows.{rows, rowIn, rowOf}
 use Rattle.operands.specs.declared.Command.{Command}
 use Rattle.command.specs.Judged.{inRange}
 use Rattle.flow.specs.Flow.{flowBy}
@@ -24,7 +24,7 @@ use Rattle.machine.specs.Effect.{Deed, row, effectOf, compares, flag, ou
 use Rattle.machine.specs.Effect.{rows as deeds}
 use Rattle.machine.specs.Each.{Reason}
 use Rattle.machine.specs.Ways.{May}
-use Rattle.machine.specs.declared.Motion.the-variants.{MoveTo, MoveBy, Forward, Backward}
+use Rattle.machine.specs.declared.Request.the-variants.{MoveTo, MoveBy, Forward, Backward}
 use Rattle.machine.specs.declared.Outcome.the-variants.{Jump, Call, Return, Start, Restart, End}
 use Rattle.machine.proofs.Every.{All, end, _&_}
 use Rattle.machine.proofs.Rows.{Of, effect-of}
@@ -46,10 +46,10 @@ ranges-at k count c e f = subst (λ (n : ℕ). inRange (rowOf n .ranges) count c
 -- ---- what single rows need
 
 -- 51
-ends : (c : Command) (g : Given) (v : Values) → Lawful (hex 5 1) c g v (cond (eqb (c .x) 0) Restart End)
+ends : (c : Command) (g : Given) (v : Values) → Lawful 0x51 c g v (cond (eqb (c .x) 0) Restart End)
 unfolding rowOf rowIn rows flowBy
 ends c g v =
-    either (hex 5 1) c g v (eqb (c .x) 0) Restart End (λ e. simply (hex 5 1) c g v Restart refl (rw e May.restart)) (λ e. simply (hex 5 1) c g v End refl (rw e May.end))
+    either 0x51 c g v (eqb (c .x) 0) Restart End (λ e. simply 0x51 c g v Restart refl (rw e May.restart)) (λ e. simply 0x51 c g v End refl (rw e May.end))
 
 -- 59 and 5A: the longest times
 twice : (word : ℕ) → word ≤ 65535 → 2 * word ≤ longestWait
@@ -68,63 +68,63 @@ not-zero z e i = clash (sym e ∙ ap (λ (n : ℤ). not (eqZ n (pos 0))) i)
 rows-keep : All (Of Always) deeds
 unfolding rowOf rowIn rows flowBy inRange
 rows-keep =
-    at (hex 0 0) _ (λ c e g v. moves-law (hex 0 0) c g v MoveTo May.over May.stay) &  -- 00
-    at (hex 0 1) _ (λ c e g v. moves-law (hex 0 1) c g v MoveBy May.over May.stay) &  -- 01
-    at (hex 0 3) _ (λ c e g v. moves-law (hex 0 3) c g v Forward May.over May.stay) &  -- 03
-    at (hex 0 4) _ (λ c e g v. moves-law (hex 0 4) c g v Backward May.over May.stay) &  -- 04
-    at (hex 0 14) _ (λ c e g v. sets-law (hex 0 14) c g v (withMark 1 v) May.on (λ _ _ d. mark-good v d 1 (omega arith))) &  -- 0E
-    at (hex 0 15) _ (λ c e g v. effect-law (hex 0 15) c g v v _ May.on (λ _ _ d. d)) &  -- 0F
-    at (hex 1 15) _ (λ c e g v. effect-law (hex 1 15) c g v v _ May.on (λ _ _ d. d)) &  -- 1F
-    at (hex 2 0) _ (λ c e g v. sets-law (hex 2 0) c g v (withAxis (withPosition (c .value) (v .axis)) v) May.on (λ _ f d. axis-good v d (withPosition (c .value) (v .axis)) (position-good (v .axis) (d .axis) (c .value) (f .value)))) &  -- 20
-    at (hex 2 1) _ (λ c e g v. sets-law (hex 2 1) c g v (withAxis (withSpeed (c .word) (v .axis)) v) May.on (λ n f d. axis-good v d (withSpeed (c .word) (v .axis)) (speed-good (v .axis) (d .axis) (c .word) (up-to mostSpeed (c .word) (ranges-at (hex 2 1) n c e (f .ranges)))))) &  -- 21
-    at (hex 2 2) _ (λ c e g v. sets-law (hex 2 2) c g v (withAxis (withAcceleration (c .word) (v .axis)) v) May.on (λ n f d. axis-good v d (withAcceleration (c .word) (v .axis)) (acceleration-good (v .axis) (d .axis) (c .word) (up-to mostRamp (c .word) (ranges-at (hex 2 2) n c e (f .ranges)))))) &  -- 22
-    at (hex 2 3) _ (λ c e g v. sets-law (hex 2 3) c g v (withAxis (withDeceleration (c .word) (v .axis)) v) May.on (λ n f d. axis-good v d (withDeceleration (c .word) (v .axis)) (deceleration-good (v .axis) (d .axis) (c .word) (up-to mostRamp (c .word) (ranges-at (hex 2 3) n c e (f .ranges)))))) &  -- 23
-    at (hex 3 0) _ (λ c e g v. sets-law (hex 3 0) c g v (withAxis (withPosition (variable v (c .x)) (v .axis)) v) May.on (λ _ _ d. axis-good v d (withPosition (variable v (c .x)) (v .axis)) (position-good (v .axis) (d .axis) (variable v (c .x)) (d .signed (c .x))))) &  -- 30
-    at (hex 3 1) _ (λ c e g v. parameter-law (hex 3 1) c g v mostSpeed withSpeed May.on May.halt speed-good (Reason.speed e)) &  -- 31
-    at (hex 3 2) _ (λ c e g v. parameter-law (hex 3 2) c g v mostRamp withAcceleration May.on May.halt acceleration-good (Reason.acceleration e)) &  -- 32
-    at (hex 3 3) _ (λ c e g v. parameter-law (hex 3 3) c g v mostRamp withDeceleration May.on May.halt deceleration-good (Reason.deceleration e)) &  -- 33
-    at (hex 4 0) _ (λ c e g v. assigns-law (hex 4 0) c g v (v .axis .position) May.on (λ _ _ d. d .axis .position)) &  -- 40
-    at (hex 4 1) _ (λ c e g v. assigns-law (hex 4 1) c g v (pos (v .axis .speed)) May.on (λ _ _ d. small-fits mostSpeed (v .axis .speed) (omega arith) (d .axis .speed))) &  -- 41
-    at (hex 4 2) _ (λ c e g v. assigns-law (hex 4 2) c g v (pos (v .axis .acceleration)) May.on (λ _ _ d. small-fits mostRamp (v .axis .acceleration) (omega arith) (d .axis .acceleration))) &  -- 42
-    at (hex 4 3) _ (λ c e g v. assigns-law (hex 4 3) c g v (pos (v .axis .deceleration)) May.on (λ _ _ d. small-fits mostRamp (v .axis .deceleration) (omega arith) (d .axis .deceleration))) &  -- 43
-    at (hex 5 0) _ (λ c e g v. sets-law (hex 5 0) c g v v May.on (λ _ _ d. d)) &  -- 50
-    at (hex 5 1) _ (λ c e g v. flows-law (hex 5 1) c g v (cond (eqb (c .x) 0) Restart End) (ends c g v)) &  -- 51
-    at (hex 5 2) _ (λ c e g v. flows-law (hex 5 2) c g v (Call (c .word)) (simply (hex 5 2) c g v (Call (c .word)) refl May.call)) &  -- 52
-    at (hex 5 3) _ (λ c e g v. flows-law (hex 5 3) c g v Return (simply (hex 5 3) c g v Return refl May.return)) &  -- 53
-    at (hex 5 4) _ (λ c e g v. flows-law (hex 5 4) c g v (Start plc (c .word)) (simply (hex 5 4) c g v (Start plc (c .word)) refl May.start)) &  -- 54
-    at (hex 5 5) _ (λ c e g v. flows-law (hex 5 5) c g v (Jump (c .word)) (simply (hex 5 5) c g v (Jump (c .word)) refl May.jump)) &  -- 55
-    at (hex 5 7) _ (λ c e g v. flows-law (hex 5 7) c g v (Start bias (c .word)) (simply (hex 5 7) c g v (Start bias (c .word)) refl May.start)) &  -- 57
-    at (hex 5 8) _ (λ c e g v. stays-law (hex 5 8) c g v (isSet (g .reached)) May.over May.stay) &  -- 58
-    at (hex 5 9) _ (λ c e g v. flows-law (hex 5 9) c g v (waits (2 * c .word) g) (waits-lawful (hex 5 9) c g v (2 * c .word) refl May.over (λ _ _. May.stay) (λ _ _ f. twice (c .word) (f .word)))) &  -- 59
-    at (hex 5 10) _ (λ c e g v. waits-variable-law (hex 5 10) c g v refl May.over (λ _ _. May.stay) May.refuse (Reason.waiting e) (λ _. short (g .model) (variable v (c .x)))) &  -- 5A
-    at (hex 9 0) _ (λ c e g v. flows-law (hex 9 0) c g v (Start mathematics (c .word)) (simply (hex 9 0) c g v (Start mathematics (c .word)) refl May.start)) &  -- 90
-    at (hex 6 0) _ (λ c e g v. sets-law (hex 6 0) c g v (withFlag (c .x) (c .y) v) May.on (λ n f d. flag-good v d (c .x) (c .y) (leb-true (c .y) mostLevel (ranges-at (hex 6 0) n c e (f .ranges))))) &  -- 60
-    at (hex 6 1) _ (λ c e g v. jump-law (hex 6 1) c g v (compares (c .y) (flag v (c .x)) (c .z)) (c .word) May.branch May.pass) &  -- 61
-    at (hex 6 2) _ (λ c e g v. sets-law (hex 6 2) c g v (withFlag (c .x) (flag v (c .y)) v) May.on (λ _ _ d. flag-good v d (c .x) (flag v (c .y)) (d .flag (c .y)))) &  -- 62
-    at (hex 6 3) _ (λ c e g v. sets-law (hex 6 3) c g v (withFlag (c .x) (inputAt g (c .y)) v) May.on (λ _ _ d. flag-good v d (c .x) (inputAt g (c .y)) (level-level (getD (g .levels) (c .y) 0)))) &  -- 63
-    at (hex 6 4) _ (λ c e g v. sets-law (hex 6 4) c g v (withFlag (c .x) (output v (c .y)) v) May.on (λ _ _ d. flag-good v d (c .x) (output v (c .y)) (d .output (c .y)))) &  -- 64
-    at (hex 6 5) _ (λ c e g v. sets-law (hex 6 5) c g v (withFlag (c .x) (bit (isSet (flag v (c .y)) && isSet (flag v (c .z)))) v) May.on (λ _ _ d. flag-good v d (c .x) (bit (isSet (flag v (c .y)) && isSet (flag v (c .z)))) (bit-level (isSet (flag v (c .y)) && isSet (flag v (c .z)))))) &  -- 65
-    at (hex 6 6) _ (λ c e g v. sets-law (hex 6 6) c g v (withFlag (c .x) (bit (isSet (flag v (c .y)) || isSet (flag v (c .z)))) v) May.on (λ _ _ d. flag-good v d (c .x) (bit (isSet (flag v (c .y)) || isSet (flag v (c .z)))) (bit-level (isSet (flag v (c .y)) || isSet (flag v (c .z)))))) &  -- 66
-    at (hex 6 7) _ (λ c e g v. sets-law (hex 6 7) c g v (withFlag (c .x) (bit (not (eqb (flag v (c .y)) (flag v (c .z))))) v) May.on (λ _ _ d. flag-good v d (c .x) (bit (not (eqb (flag v (c .y)) (flag v (c .z))))) (bit-level (not (eqb (flag v (c .y)) (flag v (c .z))))))) &  -- 67
-    at (hex 6 8) _ (λ c e g v. sets-law (hex 6 8) c g v (withFlag (c .x) (bit (not (isSet (flag v (c .y))))) v) May.on (λ _ _ d. flag-good v d (c .x) (bit (not (isSet (flag v (c .y))))) (bit-level (not (isSet (flag v (c .y))))))) &  -- 68
-    at (hex 6 14) _ (λ c e g v. jump-law (hex 6 14) c g v (compares (c .z) (bit (bitAt w32 (c .y) (variable v (c .x)))) 0) (c .word) May.branch May.pass) &  -- 6E
-    at (hex 7 0) _ (λ c e g v. jump-law (hex 7 0) c g v (compares (c .y) (inputAt g (c .x)) (c .z)) (c .word) May.branch May.pass) &  -- 70
-    at (hex 7 1) _ (λ c e g v. jump-law (hex 7 1) c g v (compares (c .y) (output v (c .x)) (c .z)) (c .word) May.branch May.pass) &  -- 71
-    at (hex 7 2) _ (λ c e g v. sets-law (hex 7 2) c g v (withOutput (c .x) (c .y) v) May.on (λ n f d. output-good v d (c .x) (c .y) (leb-true (c .y) mostLevel (ranges-at (hex 7 2) n c e (f .ranges))))) &  -- 72
-    at (hex 7 3) _ (λ c e g v. sets-law (hex 7 3) c g v (withOutput (c .x) (flag v (c .y)) v) May.on (λ _ _ d. output-good v d (c .x) (flag v (c .y)) (d .flag (c .y)))) &  -- 73
-    at (hex 8 0) _ (λ c e g v. assigns-law (hex 8 0) c g v (c .value) May.on (λ _ f _. f .value)) &  -- 80
-    at (hex 8 1) _ (λ c e g v. jump-law (hex 8 1) c g v (holds (c .y) (variable v (c .x)) (c .value)) (c .word) May.branch May.pass) &  -- 81
-    at (hex 8 2) _ (λ c e g v. assigns-law (hex 8 2) c g v (wrap w32 (variable v (c .y) +ℤ c .value)) May.on (λ _ _ _. wrap-fits w32 (variable v (c .y) +ℤ c .value))) &  -- 82
-    at (hex 8 3) _ (λ c e g v. assigns-law (hex 8 3) c g v (wrap w32 (variable v (c .y) -ℤ c .value)) May.on (λ _ _ _. wrap-fits w32 (variable v (c .y) -ℤ c .value))) &  -- 83
-    at (hex 8 4) _ (λ c e g v. assigns-law (hex 8 4) c g v (wrap w32 (variable v (c .y) *ℤ c .value)) May.on (λ _ _ _. wrap-fits w32 (variable v (c .y) *ℤ c .value))) &  -- 84
-    at (hex 8 5) _ (λ c e g v. divides-law (hex 8 5) c g v (variable v (c .y)) (c .value) May.on May.halt (λ z n f. absurd (not-zero (c .value) (ranges-at (hex 8 5) n c e f) z))) &  -- 85
-    at (hex 8 6) _ (λ c e g v. assigns-law (hex 8 6) c g v (wrap w32 (pos (flagNumber (v .flags) (c .y) (c .z)))) May.on (λ _ _ _. wrap-fits w32 (pos (flagNumber (v .flags) (c .y) (c .z))))) &  -- 86
-    at (hex 8 8) _ (λ c e g v. assigns-law (hex 8 8) c g v (variable v (c .y)) May.on (λ _ _ d. d .signed (c .y))) &  -- 88
-    at (hex 8 9) _ (λ c e g v. jump-law (hex 8 9) c g v (holds (c .y) (variable v (c .x)) (variable v (c .z))) (c .word) May.branch May.pass) &  -- 89
-    at (hex 8 10) _ (λ c e g v. assigns-law (hex 8 10) c g v (wrap w32 (variable v (c .y) +ℤ variable v (c .z))) May.on (λ _ _ _. wrap-fits w32 (variable v (c .y) +ℤ variable v (c .z)))) &  -- 8A
-    at (hex 8 11) _ (λ c e g v. assigns-law (hex 8 11) c g v (wrap w32 (variable v (c .y) -ℤ variable v (c .z))) May.on (λ _ _ _. wrap-fits w32 (variable v (c .y) -ℤ variable v (c .z)))) &  -- 8B
-    at (hex 8 12) _ (λ c e g v. assigns-law (hex 8 12) c g v (wrap w32 (variable v (c .y) *ℤ variable v (c .z))) May.on (λ _ _ _. wrap-fits w32 (variable v (c .y) *ℤ variable v (c .z)))) &  -- 8C
-    at (hex 8 13) _ (λ c e g v. divides-law (hex 8 13) c g v (variable v (c .y)) (variable v (c .z)) May.on May.halt (λ z _ _. Reason.divisor e z)) &  -- 8D
+    at 0x00 _ (λ c e g v. moves-law 0x00 c g v MoveTo May.over May.stay) &
+    at 0x01 _ (λ c e g v. moves-law 0x01 c g v MoveBy May.over May.stay) &
+    at 0x03 _ (λ c e g v. moves-law 0x03 c g v Forward May.over May.stay) &
+    at 0x04 _ (λ c e g v. moves-law 0x04 c g v Backward May.over May.stay) &
+    at 0x0E _ (λ c e g v. sets-law 0x0E c g v (withMark 1 v) May.on (λ _ _ d. mark-good v d 1 (omega arith))) &
+    at 0x0F _ (λ c e g v. effect-law 0x0F c g v v _ May.on (λ _ _ d. d)) &
+    at 0x1F _ (λ c e g v. effect-law 0x1F c g v v _ May.on (λ _ _ d. d)) &
+    at 0x20 _ (λ c e g v. sets-law 0x20 c g v (withAxis (withPosition (c .value) (v .axis)) v) May.on (λ _ f d. axis-good v d (withPosition (c .value) (v .axis)) (position-good (v .axis) (d .axis) (c .value) (f .value)))) &
+    at 0x21 _ (λ c e g v. sets-law 0x21 c g v (withAxis (withSpeed (c .word) (v .axis)) v) May.on (λ n f d. axis-good v d (withSpeed (c .word) (v .axis)) (speed-good (v .axis) (d .axis) (c .word) (up-to mostSpeed (c .word) (ranges-at 0x21 n c e (f .ranges)))))) &
+    at 0x22 _ (λ c e g v. sets-law 0x22 c g v (withAxis (withAcceleration (c .word) (v .axis)) v) May.on (λ n f d. axis-good v d (withAcceleration (c .word) (v .axis)) (acceleration-good (v .axis) (d .axis) (c .word) (up-to mostRamp (c .word) (ranges-at 0x22 n c e (f .ranges)))))) &
+    at 0x23 _ (λ c e g v. sets-law 0x23 c g v (withAxis (withDeceleration (c .word) (v .axis)) v) May.on (λ n f d. axis-good v d (withDeceleration (c .word) (v .axis)) (deceleration-good (v .axis) (d .axis) (c .word) (up-to mostRamp (c .word) (ranges-at 0x23 n c e (f .ranges)))))) &
+    at 0x30 _ (λ c e g v. sets-law 0x30 c g v (withAxis (withPosition (variable v (c .x)) (v .axis)) v) May.on (λ _ _ d. axis-good v d (withPosition (variable v (c .x)) (v .axis)) (position-good (v .axis) (d .axis) (variable v (c .x)) (d .signed (c .x))))) &
+    at 0x31 _ (λ c e g v. parameter-law 0x31 c g v mostSpeed withSpeed May.on May.halt speed-good (Reason.speed e)) &
+    at 0x32 _ (λ c e g v. parameter-law 0x32 c g v mostRamp withAcceleration May.on May.halt acceleration-good (Reason.acceleration e)) &
+    at 0x33 _ (λ c e g v. parameter-law 0x33 c g v mostRamp withDeceleration May.on May.halt deceleration-good (Reason.deceleration e)) &
+    at 0x40 _ (λ c e g v. assigns-law 0x40 c g v (v .axis .position) May.on (λ _ _ d. d .axis .position)) &
+    at 0x41 _ (λ c e g v. assigns-law 0x41 c g v (pos (v .axis .speed)) May.on (λ _ _ d. small-fits mostSpeed (v .axis .speed) (omega arith) (d .axis .speed))) &
+    at 0x42 _ (λ c e g v. assigns-law 0x42 c g v (pos (v .axis .acceleration)) May.on (λ _ _ d. small-fits mostRamp (v .axis .acceleration) (omega arith) (d .axis .acceleration))) &
+    at 0x43 _ (λ c e g v. assigns-law 0x43 c g v (pos (v .axis .deceleration)) May.on (λ _ _ d. small-fits mostRamp (v .axis .deceleration) (omega arith) (d .axis .deceleration))) &
+    at 0x50 _ (λ c e g v. sets-law 0x50 c g v v May.on (λ _ _ d. d)) &
+    at 0x51 _ (λ c e g v. flows-law 0x51 c g v (cond (eqb (c .x) 0) Restart End) (ends c g v)) &
+    at 0x52 _ (λ c e g v. flows-law 0x52 c g v (Call (c .word)) (simply 0x52 c g v (Call (c .word)) refl May.call)) &
+    at 0x53 _ (λ c e g v. flows-law 0x53 c g v Return (simply 0x53 c g v Return refl May.return)) &
+    at 0x54 _ (λ c e g v. flows-law 0x54 c g v (Start plc (c .word)) (simply 0x54 c g v (Start plc (c .word)) refl May.start)) &
+    at 0x55 _ (λ c e g v. flows-law 0x55 c g v (Jump (c .word)) (simply 0x55 c g v (Jump (c .word)) refl May.jump)) &
+    at 0x57 _ (λ c e g v. flows-law 0x57 c g v (Start bias (c .word)) (simply 0x57 c g v (Start bias (c .word)) refl May.start)) &
+    at 0x58 _ (λ c e g v. stays-law 0x58 c g v (isSet (g .reached)) May.over May.stay) &
+    at 0x59 _ (λ c e g v. flows-law 0x59 c g v (waits (2 * c .word) g) (waits-lawful 0x59 c g v (2 * c .word) refl May.over (λ _ _. May.stay) (λ _ _ f. twice (c .word) (f .word)))) &
+    at 0x5A _ (λ c e g v. waits-variable-law 0x5A c g v refl May.over (λ _ _. May.stay) May.refuse (Reason.waiting e) (λ _. short (g .model) (variable v (c .x)))) &
+    at 0x60 _ (λ c e g v. sets-law 0x60 c g v (withFlag (c .x) (c .y) v) May.on (λ n f d. flag-good v d (c .x) (c .y) (leb-true (c .y) mostLevel (ranges-at 0x60 n c e (f .ranges))))) &
+    at 0x61 _ (λ c e g v. jump-law 0x61 c g v (compares (c .y) (flag v (c .x)) (c .z)) (c .word) May.branch May.pass) &
+    at 0x62 _ (λ c e g v. sets-law 0x62 c g v (withFlag (c .x) (flag v (c .y)) v) May.on (λ _ _ d. flag-good v d (c .x) (flag v (c .y)) (d .flag (c .y)))) &
+    at 0x63 _ (λ c e g v. sets-law 0x63 c g v (withFlag (c .x) (inputAt g (c .y)) v) May.on (λ _ _ d. flag-good v d (c .x) (inputAt g (c .y)) (level-level (getD (g .levels) (c .y) 0)))) &
+    at 0x64 _ (λ c e g v. sets-law 0x64 c g v (withFlag (c .x) (output v (c .y)) v) May.on (λ _ _ d. flag-good v d (c .x) (output v (c .y)) (d .output (c .y)))) &
+    at 0x65 _ (λ c e g v. sets-law 0x65 c g v (withFlag (c .x) (bit (isSet (flag v (c .y)) && isSet (flag v (c .z)))) v) May.on (λ _ _ d. flag-good v d (c .x) (bit (isSet (flag v (c .y)) && isSet (flag v (c .z)))) (bit-level (isSet (flag v (c .y)) && isSet (flag v (c .z)))))) &
+    at 0x66 _ (λ c e g v. sets-law 0x66 c g v (withFlag (c .x) (bit (isSet (flag v (c .y)) || isSet (flag v (c .z)))) v) May.on (λ _ _ d. flag-good v d (c .x) (bit (isSet (flag v (c .y)) || isSet (flag v (c .z)))) (bit-level (isSet (flag v (c .y)) || isSet (flag v (c .z)))))) &
+    at 0x67 _ (λ c e g v. sets-law 0x67 c g v (withFlag (c .x) (bit (not (eqb (flag v (c .y)) (flag v (c .z))))) v) May.on (λ _ _ d. flag-good v d (c .x) (bit (not (eqb (flag v (c .y)) (flag v (c .z))))) (bit-level (not (eqb (flag v (c .y)) (flag v (c .z))))))) &
+    at 0x68 _ (λ c e g v. sets-law 0x68 c g v (withFlag (c .x) (bit (not (isSet (flag v (c .y))))) v) May.on (λ _ _ d. flag-good v d (c .x) (bit (not (isSet (flag v (c .y))))) (bit-level (not (isSet (flag v (c .y))))))) &
+    at 0x6E _ (λ c e g v. jump-law 0x6E c g v (compares (c .z) (bit (bitAt w32 (c .y) (variable v (c .x)))) 0) (c .word) May.branch May.pass) &
+    at 0x70 _ (λ c e g v. jump-law 0x70 c g v (compares (c .y) (inputAt g (c .x)) (c .z)) (c .word) May.branch May.pass) &
+    at 0x71 _ (λ c e g v. jump-law 0x71 c g v (compares (c .y) (output v (c .x)) (c .z)) (c .word) May.branch May.pass) &
+    at 0x72 _ (λ c e g v. sets-law 0x72 c g v (withOutput (c .x) (c .y) v) May.on (λ n f d. output-good v d (c .x) (c .y) (leb-true (c .y) mostLevel (ranges-at 0x72 n c e (f .ranges))))) &
+    at 0x73 _ (λ c e g v. sets-law 0x73 c g v (withOutput (c .x) (flag v (c .y)) v) May.on (λ _ _ d. output-good v d (c .x) (flag v (c .y)) (d .flag (c .y)))) &
+    at 0x80 _ (λ c e g v. assigns-law 0x80 c g v (c .value) May.on (λ _ f _. f .value)) &
+    at 0x81 _ (λ c e g v. jump-law 0x81 c g v (holds (c .y) (variable v (c .x)) (c .value)) (c .word) May.branch May.pass) &
+    at 0x82 _ (λ c e g v. assigns-law 0x82 c g v (wrap w32 (variable v (c .y) +ℤ c .value)) May.on (λ _ _ _. wrap-fits w32 (variable v (c .y) +ℤ c .value))) &
+    at 0x83 _ (λ c e g v. assigns-law 0x83 c g v (wrap w32 (variable v (c .y) -ℤ c .value)) May.on (λ _ _ _. wrap-fits w32 (variable v (c .y) -ℤ c .value))) &
+    at 0x84 _ (λ c e g v. assigns-law 0x84 c g v (wrap w32 (variable v (c .y) *ℤ c .value)) May.on (λ _ _ _. wrap-fits w32 (variable v (c .y) *ℤ c .value))) &
+    at 0x85 _ (λ c e g v. divides-law 0x85 c g v (variable v (c .y)) (c .value) May.on May.halt (λ z n f. absurd (not-zero (c .value) (ranges-at 0x85 n c e f) z))) &
+    at 0x86 _ (λ c e g v. assigns-law 0x86 c g v (wrap w32 (pos (flagNumber (v .flags) (c .y) (c .z)))) May.on (λ _ _ _. wrap-fits w32 (pos (flagNumber (v .flags) (c .y) (c .z))))) &
+    at 0x88 _ (λ c e g v. assigns-law 0x88 c g v (variable v (c .y)) May.on (λ _ _ d. d .signed (c .y))) &
+    at 0x89 _ (λ c e g v. jump-law 0x89 c g v (holds (c .y) (variable v (c .x)) (variable v (c .z))) (c .word) May.branch May.pass) &
+    at 0x8A _ (λ c e g v. assigns-law 0x8A c g v (wrap w32 (variable v (c .y) +ℤ variable v (c .z))) May.on (λ _ _ _. wrap-fits w32 (variable v (c .y) +ℤ variable v (c .z)))) &
+    at 0x8B _ (λ c e g v. assigns-law 0x8B c g v (wrap w32 (variable v (c .y) -ℤ variable v (c .z))) May.on (λ _ _ _. wrap-fits w32 (variable v (c .y) -ℤ variable v (c .z)))) &
+    at 0x8C _ (λ c e g v. assigns-law 0x8C c g v (wrap w32 (variable v (c .y) *ℤ variable v (c .z))) May.on (λ _ _ _. wrap-fits w32 (variable v (c .y) *ℤ variable v (c .z)))) &
+    at 0x8D _ (λ c e g v. divides-law 0x8D c g v (variable v (c .y)) (variable v (c .z)) May.on May.halt (λ z _ _. Reason.divisor e z)) &
+    at 0x90 _ (λ c e g v. flows-law 0x90 c g v (Start mathematics (c .word)) (simply 0x90 c g v (Start mathematics (c .word)) refl May.start)) &
     end
 
 -- the law of every command that is carried

@@ -91,7 +91,7 @@ module _ (image : List ℕ) where
     pub handed : (s : State) (m : Machine) → Agree image s m → (xs : List Inputs) → SameHanded (outs image s xs) (dids image m xs)
     unfolding outs dids
     handed s m g [] = SameHanded.none
-    handed s m g (x ∷ xs) = let k = step-same image ok s m g x in SameHanded.more (k .answer) (k .motion) (handed (step image s x .state) (turn image m x .machine) (k .agree) xs)
+    handed s m g (x ∷ xs) = let k = step-same image ok s m g x in SameHanded.more (k .answer) (k .request) (handed (step image s x .state) (turn image m x .machine) (k .agree) xs)
 
     pub kept : (s : State) (m : Machine) → Agree image s m → (xs : List Inputs) → Agree image (stateAfter image s xs) (machineAfter image m xs)
     unfolding stateAfter machineAfter

@@ -39,7 +39,7 @@ answers-same (Halt q) t k p e f = rw (e, f)
 module _ (image : List ℕ) where
   pub record SameStep (o : Out) (d : Did) : Type 0 where
     pub agree : Agree image (o .state) (d .machine)
-    pub motion : o .motion ≡ d .motion
+    pub request : o .request ≡ d .request
     pub answer : o .answer ≡ d .answer
 
   module _ (ok : Accepted image) (s : State) (m : Machine) (g : Agree image s m) (x : Inputs) where
@@ -64,7 +64,7 @@ module _ (image : List ℕ) where
         both = rw (g .header) (turned image ok (s .tasks) (m .threads) (g .both) t (r .task) (r .running) (e .outcome) f w);
         values = noted-alike s x k e;
       };
-      motion = refl;
+      request = refl;
       answer = answers-same (e .outcome) t k p (g .both .same t (r .task) .block (r .running)) (r .depth);
     }
 
@@ -73,5 +73,5 @@ module _ (image : List ℕ) where
     step-same = go (step-case image ok s m g x)
       where
         go : Case image s m x → SameStep (step image s x) (turn image m x)
-        go (Case.refused a n i j) = rw (i, j) (record { agree = g; motion = refl; answer = refl })
+        go (Case.refused a n i j) = rw (i, j) (record { agree = g; request = refl; answer = refl })
         go (Case.ran r) = rw (r .engine, r .reference) (done-same r (effectHere image s x) (r .law .outcome .flow) (r .law .outcome .calm))

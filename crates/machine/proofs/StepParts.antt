@@ -12,7 +12,7 @@ use lib.Seq.{getD-set-same, getD-set-other}
 use borrow.Author.Tests.{eqb-false, eq-eqb, ne-eqb}
 use Rattle.limits.specs.Limits.{taskCount}
 use Rattle.number.proofs.Choice.{clash}
-use Rattle.rows.specs.Rows.{hex, rowOf}
+use Rattle.rows.specs.Rows.{rowOf}
 use Rattle.operands.specs.declared.Command.{Command}
 use Rattle.flow.specs.Flow.{flowOf}
 use Rattle.point.specs.Fault.{noCall}
@@ -204,9 +204,9 @@ module _ (image : List ℕ) (ok : Accepted image) (s : State) (m : Machine) (g :
     unfolding performed
     values-are = ap (λ (q : Out). q .state .values) (r .engine)
 
-    motion-is : step image s x .motion ≡ effectHere image s x .motion
+    request-is : step image s x .request ≡ effectHere image s x .request
     unfolding performed
-    motion-is = ap (λ (q : Out). q .motion) (r .engine)
+    request-is = ap (λ (q : Out). q .request) (r .engine)
 
     threads-are : turn image m x .machine .threads ≡ follows t (threadOf image m x) o (m .threads)
     unfolding does
@@ -222,7 +222,7 @@ module _ (image : List ℕ) (ok : Accepted image) (s : State) (m : Machine) (g :
         let l = r .task in
         rw (calls-are, threads-are) (follows-count calls (m .threads) t b (omega arith) (g .both .same t (r .task) .block (r .running)) n (flowOf c) o in-flow)
 
-    part4 : c .code ≡ hex 5 3 → Behind (calls t) (taskAt (step image s x .state) t .block)
+    part4 : c .code ≡ 0x53 → Behind (calls t) (taskAt (step image s x .state) t .block)
     part4 e =
         let f = return-flow c flows e in
         let i = return-only o (subst (λ (q : Flow). May q o) f in-flow) in
@@ -255,7 +255,7 @@ module _ (image : List ℕ) (ok : Accepted image) (s : State) (m : Machine) (g :
     stopped-by (inr (j, e)) =
         let q = r .law .still (rw e refl) in
         Stopped.byRefusal j (subst (Halting c (s .values) (k .time)) e (r .law .outcome .halt (hd image .count) ranged)) (answer-is ∙ rw e refl)
-        (values-are ∙ ap (noted t (x .start)) (q .0)) (stays-put (stopped halted k) (rw e refl)) (motion-is ∙ q .1)
+        (values-are ∙ ap (noted t (x .start)) (q .0)) (stays-put (stopped halted k) (rw e refl)) (request-is ∙ q .1)
 
     part5 : (u : ℕ) → u < taskCount → taskAt s u .status ≡ runs → (taskAt (step image s x .state) u .status ≡ runs → ⊥) → (u ≡ t) × Stopped image s x
     part5 u l a z = go (ℕ-discrete u t)

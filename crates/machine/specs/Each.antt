@@ -9,7 +9,6 @@ use lib.Dec.{eqb}
 use lib.IntN.{pos}
 use Rattle.limits.specs.Limits.{bias, plc, mathematics, taskCount, mostSpeed, mostRamp, mostTime}
 use Rattle.image.specs.Scan.{blocksOf}
-use Rattle.rows.specs.Rows.{hex}
 use Rattle.operands.specs.declared.Command.{Command}
 use Rattle.walk.specs.Program.{commandAt}
 use Rattle.walk.specs.Walk.{starts}
@@ -21,7 +20,7 @@ use Rattle.machine.specs.Effect.{variable, within}
 use Rattle.machine.specs.Engine.{step, pointOf, noted, stopped}
 use Rattle.machine.specs.declared.Cause.{Cause}
 use Rattle.machine.specs.declared.Cause.the-variants.{ZeroDivisor, BadContent}
-use Rattle.machine.specs.declared.Motion.the-variants.{None}
+use Rattle.machine.specs.declared.Request.the-variants.{None}
 use Rattle.machine.specs.declared.Answer.{Answer}
 use Rattle.machine.specs.declared.Answer.the-variants.{Done, NoTask, Inputs as BadInputs, NotRunning, Differs, Halted}
 
@@ -58,12 +57,12 @@ withoutLatest (b ∷ bs) = bs
 -- without any, and so does a return to start (51, mode 0) its own
 unfoldable pub counts : Command → ℕ → ℕ → Calls → Calls
 counts c t b calls =
-    cond (eqb (c .code) (hex 5 2)) (withCalls t (b ∷ calls t) calls)
-    (cond (eqb (c .code) (hex 5 3)) (withCalls t (withoutLatest (calls t)) calls)
-    (cond (eqb (c .code) (hex 5 4)) (withCalls plc [] calls)
-    (cond (eqb (c .code) (hex 5 7)) (withCalls bias [] calls)
-    (cond (eqb (c .code) (hex 9 0)) (withCalls mathematics [] calls)
-    (cond (eqb (c .code) (hex 5 1) && eqb (c .x) 0) (withCalls t [] calls) calls)))))
+    cond (eqb (c .code) 0x52) (withCalls t (b ∷ calls t) calls)
+    (cond (eqb (c .code) 0x53) (withCalls t (withoutLatest (calls t)) calls)
+    (cond (eqb (c .code) 0x54) (withCalls plc [] calls)
+    (cond (eqb (c .code) 0x57) (withCalls bias [] calls)
+    (cond (eqb (c .code) 0x90) (withCalls mathematics [] calls)
+    (cond (eqb (c .code) 0x51 && eqb (c .x) 0) (withCalls t [] calls) calls)))))
 
 -- after a step
 unfoldable pub callsAfter : List ℕ → State → Inputs → Calls → Calls
@@ -80,29 +79,29 @@ pub data Behind : List ℕ → ℕ → Type 0 where
 -- 19 or 20, of a command c that a task executes with a wait of `time` pending (0: none)
 pub data Reason (c : Command) (v : Values) (time : ℕ) : Cause → Type 0 where
   -- 8D, and the divisor variable holds 0
-  divisor : c .code ≡ hex 8 13 → variable v (c .z) ≡ pos 0 → Reason c v time ZeroDivisor
+  divisor : c .code ≡ 0x8D → variable v (c .z) ≡ pos 0 → Reason c v time ZeroDivisor
   -- 31 to 33, and the variable is out of the parameter's range
-  speed : c .code ≡ hex 3 1 → within 1 mostSpeed (variable v (c .x)) ≡ false → Reason c v time BadContent
-  acceleration : c .code ≡ hex 3 2 → within 1 mostRamp (variable v (c .x)) ≡ false → Reason c v time BadContent
-  deceleration : c .code ≡ hex 3 3 → within 1 mostRamp (variable v (c .x)) ≡ false → Reason c v time BadContent
+  speed : c .code ≡ 0x31 → within 1 mostSpeed (variable v (c .x)) ≡ false → Reason c v time BadContent
+  acceleration : c .code ≡ 0x32 → within 1 mostRamp (variable v (c .x)) ≡ false → Reason c v time BadContent
+  deceleration : c .code ≡ 0x33 → within 1 mostRamp (variable v (c .x)) ≡ false → Reason c v time BadContent
   -- 5A at its first step, and the variable is out of the range of times
-  waiting : c .code ≡ hex 5 10 → time ≡ 0 → within 0 mostTime (variable v (c .x)) ≡ false → Reason c v time BadContent
+  waiting : c .code ≡ 0x5A → time ≡ 0 → within 0 mostTime (variable v (c .x)) ≡ false → Reason c v time BadContent
 
 -- the step's task stopped, and why
 pub data Stopped (image : List ℕ) (s : State) (x : Inputs) : Type 0 where
   -- it halted by 19 or 20 at its point, keeping block, start and call stack; no value changed but BIAS's noted start level, and no motion is asked for
   byRefusal : (q : Cause) → Reason (commandOf image s x) (s .values) (taskAt s (x .task) .time) q
       → step image s x .answer ≡ Halted q (pointOf (x .task) (taskAt s (x .task))) → step image s x .state .values ≡ noted (x .task) (x .start) (s .values)
-      → taskAt (step image s x .state) (x .task) ≡ stopped halted (taskAt s (x .task)) → step image s x .motion ≡ None → Stopped image s x
+      → taskAt (step image s x .state) (x .task) ≡ stopped halted (taskAt s (x .task)) → step image s x .request ≡ None → Stopped image s x
   -- it ended by a 51 of its own mode, keeping the same
-  byItself : commandOf image s x .code ≡ hex 5 1 → commandOf image s x .x ≡ x .task + 1 → step image s x .answer ≡ Done
+  byItself : commandOf image s x .code ≡ 0x51 → commandOf image s x .x ≡ x .task + 1 → step image s x .answer ≡ Done
       → taskAt (step image s x .state) (x .task) ≡ stopped ended (taskAt s (x .task)) → Stopped image s x
 
 -- ---- a step, and every step of a list
 
 pub record Step (image : List ℕ) (calls : Calls) (s : State) (x : Inputs) : Type 0 where
   -- part 4
-  pub returns : executed (step image s x .answer) ≡ true → commandOf image s x .code ≡ hex 5 3 → Behind (calls (x .task)) (taskAt (step image s x .state) (x .task) .block)
+  pub returns : executed (step image s x .answer) ≡ true → commandOf image s x .code ≡ 0x53 → Behind (calls (x .task)) (taskAt (step image s x .state) (x .task) .block)
   -- part 5
   pub stops : (t : ℕ) → t < taskCount → taskAt s t .status ≡ runs → (taskAt (step image s x .state) t .status ≡ runs → ⊥) → (t ≡ x .task) × Stopped image s x
   -- part 6: status, block, start, call stack and wait of another task stay, or 54, 57 or 90 names it

@@ -15,15 +15,14 @@ use Rattle.arith.specs.Ops.{quotient, holds, bitAt}
 use Rattle.arith.specs.declared.Quotient.{Quotient}
 use Rattle.arith.specs.declared.Quotient.the-variants.{Value, ByZero}
 use Rattle.drive.specs.Types.{type637Plus}
-use Rattle.rows.specs.Rows.{hex}
 use Rattle.operands.specs.declared.Command.{Command}
 use Rattle.state.specs.State.{withVariable, withFlag, withOutput, withAxis, withMark, withPosition, withSpeed, withAcceleration, withDeceleration}
 use Rattle.state.specs.Wait.{due}
 use Rattle.state.specs.declared.Axis.{Axis}
 use Rattle.state.specs.declared.Values.{Values}
 use Rattle.machine.specs.Given.{Given, inputAt}
-use Rattle.machine.specs.declared.Motion.{Motion}
-use Rattle.machine.specs.declared.Motion.the-variants.{None, MoveTo, MoveBy, Forward, Backward, Stop}
+use Rattle.machine.specs.declared.Request.{Request}
+use Rattle.machine.specs.declared.Request.the-variants.{None, MoveTo, MoveBy, Forward, Backward, Stop}
 use Rattle.machine.specs.declared.Cause.{Cause}
 use Rattle.machine.specs.declared.Cause.the-variants.{ZeroDivisor, BadContent}
 use Rattle.machine.specs.declared.Outcome.{Outcome}
@@ -32,8 +31,8 @@ use Rattle.machine.specs.declared.Effect.{Effect}
 
 -- ---- forms of effects
 
-abbrev pub effect : Values → Motion → Outcome → Effect
-effect v m o = record { values = v; motion = m; outcome = o }
+abbrev pub effect : Values → Request → Outcome → Effect
+effect v m o = record { values = v; request = m; outcome = o }
 
 -- the values change, and the task goes on
 abbrev pub sets : Values → Effect
@@ -91,7 +90,7 @@ compares condition a b = cond (eqb condition 0) (eqb a b) (not (eqb a b))
 abbrev pub started : Given → Values → Bool
 started g v = isSet (v .mark) || (isSet (g .start) && eqb (v .notes .level) 0)
 
-abbrev pub moves : (Axis → Motion) → Deed
+abbrev pub moves : (Axis → Request) → Deed
 moves kind g c v = cond (started g v) (effect (withMark 0 v) (kind (v .axis)) GoOn) (flows v (Stay 0 0))
 
 -- a wait of T ms: at the first step T is taken with k = 0, at each later one k grows by one
@@ -142,82 +141,87 @@ row code deed = record { code = code; deed = deed }
 -- motion and parameters
 abbrev pub axisRows : List Row
 axisRows =
-    row (hex 0 0) (moves MoveTo) ∷  -- 00, p. 30
-    row (hex 0 1) (moves MoveBy) ∷  -- 01, p. 31
-    row (hex 0 3) (moves Forward) ∷  -- 03, p. 34
-    row (hex 0 4) (moves Backward) ∷  -- 04, p. 35
-    row (hex 0 14) (λ g c v. sets (withMark 1 v)) ∷  -- 0E, p. 49
-    row (hex 0 15) (λ g c v. effect v (Stop (c .x) (v .axis .deceleration)) GoOn) ∷  -- 0F, p. 50
-    row (hex 1 15) (λ g c v. effect v (Stop (c .x) (c .word)) GoOn) ∷  -- 1F, p. 65
-    row (hex 2 0) (λ g c v. sets (withAxis (withPosition (c .value) (v .axis)) v)) ∷  -- 20, p. 66
-    row (hex 2 1) (λ g c v. sets (withAxis (withSpeed (c .word) (v .axis)) v)) ∷  -- 21, p. 67
-    row (hex 2 2) (λ g c v. sets (withAxis (withAcceleration (c .word) (v .axis)) v)) ∷  -- 22, p. 68
-    row (hex 2 3) (λ g c v. sets (withAxis (withDeceleration (c .word) (v .axis)) v)) ∷  -- 23, p. 69
-    row (hex 3 0) (λ g c v. sets (withAxis (withPosition (variable v (c .x)) (v .axis)) v)) ∷  -- 30, p. 83
-    row (hex 3 1) (parameter mostSpeed withSpeed) ∷  -- 31, p. 84
-    row (hex 3 2) (parameter mostRamp withAcceleration) ∷  -- 32, p. 85
-    row (hex 3 3) (parameter mostRamp withDeceleration) ∷  -- 33, p. 86
-    row (hex 4 0) (λ g c v. assigns c (v .axis .position) v) ∷  -- 40, p. 100
-    row (hex 4 1) (λ g c v. assigns c (pos (v .axis .speed)) v) ∷  -- 41, p. 101
-    row (hex 4 2) (λ g c v. assigns c (pos (v .axis .acceleration)) v) ∷  -- 42, p. 102
-    row (hex 4 3) (λ g c v. assigns c (pos (v .axis .deceleration)) v) ∷  -- 43, p. 103
+    row 0x00 (moves MoveTo) ∷  -- p. 30
+    row 0x01 (moves MoveBy) ∷  -- p. 31
+    row 0x03 (moves Forward) ∷  -- p. 34
+    row 0x04 (moves Backward) ∷  -- p. 35
+    row 0x0E (λ g c v. sets (withMark 1 v)) ∷  -- p. 49
+    row 0x0F (λ g c v. effect v (Stop (c .x) (v .axis .deceleration)) GoOn) ∷  -- p. 50
+    row 0x1F (λ g c v. effect v (Stop (c .x) (c .word)) GoOn) ∷  -- p. 65
+    row 0x20 (λ g c v. sets (withAxis (withPosition (c .value) (v .axis)) v)) ∷  -- p. 66
+    row 0x21 (λ g c v. sets (withAxis (withSpeed (c .word) (v .axis)) v)) ∷  -- p. 67
+    row 0x22 (λ g c v. sets (withAxis (withAcceleration (c .word) (v .axis)) v)) ∷  -- p. 68
+    row 0x23 (λ g c v. sets (withAxis (withDeceleration (c .word) (v .axis)) v)) ∷  -- p. 69
+    row 0x30 (λ g c v. sets (withAxis (withPosition (variable v (c .x)) (v .axis)) v)) ∷  -- p. 83
+    row 0x31 (parameter mostSpeed withSpeed) ∷  -- p. 84
+    row 0x32 (parameter mostRamp withAcceleration) ∷  -- p. 85
+    row 0x33 (parameter mostRamp withDeceleration) ∷  -- p. 86
+    row 0x40 (λ g c v. assigns c (v .axis .position) v) ∷  -- p. 100
+    row 0x41 (λ g c v. assigns c (pos (v .axis .speed)) v) ∷  -- p. 101
+    row 0x42 (λ g c v. assigns c (pos (v .axis .acceleration)) v) ∷  -- p. 102
+    row 0x43 (λ g c v. assigns c (pos (v .axis .deceleration)) v) ∷  -- p. 103
     []
 
 -- control
 abbrev pub controlRows : List Row
 controlRows =
-    row (hex 5 0) (λ g c v. sets v) ∷  -- 50, p. 122
-    row (hex 5 1) (λ g c v. flows v (cond (eqb (c .x) 0) Restart End)) ∷  -- 51, p. 123
-    row (hex 5 2) (λ g c v. flows v (Call (c .word))) ∷  -- 52, p. 124
-    row (hex 5 3) (λ g c v. flows v Return) ∷  -- 53, p. 125
-    row (hex 5 4) (λ g c v. flows v (Start plc (c .word))) ∷  -- 54, p. 126
-    row (hex 5 5) (λ g c v. flows v (Jump (c .word))) ∷  -- 55, p. 127
-    row (hex 5 7) (λ g c v. flows v (Start bias (c .word))) ∷  -- 57, p. 129
-    row (hex 5 8) (λ g c v. flows v (cond (isSet (g .reached)) GoOn (Stay 0 0))) ∷  -- 58, p. 130
-    row (hex 5 9) (λ g c v. flows v (waits (2 * c .word) g)) ∷  -- 59, p. 131
-    row (hex 5 10) waitsVariable ∷  -- 5A, p. 132
-    row (hex 9 0) (λ g c v. flows v (Start mathematics (c .word))) ∷  -- 90, p. 185
+    row 0x50 (λ g c v. sets v) ∷  -- p. 122
+    row 0x51 (λ g c v. flows v (cond (eqb (c .x) 0) Restart End)) ∷  -- p. 123
+    row 0x52 (λ g c v. flows v (Call (c .word))) ∷  -- p. 124
+    row 0x53 (λ g c v. flows v Return) ∷  -- p. 125
+    row 0x54 (λ g c v. flows v (Start plc (c .word))) ∷  -- p. 126
+    row 0x55 (λ g c v. flows v (Jump (c .word))) ∷  -- p. 127
+    row 0x57 (λ g c v. flows v (Start bias (c .word))) ∷  -- p. 129
+    row 0x58 (λ g c v. flows v (cond (isSet (g .reached)) GoOn (Stay 0 0))) ∷  -- p. 130
+    row 0x59 (λ g c v. flows v (waits (2 * c .word) g)) ∷  -- p. 131
+    row 0x5A waitsVariable ∷  -- p. 132
     []
 
 -- flags and pins
 abbrev pub levelRows : List Row
 levelRows =
-    row (hex 6 0) (λ g c v. sets (withFlag (c .x) (c .y) v)) ∷  -- 60, p. 137
-    row (hex 6 1) (λ g c v. jumpIf (compares (c .y) (flag v (c .x)) (c .z)) (c .word) v) ∷  -- 61, p. 138
-    row (hex 6 2) (λ g c v. sets (withFlag (c .x) (flag v (c .y)) v)) ∷  -- 62, p. 139
-    row (hex 6 3) (λ g c v. sets (withFlag (c .x) (inputAt g (c .y)) v)) ∷  -- 63, p. 140
-    row (hex 6 4) (λ g c v. sets (withFlag (c .x) (output v (c .y)) v)) ∷  -- 64, p. 141
-    row (hex 6 5) (λ g c v. sets (withFlag (c .x) (bit (isSet (flag v (c .y)) && isSet (flag v (c .z)))) v)) ∷  -- 65, p. 142
-    row (hex 6 6) (λ g c v. sets (withFlag (c .x) (bit (isSet (flag v (c .y)) || isSet (flag v (c .z)))) v)) ∷  -- 66, p. 143
-    row (hex 6 7) (λ g c v. sets (withFlag (c .x) (bit (not (eqb (flag v (c .y)) (flag v (c .z))))) v)) ∷  -- 67, p. 144
-    row (hex 6 8) (λ g c v. sets (withFlag (c .x) (bit (not (isSet (flag v (c .y))))) v)) ∷  -- 68, p. 145
-    row (hex 6 14) (λ g c v. jumpIf (compares (c .z) (bit (bitAt w32 (c .y) (variable v (c .x)))) 0) (c .word) v) ∷  -- 6E, p. 151
-    row (hex 7 0) (λ g c v. jumpIf (compares (c .y) (inputAt g (c .x)) (c .z)) (c .word) v) ∷  -- 70, p. 154
-    row (hex 7 1) (λ g c v. jumpIf (compares (c .y) (output v (c .x)) (c .z)) (c .word) v) ∷  -- 71, p. 156
-    row (hex 7 2) (λ g c v. sets (withOutput (c .x) (c .y) v)) ∷  -- 72, p. 158
-    row (hex 7 3) (λ g c v. sets (withOutput (c .x) (flag v (c .y)) v)) ∷  -- 73, p. 159
+    row 0x60 (λ g c v. sets (withFlag (c .x) (c .y) v)) ∷  -- p. 137
+    row 0x61 (λ g c v. jumpIf (compares (c .y) (flag v (c .x)) (c .z)) (c .word) v) ∷  -- p. 138
+    row 0x62 (λ g c v. sets (withFlag (c .x) (flag v (c .y)) v)) ∷  -- p. 139
+    row 0x63 (λ g c v. sets (withFlag (c .x) (inputAt g (c .y)) v)) ∷  -- p. 140
+    row 0x64 (λ g c v. sets (withFlag (c .x) (output v (c .y)) v)) ∷  -- p. 141
+    row 0x65 (λ g c v. sets (withFlag (c .x) (bit (isSet (flag v (c .y)) && isSet (flag v (c .z)))) v)) ∷  -- p. 142
+    row 0x66 (λ g c v. sets (withFlag (c .x) (bit (isSet (flag v (c .y)) || isSet (flag v (c .z)))) v)) ∷  -- p. 143
+    row 0x67 (λ g c v. sets (withFlag (c .x) (bit (not (eqb (flag v (c .y)) (flag v (c .z))))) v)) ∷  -- p. 144
+    row 0x68 (λ g c v. sets (withFlag (c .x) (bit (not (isSet (flag v (c .y))))) v)) ∷  -- p. 145
+    row 0x6E (λ g c v. jumpIf (compares (c .z) (bit (bitAt w32 (c .y) (variable v (c .x)))) 0) (c .word) v) ∷  -- p. 151
+    row 0x70 (λ g c v. jumpIf (compares (c .y) (inputAt g (c .x)) (c .z)) (c .word) v) ∷  -- p. 154
+    row 0x71 (λ g c v. jumpIf (compares (c .y) (output v (c .x)) (c .z)) (c .word) v) ∷  -- p. 156
+    row 0x72 (λ g c v. sets (withOutput (c .x) (c .y) v)) ∷  -- p. 158
+    row 0x73 (λ g c v. sets (withOutput (c .x) (flag v (c .y)) v)) ∷  -- p. 159
     []
 
 -- variables
 abbrev pub variableRows : List Row
 variableRows =
-    row (hex 8 0) (λ g c v. assigns c (c .value) v) ∷  -- 80, p. 167
-    row (hex 8 1) (λ g c v. jumpIf (holds (c .y) (variable v (c .x)) (c .value)) (c .word) v) ∷  -- 81, p. 168
-    row (hex 8 2) (λ g c v. assigns c (wrap w32 (variable v (c .y) +ℤ c .value)) v) ∷  -- 82, p. 170
-    row (hex 8 3) (λ g c v. assigns c (wrap w32 (variable v (c .y) -ℤ c .value)) v) ∷  -- 83, p. 171
-    row (hex 8 4) (λ g c v. assigns c (wrap w32 (variable v (c .y) *ℤ c .value)) v) ∷  -- 84, p. 172
-    row (hex 8 5) (λ g c v. divides c (quotient (variable v (c .y)) (c .value)) v) ∷  -- 85, p. 173
-    row (hex 8 6) (λ g c v. assigns c (wrap w32 (pos (flagNumber (v .flags) (c .y) (c .z)))) v) ∷  -- 86, p. 174
-    row (hex 8 8) (λ g c v. assigns c (variable v (c .y)) v) ∷  -- 88, p. 176
-    row (hex 8 9) (λ g c v. jumpIf (holds (c .y) (variable v (c .x)) (variable v (c .z))) (c .word) v) ∷  -- 89, p. 177
-    row (hex 8 10) (λ g c v. assigns c (wrap w32 (variable v (c .y) +ℤ variable v (c .z))) v) ∷  -- 8A, p. 179
-    row (hex 8 11) (λ g c v. assigns c (wrap w32 (variable v (c .y) -ℤ variable v (c .z))) v) ∷  -- 8B, p. 180
-    row (hex 8 12) (λ g c v. assigns c (wrap w32 (variable v (c .y) *ℤ variable v (c .z))) v) ∷  -- 8C, p. 181
-    row (hex 8 13) (λ g c v. divides c (quotient (variable v (c .y)) (variable v (c .z))) v) ∷  -- 8D, p. 182
+    row 0x80 (λ g c v. assigns c (c .value) v) ∷  -- p. 167
+    row 0x81 (λ g c v. jumpIf (holds (c .y) (variable v (c .x)) (c .value)) (c .word) v) ∷  -- p. 168
+    row 0x82 (λ g c v. assigns c (wrap w32 (variable v (c .y) +ℤ c .value)) v) ∷  -- p. 170
+    row 0x83 (λ g c v. assigns c (wrap w32 (variable v (c .y) -ℤ c .value)) v) ∷  -- p. 171
+    row 0x84 (λ g c v. assigns c (wrap w32 (variable v (c .y) *ℤ c .value)) v) ∷  -- p. 172
+    row 0x85 (λ g c v. divides c (quotient (variable v (c .y)) (c .value)) v) ∷  -- p. 173
+    row 0x86 (λ g c v. assigns c (wrap w32 (pos (flagNumber (v .flags) (c .y) (c .z)))) v) ∷  -- p. 174
+    row 0x88 (λ g c v. assigns c (variable v (c .y)) v) ∷  -- p. 176
+    row 0x89 (λ g c v. jumpIf (holds (c .y) (variable v (c .x)) (variable v (c .z))) (c .word) v) ∷  -- p. 177
+    row 0x8A (λ g c v. assigns c (wrap w32 (variable v (c .y) +ℤ variable v (c .z))) v) ∷  -- p. 179
+    row 0x8B (λ g c v. assigns c (wrap w32 (variable v (c .y) -ℤ variable v (c .z))) v) ∷  -- p. 180
+    row 0x8C (λ g c v. assigns c (wrap w32 (variable v (c .y) *ℤ variable v (c .z))) v) ∷  -- p. 181
+    row 0x8D (λ g c v. divides c (quotient (variable v (c .y)) (variable v (c .z))) v) ∷  -- p. 182
+    []
+
+-- mathematics
+abbrev pub mathematicsRows : List Row
+mathematicsRows =
+    row 0x90 (λ g c v. flows v (Start mathematics (c .word))) ∷  -- p. 185
     []
 
 abbrev pub rows : List Row
-rows = axisRows ++ (controlRows ++ (levelRows ++ variableRows))
+rows = axisRows ++ (controlRows ++ (levelRows ++ (variableRows ++ mathematicsRows)))
 
 -- a code that is not carried does nothing: the task stays
 abbrev pub nothing : Deed

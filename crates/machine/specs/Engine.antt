@@ -11,7 +11,6 @@ use Rattle.image.specs.Rows.{sameHeader}
 use Rattle.image.specs.Scan.{headerOf, blocksOf}
 use Rattle.image.specs.declared.Header.{Header}
 use Rattle.image.specs.declared.reader.HeaderRead.{HeaderRead}
-use Rattle.rows.specs.Rows.{hex}
 use Rattle.fault.specs.Fault.{faultNumber}
 use Rattle.point.specs.Fault.{point}
 use Rattle.point.specs.declared.Point.{Point}
@@ -22,7 +21,7 @@ use Rattle.state.specs.declared.Values.{Values}
 use Rattle.state.specs.declared.State.{State}
 use Rattle.machine.specs.Given.{Inputs, Given, level}
 use Rattle.machine.specs.Effect.{effectOf, isSet}
-use Rattle.machine.specs.declared.Motion.the-variants.{None}
+use Rattle.machine.specs.declared.Request.the-variants.{None}
 use Rattle.machine.specs.declared.Outcome.{Outcome}
 use Rattle.machine.specs.declared.Outcome.the-variants.{GoOn, Stay, Jump, Call, Return, Start, Restart, End, Halt}
 use Rattle.machine.specs.declared.Effect.{Effect}
@@ -76,7 +75,7 @@ tasksAfter first t k (Halt q) l = set l t (stopped halted k)
 
 -- a refused step changes nothing and asks for no motion
 abbrev pub refuse : State → Answer → Out
-refuse s a = record { state = s; motion = None; answer = a }
+refuse s a = record { state = s; request = None; answer = a }
 
 -- where a task is
 abbrev pub pointOf : ℕ → Task → Point
@@ -115,7 +114,7 @@ performed s x k e = record {
     header = s .header;
     tasks = tasksAfter (s .header .start) (x .task) k (e .outcome) (s .tasks);
   };
-  motion = e .motion;
+  request = e .request;
   answer = answerTo (e .outcome) (pointOf (x .task) k);
 }
 
@@ -129,7 +128,7 @@ abbrev pub blockFits : Header → List ℕ → ℕ → Task → Bool
 blockFits h bs t k = eqb (blockNumber h bs (k .block)) 0 && eqb (faultNumber (faultAt h bs (pointOf t k))) 0
 
 abbrev pub isWait : ℕ → Bool
-isWait code = eqb code (hex 5 9) || eqb code (hex 5 10)
+isWait code = eqb code 0x59 || eqb code 0x5A
 
 abbrev pub waitFits : List ℕ → Task → Bool
 waitFits bs k = not (isSet (k .time)) || isWait (commandAt bs (k .block) .code)

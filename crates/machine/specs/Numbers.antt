@@ -5,8 +5,8 @@ use lib.IntN.{pos}
 use Rattle.state.specs.declared.Axis.{Axis}
 use Rattle.machine.specs.declared.Cause.{Cause}
 use Rattle.machine.specs.declared.Cause.the-variants.{ZeroDivisor, BadContent}
-use Rattle.machine.specs.declared.Motion.{Motion}
-use Rattle.machine.specs.declared.Motion.the-variants.{None, MoveTo, MoveBy, Forward, Backward, Stop}
+use Rattle.machine.specs.declared.Request.{Request}
+use Rattle.machine.specs.declared.Request.the-variants.{None, MoveTo, MoveBy, Forward, Backward, Stop}
 use Rattle.machine.specs.declared.Answer.{Answer}
 use Rattle.machine.specs.declared.Answer.the-variants.{Done, NoTask, Inputs as BadInputs, NotRunning, Differs, Halted}
 
@@ -50,7 +50,7 @@ answerDepth (Halted q p) = p .depth
 
 -- ---- requests
 
-abbrev pub motionNumber : Motion → ℕ
+abbrev pub motionNumber : Request → ℕ
 motionNumber None = 0
 motionNumber (MoveTo a) = 1
 motionNumber (MoveBy a) = 2
@@ -63,7 +63,7 @@ abbrev pub stopAxis : ℕ → Axis
 stopAxis deceleration = record { position = pos 0; speed = 0; acceleration = 0; deceleration = deceleration }
 
 -- the parameters that a request carries: none, a move's four, or a stop's deceleration
-abbrev pub motionAxis : Motion → Axis
+abbrev pub motionAxis : Request → Axis
 motionAxis None = stopAxis 0
 motionAxis (MoveTo a) = a
 motionAxis (MoveBy a) = a
@@ -71,7 +71,7 @@ motionAxis (Forward a) = a
 motionAxis (Backward a) = a
 motionAxis (Stop mode ramp) = stopAxis ramp
 
-abbrev pub motionMode : Motion → ℕ
+abbrev pub motionMode : Request → ℕ
 motionMode None = 0
 motionMode (MoveTo a) = 0
 motionMode (MoveBy a) = 0

@@ -13,8 +13,8 @@ use Rattle.walk.specs.Program.{commandAt}
 use Rattle.state.specs.declared.Values.{Values}
 use Rattle.machine.specs.Given.{Inputs, level}
 use Rattle.machine.specs.Effect.{effectOf}
-use Rattle.machine.specs.declared.Motion.{Motion}
-use Rattle.machine.specs.declared.Motion.the-variants.{None}
+use Rattle.machine.specs.declared.Request.{Request}
+use Rattle.machine.specs.declared.Request.the-variants.{None}
 use Rattle.machine.specs.declared.Outcome.{Outcome}
 use Rattle.machine.specs.declared.Outcome.the-variants.{GoOn, Stay, Jump, Call, Return, Start, Restart, End, Halt}
 use Rattle.machine.specs.declared.Effect.{Effect}
@@ -92,11 +92,11 @@ follows t k (Halt q) l = put t (off k) l
 
 pub record Did : Type 0 where
   pub machine : Machine
-  pub motion : Motion
+  pub request : Request
   pub answer : Answer
 
 abbrev pub stays : Machine → Answer → Did
-stays m a = record { machine = m; motion = None; answer = a }
+stays m a = record { machine = m; request = None; answer = a }
 
 abbrev pub replies : Outcome → ℕ → Thread → Answer
 replies GoOn t k = Done
@@ -123,7 +123,7 @@ keeps t start v = record {
 unfoldable pub does : Machine → Inputs → Thread → Effect → Did
 does m x k e = record {
   machine = record { values = keeps (x .task) (x .start) (e .values); threads = follows (x .task) k (e .outcome) (m .threads) };
-  motion = e .motion;
+  request = e .request;
   answer = replies (e .outcome) (x .task) k;
 }
 

@@ -34,7 +34,7 @@ machineAfter image m (x ∷ xs) = machineAfter image (turn image m x .machine) x
 -- part 1: answers and motion requests are the same, step by step
 pub data SameHanded : List Out → List Did → Type 0 where
   none : SameHanded [] []
-  more : {o : Out} {d : Did} {os : List Out} {ds : List Did} → o .answer ≡ d .answer → o .motion ≡ d .motion → SameHanded os ds → SameHanded (o ∷ os) (d ∷ ds)
+  more : {o : Out} {d : Did} {os : List Out} {ds : List Did} → o .answer ≡ d .answer → o .request ≡ d .request → SameHanded os ds → SameHanded (o ∷ os) (d ∷ ds)
 
 -- part 3: a task that runs is at a block of the image that is permitted to it on that drive, at its depth, which is at most the limit
 pub record Permitted (image : List ℕ) (t : ℕ) (k : Task) : Type 0 where

@@ -7,7 +7,7 @@ use state::State;
 use state::Values;
 
 // The motion request of a step. A move carries the stored position, speed, acceleration and deceleration; a stop its mode and a deceleration.
-pub enum Motion {
+pub enum Request {
     None,
     MoveTo(Axis),
     MoveBy(Axis),
@@ -49,7 +49,7 @@ pub enum Outcome {
 // What a command does: to the values, to the axis by a request, and to its task.
 pub struct Effect {
     pub values: Values,
-    pub motion: Motion,
+    pub request: Request,
     pub outcome: Outcome,
 }
 
@@ -81,6 +81,6 @@ pub struct Moment {
 // What a step hands out.
 pub struct Out {
     pub state: State,
-    pub motion: Motion,
+    pub request: Request,
     pub answer: Answer,
 }

@@ -1,13 +1,12 @@
 -- The rows of one group are those of a code that the other groups do not have: by one test of codes for each group, computed over its rows. Assumes nothing.
 use Prim.Native.Nat.{ℕ}
 use mathlib.Core.Path.{_≡_, refl, sym, ap, _∙_}
-use mathlib.Core.Bool.{Bool, true, false, _&&_, _||_, not, cond}
+use mathlib.Core.Bool.{Bool, true, false, _&&_, not, cond}
 use mathlib.Core.List.{List, [], _∷_, _++_}
 use lib.Dec.{T, eqb, ltb}
 use borrow.Author.Tests.{ne-eqb}
 use Rattle.number.proofs.Choice.{clash}
-use Rattle.rows.specs.Rows.{hex}
-use Rattle.machine.specs.Effect.{Deed, Row, nothing, deedIn, rows, axisRows, controlRows, levelRows, variableRows}
+use Rattle.machine.specs.Effect.{Deed, Row, nothing, deedIn, rows, axisRows, controlRows, levelRows, variableRows, mathematicsRows}
 
 abbrev all : (ℕ → Bool) → List Row → Bool
 all test [] = true
@@ -42,37 +41,43 @@ module _ (test : ℕ → Bool) (n : ℕ) (no : test n ≡ false) where
   stop [] rest t = absent rest t
   stop (r ∷ front) rest t = ap (λ (d : Deed). cond (eqb n (r .code)) (r .deed) d) (stop front rest t)
 
--- ---- the groups
+-- ---- the groups: of the codes from one bound to the next
 
-abbrev control : ℕ
-control = hex 5 0
+abbrev pub control : ℕ
+control = 0x50
 
-abbrev levels : ℕ
-levels = hex 6 0
+abbrev pub levels : ℕ
+levels = 0x60
 
-abbrev variables : ℕ
-variables = hex 8 0
+abbrev pub variables : ℕ
+variables = 0x80
 
-abbrev mathematics : ℕ
-mathematics = hex 9 0
+abbrev pub mathematics : ℕ
+mathematics = 0x90
+
+abbrev below : ℕ → List Row → Bool
+below bound = all (λ k. ltb k bound)
+
+abbrev from : ℕ → List Row → Bool
+from bound = all (λ k. not (ltb k bound))
 
 module _ (n : ℕ) where
+  between : (least bound : ℕ) (front group rest : List Row) → T (below least front) → T (from bound rest) → ltb n least ≡ false → ltb n bound ≡ true
+      → deedIn (front ++ (group ++ rest)) n ≡ deedIn group n
+  between least bound front group rest t u e f =
+      skip (λ k. ltb k least) n e front (group ++ rest) t ∙ stop (λ k. not (ltb k bound)) n (ap not f) group rest u
+
   pub of-axis : ltb n control ≡ true → deedIn rows n ≡ deedIn axisRows n
-  of-axis e = stop (λ k. not (ltb k control)) n (ap not e) axisRows (controlRows ++ (levelRows ++ variableRows)) tt
+  of-axis e = stop (λ k. not (ltb k control)) n (ap not e) axisRows (controlRows ++ (levelRows ++ (variableRows ++ mathematicsRows))) tt
 
-  pub of-control : ltb n control ≡ false → (ltb n levels || eqb n mathematics) ≡ true → deedIn rows n ≡ deedIn controlRows n
-  of-control e f =
-      skip (λ k. ltb k control) n e axisRows (controlRows ++ (levelRows ++ variableRows)) tt
-      ∙ stop (λ k. not (ltb k levels || eqb k mathematics)) n (ap not f) controlRows (levelRows ++ variableRows) tt
+  pub of-control : ltb n control ≡ false → ltb n levels ≡ true → deedIn rows n ≡ deedIn controlRows n
+  of-control = between control levels axisRows controlRows (levelRows ++ (variableRows ++ mathematicsRows)) tt tt
 
-  pub of-levels : ltb n control ≡ false → (ltb n levels || eqb n mathematics) ≡ false → ltb n variables ≡ true → deedIn rows n ≡ deedIn levelRows n
-  of-levels e f g =
-      skip (λ k. ltb k control) n e axisRows (controlRows ++ (levelRows ++ variableRows)) tt
-      ∙ skip (λ k. ltb k levels || eqb k mathematics) n f controlRows (levelRows ++ variableRows) tt
-      ∙ stop (λ k. not (ltb k variables)) n (ap not g) levelRows variableRows tt
+  pub of-levels : ltb n levels ≡ false → ltb n variables ≡ true → deedIn rows n ≡ deedIn levelRows n
+  of-levels = between levels variables (axisRows ++ controlRows) levelRows (variableRows ++ mathematicsRows) tt tt
 
-  pub of-variables : ltb n control ≡ false → (ltb n levels || eqb n mathematics) ≡ false → ltb n variables ≡ false → deedIn rows n ≡ deedIn variableRows n
-  of-variables e f g =
-      skip (λ k. ltb k control) n e axisRows (controlRows ++ (levelRows ++ variableRows)) tt
-      ∙ skip (λ k. ltb k levels || eqb k mathematics) n f controlRows (levelRows ++ variableRows) tt
-      ∙ skip (λ k. ltb k variables) n g levelRows variableRows tt
+  pub of-variables : ltb n variables ≡ false → ltb n mathematics ≡ true → deedIn rows n ≡ deedIn variableRows n
+  of-variables = between variables mathematics (axisRows ++ (controlRows ++ levelRows)) variableRows mathematicsRows tt tt
+
+  pub of-mathematics : ltb n mathematics ≡ false → deedIn rows n ≡ deedIn mathematicsRows n
+  of-mathematics e = skip (λ k. ltb k mathematics) n e (axisRows ++ (controlRows ++ (levelRows ++ variableRows))) mathematicsRows tt

@@ -8,14 +8,14 @@ ghost use Prim.Native.Nat.{_<_};
 ghost use Rattle.machine.specs.Given.{givenAt};
 ghost use Rattle.machine.specs.Effect.{effectOf};
 
-// The first codes of control, of flags and pins, and of variables; 90, which is of control too.
+// The first codes of control, of flags and pins, of variables, and of mathematics: the manual's order.
 const CONTROL: u8 = 0x50;
 
 const LEVELS: u8 = 0x60;
 
 const VARIABLES: u8 = 0x80;
 
-const START_MATHEMATICS: u8 = 0x90;
+const MATHEMATICS: u8 = 0x90;
 
 // The effect of a command; a code that is not carried leaves its task where it is. The turns of a pending wait can be counted on.
 pub fn perform(m: Moment, inputs: &[u8], c: Command, v: Values) -> Effect
@@ -26,11 +26,14 @@ pub fn perform(m: Moment, inputs: &[u8], c: Command, v: Values) -> Effect
     if code < CONTROL {
         return axis::perform(m, inputs, c, v);
     }
-    if (code < LEVELS) | (code == START_MATHEMATICS) {
+    if code < LEVELS {
         return control::perform(m, inputs, c, v);
     }
     if code < VARIABLES {
         return levels::perform(m, inputs, c, v);
     }
-    variables::perform(m, inputs, c, v)
+    if code < MATHEMATICS {
+        return variables::perform(m, inputs, c, v);
+    }
+    control::mathematics(m, inputs, c, v)
 }

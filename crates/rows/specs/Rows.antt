@@ -224,10 +224,6 @@ flowCount = ending + 1
 
 -- ---- the rows
 
--- a code of two hexadecimal digits
-abbrev pub hex : ℕ → ℕ → ℕ
-hex a b = 16 * a + b
-
 -- the columns of a row
 abbrev pub facts : ℕ → ℕ → ℕ → ℕ → ℕ → Row
 facts layout device ranges tasks flow = record { layout = layout; device = device; ranges = ranges; tasks = tasks; flow = flow }
@@ -240,73 +236,73 @@ pub record Coded : Type 0 where
 abbrev pub row : ℕ → ℕ → ℕ → ℕ → ℕ → ℕ → Coded
 row code layout device ranges tasks flow = record { code = code; columns = facts layout device ranges tasks flow }
 
--- behind each row: its code, its page in 000, and its meaning in the operands x, y, z, word, value that the layout has
+-- behind each row: its page in 000, and its meaning in the operands x, y, z, word, value that the layout has
 unfoldable pub rows : List Coded
 rows =
     -- motion
-    row (hex 0 0) pair noDevice axis B wait ∷  -- 00, p. 30: move to the stored position
-    row (hex 0 1) pair noDevice axis B wait ∷  -- 01, p. 31: move by the stored position
-    row (hex 0 3) pair noDevice axis B wait ∷  -- 03, p. 34: endless forward
-    row (hex 0 4) pair noDevice axis B wait ∷  -- 04, p. 35: endless backward
-    row (hex 0 14) bare noDevice any B next ∷  -- 0E, p. 49: set the start mark
-    row (hex 0 15) pair noDevice stop BP next ∷  -- 0F, p. 50: stop, mode x
-    row (hex 1 15) byteWord noDevice rampStop BP next ∷  -- 1F, p. 65: stop, mode x, with the deceleration in word (boxes: DECISIONS R1)
+    row 0x00 pair noDevice axis B wait ∷  -- p. 30: move to the stored position
+    row 0x01 pair noDevice axis B wait ∷  -- p. 31: move by the stored position
+    row 0x03 pair noDevice axis B wait ∷  -- p. 34: endless forward
+    row 0x04 pair noDevice axis B wait ∷  -- p. 35: endless backward
+    row 0x0E bare noDevice any B next ∷  -- p. 49: set the start mark
+    row 0x0F pair noDevice stop BP next ∷  -- p. 50: stop, mode x
+    row 0x1F byteWord noDevice rampStop BP next ∷  -- p. 65: stop, mode x, with the deceleration in word (boxes: DECISIONS R1)
     -- parameters
-    row (hex 2 0) value noDevice any B next ∷  -- 20, p. 66: position = value
-    row (hex 2 1) word noDevice speed B next ∷  -- 21, p. 67: speed = word
-    row (hex 2 2) word noDevice ramp B next ∷  -- 22, p. 68: acceleration = word
-    row (hex 2 3) word noDevice ramp B next ∷  -- 23, p. 69: deceleration = word
-    row (hex 3 0) byte noDevice any B next ∷  -- 30, p. 83: position = variable x
-    row (hex 3 1) byte noDevice any B next ∷  -- 31, p. 84: speed = variable x
-    row (hex 3 2) byte noDevice any B next ∷  -- 32, p. 85: acceleration = variable x
-    row (hex 3 3) byte noDevice any B next ∷  -- 33, p. 86: deceleration = variable x
-    row (hex 4 0) byte noDevice any BPM next ∷  -- 40, p. 100: variable x = position
-    row (hex 4 1) byte noDevice any BPM next ∷  -- 41, p. 101: variable x = speed
-    row (hex 4 2) byte noDevice any BPM next ∷  -- 42, p. 102: variable x = acceleration
-    row (hex 4 3) byte noDevice any BPM next ∷  -- 43, p. 103: variable x = deceleration
+    row 0x20 value noDevice any B next ∷  -- p. 66: position = value
+    row 0x21 word noDevice speed B next ∷  -- p. 67: speed = word
+    row 0x22 word noDevice ramp B next ∷  -- p. 68: acceleration = word
+    row 0x23 word noDevice ramp B next ∷  -- p. 69: deceleration = word
+    row 0x30 byte noDevice any B next ∷  -- p. 83: position = variable x
+    row 0x31 byte noDevice any B next ∷  -- p. 84: speed = variable x
+    row 0x32 byte noDevice any B next ∷  -- p. 85: acceleration = variable x
+    row 0x33 byte noDevice any B next ∷  -- p. 86: deceleration = variable x
+    row 0x40 byte noDevice any BPM next ∷  -- p. 100: variable x = position
+    row 0x41 byte noDevice any BPM next ∷  -- p. 101: variable x = speed
+    row 0x42 byte noDevice any BPM next ∷  -- p. 102: variable x = acceleration
+    row 0x43 byte noDevice any BPM next ∷  -- p. 103: variable x = deceleration
     -- control
-    row (hex 5 0) bare noDevice any BPM next ∷  -- 50, p. 122: no operation
-    row (hex 5 1) byte noDevice mode BPM ending ∷  -- 51, p. 123: end, mode x (DECISIONS R2)
-    row (hex 5 2) word noDevice address BPM call ∷  -- 52, p. 124: call the sub-program at word
-    row (hex 5 3) bare noDevice any BPM return ∷  -- 53, p. 125: return from a sub-program
-    row (hex 5 4) word noDevice address BM startPlc ∷  -- 54, p. 126: start the PLC at word
-    row (hex 5 5) word noDevice address BPM jump ∷  -- 55, p. 127: jump to word
-    row (hex 5 7) word noDevice address PM startBias ∷  -- 57, p. 129: start BIAS at word
-    row (hex 5 8) bare noDevice any B wait ∷  -- 58, p. 130: wait for position reached
-    row (hex 5 9) word noDevice any B wait ∷  -- 59, p. 131: wait for a time of word x 2 ms (DECISIONS R3)
-    row (hex 5 10) byte noDevice any B wait ∷  -- 5A, p. 132: wait for a time of variable x ms (DECISIONS R4)
+    row 0x50 bare noDevice any BPM next ∷  -- p. 122: no operation
+    row 0x51 byte noDevice mode BPM ending ∷  -- p. 123: end, mode x (DECISIONS R2)
+    row 0x52 word noDevice address BPM call ∷  -- p. 124: call the sub-program at word
+    row 0x53 bare noDevice any BPM return ∷  -- p. 125: return from a sub-program
+    row 0x54 word noDevice address BM startPlc ∷  -- p. 126: start the PLC at word
+    row 0x55 word noDevice address BPM jump ∷  -- p. 127: jump to word
+    row 0x57 word noDevice address PM startBias ∷  -- p. 129: start BIAS at word
+    row 0x58 bare noDevice any B wait ∷  -- p. 130: wait for position reached
+    row 0x59 word noDevice any B wait ∷  -- p. 131: wait for a time of word x 2 ms (DECISIONS R3)
+    row 0x5A byte noDevice any B wait ∷  -- p. 132: wait for a time of variable x ms (DECISIONS R4)
     -- flags
-    row (hex 6 0) pair noDevice level BPM next ∷  -- 60, p. 137: flag x = y
-    row (hex 6 1) tripleWord noDevice levelJump BPM branch ∷  -- 61, p. 138: jump to word if flag x compares by y with z
-    row (hex 6 2) pair noDevice any BPM next ∷  -- 62, p. 139: flag x = flag y
-    row (hex 6 3) pair inputY any BPM next ∷  -- 63, p. 140: flag x = input y
-    row (hex 6 4) pair outputReadY any BPM next ∷  -- 64, p. 141: flag x = output y
-    row (hex 6 5) triple noDevice any BPM next ∷  -- 65, p. 142: flag x = flag y and flag z
-    row (hex 6 6) triple noDevice any BPM next ∷  -- 66, p. 143: flag x = flag y or flag z
-    row (hex 6 7) triple noDevice any BPM next ∷  -- 67, p. 144: flag x = flag y exclusive or flag z
-    row (hex 6 8) pair noDevice any BPM next ∷  -- 68, p. 145: flag x = not flag y
-    row (hex 6 14) tripleWord not637Plus bitJump BPM branch ∷  -- 6E, p. 151: jump to word if bit y of variable x compares by z with 0 (R5a, R5b)
+    row 0x60 pair noDevice level BPM next ∷  -- p. 137: flag x = y
+    row 0x61 tripleWord noDevice levelJump BPM branch ∷  -- p. 138: jump to word if flag x compares by y with z
+    row 0x62 pair noDevice any BPM next ∷  -- p. 139: flag x = flag y
+    row 0x63 pair inputY any BPM next ∷  -- p. 140: flag x = input y
+    row 0x64 pair outputReadY any BPM next ∷  -- p. 141: flag x = output y
+    row 0x65 triple noDevice any BPM next ∷  -- p. 142: flag x = flag y and flag z
+    row 0x66 triple noDevice any BPM next ∷  -- p. 143: flag x = flag y or flag z
+    row 0x67 triple noDevice any BPM next ∷  -- p. 144: flag x = flag y exclusive or flag z
+    row 0x68 pair noDevice any BPM next ∷  -- p. 145: flag x = not flag y
+    row 0x6E tripleWord not637Plus bitJump BPM branch ∷  -- p. 151: jump to word if bit y of variable x compares by z with 0 (R5a, R5b)
     -- pins
-    row (hex 7 0) tripleWord inputX levelJump BPM branch ∷  -- 70, p. 154: jump to word if input x compares by y with z
-    row (hex 7 1) tripleWord outputReadX levelJump BPM branch ∷  -- 71, p. 156: jump to word if output x compares by y with z
-    row (hex 7 2) pair outputWrittenX level BPM next ∷  -- 72, p. 158: output x = y
-    row (hex 7 3) pair outputWrittenX any BPM next ∷  -- 73, p. 159: output x = flag y (pins of 72: DECISIONS R12)
+    row 0x70 tripleWord inputX levelJump BPM branch ∷  -- p. 154: jump to word if input x compares by y with z
+    row 0x71 tripleWord outputReadX levelJump BPM branch ∷  -- p. 156: jump to word if output x compares by y with z
+    row 0x72 pair outputWrittenX level BPM next ∷  -- p. 158: output x = y
+    row 0x73 pair outputWrittenX any BPM next ∷  -- p. 159: output x = flag y (pins of 72: DECISIONS R12)
     -- variables
-    row (hex 8 0) byteValue noDevice any BPM next ∷  -- 80, p. 167: variable x = value
-    row (hex 8 1) valueJump noDevice conditionJump BPM branch ∷  -- 81, p. 168: jump to word if variable x compares by y with value
-    row (hex 8 2) pairValue noDevice any BPM next ∷  -- 82, p. 170: variable x = variable y + value
-    row (hex 8 3) pairValue noDevice any BPM next ∷  -- 83, p. 171: variable x = variable y - value
-    row (hex 8 4) pairValue noDevice any BPM next ∷  -- 84, p. 172: variable x = variable y * value
-    row (hex 8 5) pairValue noDevice divisor BPM next ∷  -- 85, p. 173: variable x = variable y / value
-    row (hex 8 6) triple noDevice flagRun BP next ∷  -- 86, p. 174: variable x = z flags from flag y on (DECISIONS R13b)
-    row (hex 8 8) pair noDevice any BPM next ∷  -- 88, p. 176: variable x = variable y
-    row (hex 8 9) tripleWord noDevice conditionJump BPM branch ∷  -- 89, p. 177: jump to word if variable x compares by y with variable z
-    row (hex 8 10) triple noDevice any BPM next ∷  -- 8A, p. 179: variable x = variable y + variable z
-    row (hex 8 11) triple noDevice any BPM next ∷  -- 8B, p. 180: variable x = variable y - variable z
-    row (hex 8 12) triple noDevice any BPM next ∷  -- 8C, p. 181: variable x = variable y * variable z
-    row (hex 8 13) triple noDevice any BPM next ∷  -- 8D, p. 182: variable x = variable y / variable z
+    row 0x80 byteValue noDevice any BPM next ∷  -- p. 167: variable x = value
+    row 0x81 valueJump noDevice conditionJump BPM branch ∷  -- p. 168: jump to word if variable x compares by y with value
+    row 0x82 pairValue noDevice any BPM next ∷  -- p. 170: variable x = variable y + value
+    row 0x83 pairValue noDevice any BPM next ∷  -- p. 171: variable x = variable y - value
+    row 0x84 pairValue noDevice any BPM next ∷  -- p. 172: variable x = variable y * value
+    row 0x85 pairValue noDevice divisor BPM next ∷  -- p. 173: variable x = variable y / value
+    row 0x86 triple noDevice flagRun BP next ∷  -- p. 174: variable x = z flags from flag y on (DECISIONS R13b)
+    row 0x88 pair noDevice any BPM next ∷  -- p. 176: variable x = variable y
+    row 0x89 tripleWord noDevice conditionJump BPM branch ∷  -- p. 177: jump to word if variable x compares by y with variable z
+    row 0x8A triple noDevice any BPM next ∷  -- p. 179: variable x = variable y + variable z
+    row 0x8B triple noDevice any BPM next ∷  -- p. 180: variable x = variable y - variable z
+    row 0x8C triple noDevice any BPM next ∷  -- p. 181: variable x = variable y * variable z
+    row 0x8D triple noDevice any BPM next ∷  -- p. 182: variable x = variable y / variable z
     -- mathematics
-    row (hex 9 0) word noDevice address BP startMathematics ∷  -- 90, p. 185: start mathematics at word
+    row 0x90 word noDevice address BP startMathematics ∷  -- p. 185: start mathematics at word
     []
 
 -- a code that is not carried

@@ -9,7 +9,6 @@ use lib.Dec.{eqb, leb}
 use borrow.Author.Tests.{leb-true, le-leb}
 use Rattle.image.specs.declared.Header.{Header}
 use Rattle.number.proofs.Choice.{clash}
-use Rattle.rows.specs.Rows.{hex}
 use Rattle.operands.specs.declared.Command.{Command}
 use Rattle.flow.specs.Flow.{flowOf, continues}
 use Rattle.flow.specs.Tasks.{permitted}
@@ -136,7 +135,7 @@ module _ (h : Header) (bs : List ℕ) (path : List Point) (p : Point) (c : Comma
           (λ w. record { to = p; step = Step.stay (may-stay h bs path p c allowed ∙ w .0); block = sym (f .block ∙ ap (λ (o : Point). o .block) (w .1)) })
           (f .member)
 
-  lead-judged : (c .code ≡ hex 5 1 → ⊥) → (q : Point) → Step h bs path p c q → In (q .block) (continues (p .task) (p .block) (flowOf c))
+  lead-judged : (c .code ≡ 0x51 → ⊥) → (q : Point) → Step h bs path p c q → In (q .block) (continues (p .task) (p .block) (flowOf c))
   lead-judged n q s = ⊎-elim (λ m. follows-continues p (flowOf c) q m) special (step-follows h bs path p c allowed q s)
     where
       special : Special h bs path p c q → In (q .block) (continues (p .task) (p .block) (flowOf c))
@@ -149,7 +148,7 @@ module _ (h : Header) (bs : List ℕ) (path : List Point) (p : Point) (c : Comma
     pub step : Step h bs path p c to
     pub past : h .count ≤ to .block
 
-  pub past-exactly : (c .code ≡ hex 5 1 → ⊥) → (anyPast (h .count) (continues (p .task) (p .block) (flowOf c)) ≡ true) ↔ LeadsPast
+  pub past-exactly : (c .code ≡ 0x51 → ⊥) → (anyPast (h .count) (continues (p .task) (p .block) (flowOf c)) ≡ true) ↔ LeadsPast
   past-exactly n = (
     λ e. let k = any-past (h .count) (continues (p .task) (p .block) (flowOf c)) e in
         let l = judged-lead (k .at) (k .member) in

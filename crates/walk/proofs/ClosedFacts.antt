@@ -5,7 +5,7 @@ use mathlib.Core.List.{List, [], _∷_}
 use Prim.Native.Nat.{ℕ}
 use Rattle.limits.specs.Limits.{bias, plc, mathematics}
 use Rattle.image.specs.declared.Header.{Header}
-use Rattle.rows.specs.Rows.{hex, rowOf, rowIn, rows}
+use Rattle.rows.specs.Rows.{rowOf, rowIn, rows}
 use Rattle.operands.specs.Operands.{operands, laidOut}
 use Rattle.point.specs.Fault.{point}
 use Rattle.point.specs.declared.Point.{Point}
@@ -18,7 +18,7 @@ naming code word rest = code ∷ word ∷ 0 ∷ 0 ∷ 0 ∷ 0 ∷ 0 ∷ 0 ∷ re
 
 -- blocks 0 and 1 start the PLC, 2 and 3 mathematics, 4 BIAS, at 10 to 14
 abbrev pub program : List ℕ
-program = naming (hex 5 4) 10 (naming (hex 5 4) 11 (naming (hex 9 0) 12 (naming (hex 9 0) 13 (naming (hex 5 7) 14 []))))
+program = naming 0x54 10 (naming 0x54 11 (naming 0x90 12 (naming 0x90 13 (naming 0x57 14 []))))
 
 abbrev pub header : Header
 header = record { format = 1; drive = record { model = 2; b = 0; c = 0 }; start = 7; count = 20 }

@@ -11,7 +11,6 @@ use lib.ListN.{length}
 use borrow.Author.Tests.{eqb-true}
 use Rattle.limits.specs.Limits.{bias, plc, mathematics, mostBlocks, marksLength}
 use Rattle.image.specs.declared.Header.{Header}
-use Rattle.rows.specs.Rows.{hex}
 use Rattle.operands.specs.declared.Command.{Command}
 use Rattle.flow.specs.Flow.{flowOf}
 use Rattle.point.specs.Fault.{point}
@@ -118,10 +117,10 @@ module _ (h : Header) (bs : List ℕ) (most : h .count ≤ mostBlocks) (begins :
           rw (← w) (named-reached o (all .0) u (s _ (eqb-true _ _ i)))
       choose false i e later = later e
 
-  begins-plc : (k : ℕ) → k ≡ hex 5 4 → starts k plc ≡ true
+  begins-plc : (k : ℕ) → k ≡ 0x54 → starts k plc ≡ true
   begins-plc k e = rw e
 
-  begins-mathematics : (k : ℕ) → k ≡ hex 9 0 → starts k mathematics ≡ true
+  begins-mathematics : (k : ℕ) → k ≡ 0x90 → starts k mathematics ≡ true
   begins-mathematics k e = rw e
 
   -- the start that a return leads to is reached
@@ -130,19 +129,19 @@ module _ (h : Header) (bs : List ℕ) (most : h .count ≤ mostBlocks) (begins :
   unfolding startOf
   start-reached task path all a e = first (eqb task bias) refl e
     where
-      third : (t : Bool) → eqb task mathematics ≡ t → cond t (latest bs (hex 9 0) path) Named.none ≡ Named.at a
+      third : (t : Bool) → eqb task mathematics ≡ t → cond t (latest bs 0x90 path) Named.none ≡ Named.at a
           → Reached (point task a 0) × Within h (point task a 0)
-      third true i e = rw (eqb-true task mathematics i) (latest-reached (hex 9 0) mathematics begins-mathematics path all a e)
+      third true i e = rw (eqb-true task mathematics i) (latest-reached 0x90 mathematics begins-mathematics path all a e)
       third false i e = absurd (let z : _≡_ {A = ℕ} 0 1 = cc in omega arith)
 
       second : (t : Bool) → eqb task plc ≡ t
-          → cond t (latest bs (hex 5 4) path) (cond (eqb task mathematics) (latest bs (hex 9 0) path) Named.none) ≡ Named.at a
+          → cond t (latest bs 0x54 path) (cond (eqb task mathematics) (latest bs 0x90 path) Named.none) ≡ Named.at a
           → Reached (point task a 0) × Within h (point task a 0)
-      second true i e = rw (eqb-true task plc i) (latest-reached (hex 5 4) plc begins-plc path all a e)
+      second true i e = rw (eqb-true task plc i) (latest-reached 0x54 plc begins-plc path all a e)
       second false i e = third (eqb task mathematics) refl e
 
       first : (t : Bool) → eqb task bias ≡ t
-          → cond t (Named.at (h .start)) (cond (eqb task plc) (latest bs (hex 5 4) path) (cond (eqb task mathematics) (latest bs (hex 9 0) path) Named.none)) ≡ Named.at a
+          → cond t (Named.at (h .start)) (cond (eqb task plc) (latest bs 0x54 path) (cond (eqb task mathematics) (latest bs 0x90 path) Named.none)) ≡ Named.at a
           → Reached (point task a 0) × Within h (point task a 0)
       first true i e = let w : h .start ≡ a = cc in rw (eqb-true task bias i, ← w) (Reach.begin, first-within)
       first false i e = second (eqb task plc) refl e

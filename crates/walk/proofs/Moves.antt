@@ -11,7 +11,7 @@ use lib.Dec.{T, eqb, ltb}
 use borrow.Author.Tests.{eqb-true, eqb-false, eq-eqb, ne-eqb, ltb-true, not-true}
 use Rattle.limits.specs.Limits.{bias, plc, mathematics}
 use Rattle.number.proofs.Choice.{clash, both}
-use Rattle.rows.specs.Rows.{hex, noRow, rows, rowIn, rowOf, wait, branch, return, startBias, startPlc, startMathematics, ending}
+use Rattle.rows.specs.Rows.{noRow, rows, rowIn, rowOf, wait, branch, return, startBias, startPlc, startMathematics, ending}
 use Rattle.rows.specs.Rows.{jump as jumped, call as called}
 use Rattle.rows.specs.declared.Row.{Row}
 use Rattle.rows.proofs.Laws.{every, every-row, same, same-is}
@@ -39,13 +39,13 @@ onBy n task = not (oneOf (ending ∷ called ∷ return ∷ jumped ∷ []) n || s
 -- a code and its flow: each code that walks name has a flow of its own, and jumps are jumps
 agrees : ℕ → Row → Bool
 agrees code r =
-    same (eqb code (hex 5 1)) (eqb (r .flow) ending) &&
-    (same (eqb code (hex 5 2)) (eqb (r .flow) called) &&
-    (same (eqb code (hex 5 3)) (eqb (r .flow) return) &&
-    (same (eqb code (hex 5 5)) (eqb (r .flow) jumped) &&
-    (same (eqb code (hex 5 7)) (eqb (r .flow) startBias) &&
-    (same (eqb code (hex 5 4)) (eqb (r .flow) startPlc) &&
-    (same (eqb code (hex 9 0)) (eqb (r .flow) startMathematics) &&
+    same (eqb code 0x51) (eqb (r .flow) ending) &&
+    (same (eqb code 0x52) (eqb (r .flow) called) &&
+    (same (eqb code 0x53) (eqb (r .flow) return) &&
+    (same (eqb code 0x55) (eqb (r .flow) jumped) &&
+    (same (eqb code 0x57) (eqb (r .flow) startBias) &&
+    (same (eqb code 0x54) (eqb (r .flow) startPlc) &&
+    (same (eqb code 0x90) (eqb (r .flow) startMathematics) &&
     (same (jumps code) (jumpsBy (r .flow)) &&
     (same (stays code) (eqb (r .flow) wait) &&
     (ltb 0 (r .flow) && ltb (r .flow) 11)))))))))
@@ -59,13 +59,13 @@ agree e = same-is _ _ (subst T (sym e) tt)
 
 -- what a code that some task may use has to do with its flow n
 pub record Flows (code n : ℕ) : Type 0 where
-  pub ends : eqb code (hex 5 1) ≡ eqb n ending
-  pub calls : eqb code (hex 5 2) ≡ eqb n called
-  pub returns : eqb code (hex 5 3) ≡ eqb n return
-  pub goes-to : eqb code (hex 5 5) ≡ eqb n jumped
-  pub begins-bias : eqb code (hex 5 7) ≡ eqb n startBias
-  pub begins-plc : eqb code (hex 5 4) ≡ eqb n startPlc
-  pub begins-mathematics : eqb code (hex 9 0) ≡ eqb n startMathematics
+  pub ends : eqb code 0x51 ≡ eqb n ending
+  pub calls : eqb code 0x52 ≡ eqb n called
+  pub returns : eqb code 0x53 ≡ eqb n return
+  pub goes-to : eqb code 0x55 ≡ eqb n jumped
+  pub begins-bias : eqb code 0x57 ≡ eqb n startBias
+  pub begins-plc : eqb code 0x54 ≡ eqb n startPlc
+  pub begins-mathematics : eqb code 0x90 ≡ eqb n startMathematics
   pub jumping : jumps code ≡ jumpsBy n
   pub staying : stays code ≡ eqb n wait
   pub some : 0 < n

@@ -8,7 +8,7 @@ use mathlib.Core.List.{List}
 use lib.Dec.{eqb}
 use borrow.Author.Tests.{eqb-true, eqb-false, eq-eqb}
 use Rattle.image.specs.declared.Header.{Header}
-use Rattle.rows.specs.Rows.{hex, rowOf}
+use Rattle.rows.specs.Rows.{rowOf}
 use Rattle.operands.specs.declared.Command.{Command}
 use Rattle.flow.specs.Flow.{flowOf}
 use Rattle.flow.specs.Tasks.{permitted}
@@ -24,7 +24,7 @@ use Rattle.walk.proofs.Moves.{Flows, carried, onBy, startsBy, callF, wa
 -- where a step leads that is no move
 pub data Special (h : Header) (bs : List ℕ) (path : List Point) (p : Point) (c : Command) (q : Point) : Type 0 where
   stays : waits (c .code) ≡ true → q ≡ p → Special h bs path p c q
-  restarts : (a : ℕ) → c .code ≡ hex 5 1 → startOf h bs (p .task) path ≡ Named.at a → q ≡ point (p .task) a 0 → Special h bs path p c q
+  restarts : (a : ℕ) → c .code ≡ 0x51 → startOf h bs (p .task) path ≡ Named.at a → q ≡ point (p .task) a 0 → Special h bs path p c q
 
 module _ (h : Header) (bs : List ℕ) (path : List Point) (p : Point) (c : Command) (allowed : permitted (c .code) (p .task) ≡ true) where
   codes : Flows (c .code) (rowOf (c .code) .flow)
@@ -41,7 +41,7 @@ module _ (h : Header) (bs : List ℕ) (path : List Point) (p : Point) (c : Comma
   on t =
       rw (codes .ends, codes .calls, codes .returns, codes .goes-to, codes .begins-bias, codes .begins-plc, codes .begins-mathematics)
 
-  called : c .code ≡ hex 5 2 → callF (flowOf c) ≡ true
+  called : c .code ≡ 0x52 → callF (flowOf c) ≡ true
   called e = sym (flow .call) ∙ sym (codes .calls) ∙ eq-eqb _ _ e
 
   step-move : (q : Point) → Step h bs path p c q → Move (flowOf c) (c .word) p q ⊎ Special h bs path p c q

@@ -8,7 +8,6 @@ use mathlib.Core.List.{List, [], _∷_}
 use lib.Dec.{eqb}
 use Rattle.limits.specs.Limits.{bias, plc, mathematics}
 use Rattle.image.specs.declared.Header.{Header}
-use Rattle.rows.specs.Rows.{hex}
 use Rattle.operands.specs.declared.Command.{Command}
 use Rattle.point.specs.Fault.{point}
 use Rattle.point.specs.declared.Point.{Point}
@@ -23,19 +22,19 @@ oneOf (k ∷ ks) code = eqb code k || oneOf ks code
 
 -- jumps, and branches that may jump (55, 61, 6E, 70, 71, 81, 89)
 abbrev pub jumps : ℕ → Bool
-jumps = oneOf (hex 5 5 ∷ hex 6 1 ∷ hex 6 14 ∷ hex 7 0 ∷ hex 7 1 ∷ hex 8 1 ∷ hex 8 9 ∷ [])
+jumps = oneOf (0x55 ∷ 0x61 ∷ 0x6E ∷ 0x70 ∷ 0x71 ∷ 0x81 ∷ 0x89 ∷ [])
 
 -- moves and waits, which may stay at their block (00, 01, 03, 04, 58, 59, 5A)
 abbrev pub stays : ℕ → Bool
-stays = oneOf (hex 0 0 ∷ hex 0 1 ∷ hex 0 3 ∷ hex 0 4 ∷ hex 5 8 ∷ hex 5 9 ∷ hex 5 10 ∷ [])
+stays = oneOf (0x00 ∷ 0x01 ∷ 0x03 ∷ 0x04 ∷ 0x58 ∷ 0x59 ∷ 0x5A ∷ [])
 
 -- 57, 54 and 90 start BIAS, the PLC and mathematics
 abbrev pub starts : ℕ → ℕ → Bool
-starts code task = (eqb code (hex 5 7) && eqb task bias) || ((eqb code (hex 5 4) && eqb task plc) || (eqb code (hex 9 0) && eqb task mathematics))
+starts code task = (eqb code 0x57 && eqb task bias) || ((eqb code 0x54 && eqb task plc) || (eqb code 0x90 && eqb task mathematics))
 
 -- what may go on with the next block at the same depth, 52 apart: all but 51, 53, 55 and a start of the own task
 abbrev pub goesOn : ℕ → ℕ → Bool
-goesOn code task = not (oneOf (hex 5 1 ∷ hex 5 2 ∷ hex 5 3 ∷ hex 5 5 ∷ []) code || starts code task)
+goesOn code task = not (oneOf (0x51 ∷ 0x52 ∷ 0x53 ∷ 0x55 ∷ []) code || starts code task)
 
 -- ---- the start of a task
 
@@ -53,8 +52,8 @@ latest bs code (p ∷ path) = cond (eqb (commandAt bs (p .block) .code) code) (a
 unfoldable pub startOf : Header → List ℕ → ℕ → List Point → Named
 startOf h bs task path =
     cond (eqb task bias) (at (h .start))
-    (cond (eqb task plc) (latest bs (hex 5 4) path)
-    (cond (eqb task mathematics) (latest bs (hex 9 0) path) none))
+    (cond (eqb task plc) (latest bs 0x54 path)
+    (cond (eqb task mathematics) (latest bs 0x90 path) none))
 
 -- ---- steps and walks
 
@@ -64,14 +63,14 @@ pub data Step (h : Header) (bs : List ℕ) (path : List Point) (p : Point) (c : 
   stay : stays (c .code) ≡ true → Step h bs path p c p
   jump : jumps (c .code) ≡ true → Step h bs path p c (point (p .task) (c .word) (p .depth))
   -- 52: into the sub-program, one deeper; and to the block behind the call, at its own depth
-  call : c .code ≡ hex 5 2 → Step h bs path p c (point (p .task) (c .word) (p .depth + 1))
-  behind : c .code ≡ hex 5 2 → Step h bs path p c (point (p .task) (p .block + 1) (p .depth))
+  call : c .code ≡ 0x52 → Step h bs path p c (point (p .task) (c .word) (p .depth + 1))
+  behind : c .code ≡ 0x52 → Step h bs path p c (point (p .task) (p .block + 1) (p .depth))
   -- 54, 57, 90 that start another task: to the named block of that task at depth 0 (and on, by `next`)
   start : (u : ℕ) → starts (c .code) u ≡ true → (u ≡ p .task → ⊥) → Step h bs path p c (point u (c .word) 0)
   -- that start their own: to the named block at depth 0, and nowhere else. (Forbidden by 9 today, as the boxes stand.)
   own : starts (c .code) (p .task) ≡ true → Step h bs path p c (point (p .task) (c .word) 0)
   -- mode 0 of 51 returns to the task's start at depth 0
-  restart : (a : ℕ) → c .code ≡ hex 5 1 → c .x ≡ 0 → startOf h bs (p .task) path ≡ at a → Step h bs path p c (point (p .task) a 0)
+  restart : (a : ℕ) → c .code ≡ 0x51 → c .x ≡ 0 → startOf h bs (p .task) path ≡ at a → Step h bs path p c (point (p .task) a 0)
 
 -- a walk that has passed `path` and is now at a point. BIAS begins it at the program start, inside no call; it goes on only where nothing is broken:
 -- neither from a bad point nor from a foreign 51

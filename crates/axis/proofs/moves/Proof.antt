@@ -18,12 +18,12 @@ moves-spec =
     (λ c.
     let a = c .before .before .before .before .args in
     c .asks .ensures
-    ∙ ap (λ (w : Values). effect w (a .motion) GoOn) (c .before .with-mark .ensures)
-    ∙ ap (λ (t : Bool). cond t (effect (withMark 0 (a .v)) (a .motion) GoOn) (flows (a .v) (Stay 0 0)))
+    ∙ ap (λ (w : Values). effect w (a .request) GoOn) (c .before .with-mark .ensures)
+    ∙ ap (λ (t : Bool). cond t (effect (withMark 0 (a .v)) (a .request) GoOn) (flows (a .v) (Stay 0 0)))
     (sym (c .before .before .if1 .taken) ∙ c .before .before .before .started .ensures))
     (λ c κs. tt)
     (λ c.
     let a = c .before .before .before .args in
     c .flows .ensures
-    ∙ ap (λ (t : Bool). cond t (effect (withMark 0 (a .v)) (a .motion) GoOn) (flows (a .v) (Stay 0 0)))
+    ∙ ap (λ (t : Bool). cond t (effect (withMark 0 (a .v)) (a .request) GoOn) (flows (a .v) (Stay 0 0)))
     (sym (c .before .if1 .left) ∙ c .before .before .started .ensures)))

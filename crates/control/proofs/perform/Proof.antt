@@ -22,7 +22,6 @@ perform-spec =
     (λ c κs. c .before .before .pre)
     (λ c κs. c .before .before .pre)
     (λ c κs. tt)
-    (λ c κs. tt)
     (λ c. let a = c .before .before .before .args in found controlRows (givenAt (a .m) (now (a .inputs))) (a .c) (a .v) (c .before .match .keys1) (c .sets .ensures))
     (λ c. let a = c .before .before .before .args in found controlRows (givenAt (a .m) (now (a .inputs))) (a .c) (a .v) (c .before .match .keys2) (c .end .ensures))
     (λ c. let a = c .before .before .before .args in found controlRows (givenAt (a .m) (now (a .inputs))) (a .c) (a .v) (c .before .match .keys3) (c .call .ensures))
@@ -33,5 +32,4 @@ perform-spec =
     (λ c. let a = c .before .before .before .args in found controlRows (givenAt (a .m) (now (a .inputs))) (a .c) (a .v) (c .before .match .keys8) (c .wait-for-position .ensures))
     (λ c. let a = c .before .before .before .args in found controlRows (givenAt (a .m) (now (a .inputs))) (a .c) (a .v) (c .before .match .keys9) (c .wait .ensures))
     (λ c. let a = c .before .before .before .args in found controlRows (givenAt (a .m) (now (a .inputs))) (a .c) (a .v) (c .before .match .keys10) (c .wait-by-variable .ensures))
-    (λ c. let a = c .before .before .before .args in found controlRows (givenAt (a .m) (now (a .inputs))) (a .c) (a .v) (c .before .match .keys11) (c .start-mathematics .ensures))
     (λ c. let a = c .before .before .before .args in missed controlRows (givenAt (a .m) (now (a .inputs))) (a .c) (a .v) (a .c .code) (c .before .match .rest) (c .flows .ensures)))
