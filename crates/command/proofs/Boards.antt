@@ -1,6 +1,6 @@
 -- 6 and 23 of a block (change request 3): a block that is refused by 23 passes both with a board that the type may carry, one that is refused by 6 stays so
 -- whatever is in the slots, and 23 never comes on a 631. Assumes nothing.
-use Prim.Native.Nat.{ℕ, zero, suc}
+use Prim.Native.Nat.{ℕ}
 use native.Mathlib.Omega.{arith}
 use mathlib.Core.Path.{_≡_, refl, sym, ap, _∙_}
 use mathlib.Core.Bool.{Bool, true, false, cond}
@@ -23,6 +23,8 @@ use Rattle.image.specs.Numbers.{withDrive}
 use Rattle.image.specs.declared.Header.{Header}
 use Rattle.rows.specs.Rows.{rowOf}
 use Rattle.rows.specs.declared.Row.{Row}
+use Rattle.rows.specs.declared.Device.{Device}
+use Rattle.rows.specs.declared.Device.the-variants.{NoDevice, InputX, InputY, OutputReadX, OutputReadY, OutputWrittenX, Not637Plus}
 use Rattle.operands.specs.Operands.{byteAt, laidOut, unusedZero}
 use Rattle.operands.specs.declared.Command.{Command}
 use Rattle.command.specs.Judged.{notOn637Plus, devicePresence, operandFault, ifPresent, commandFault, rowFault, blockFault, blockFaultNumber, inRange}
@@ -32,13 +34,13 @@ use Rattle.command.specs.declared.BlockFault.the-variants.{Fine, NotCarr
 
 -- ---- what a command needs, for each device
 
-record Device (f : Drive → ℕ → ℕ → Presence) : Type 0 where
+record Known (f : Drive → ℕ → ℕ → Presence) : Type 0 where
   board : Drive → ℕ → ℕ → Home
   carried : (d : Drive) (x y : ℕ) → f d x y ≡ presence.BoardMissing → mayCarry (d .model) (board d x y) ≡ true
   bought : (d : Drive) (x y : ℕ) → f d x y ≡ presence.BoardMissing → f (fitted d (board d x y)) x y ≡ presence.Present
   never : (d : Drive) (x y : ℕ) → f d x y ≡ presence.Never → (b c : ℕ) → f (withBoards d b c) x y ≡ presence.Never
 
-no-device : Device (λ d x y. presence.Present)
+no-device : Known (λ d x y. presence.Present)
 no-device = record {
   board = λ d x y. home.Nowhere;
   carried = λ d x y e. differ presence.Present presence.BoardMissing (λ r. omega arith) e;
@@ -47,7 +49,7 @@ no-device = record {
 }
 
 -- a pin, in one of the operands
-pin-device : (kind : PinKind) (which : ℕ → ℕ → ℕ) → Device (λ d x y. pinOf d kind (which x y))
+pin-device : (kind : PinKind) (which : ℕ → ℕ → ℕ) → Known (λ d x y. pinOf d kind (which x y))
 pin-device kind which = record {
   board = λ d x y. homeOf kind (which x y);
   carried = λ d x y e. missing-exactly d kind (which x y) .0 e .carried;
@@ -55,7 +57,7 @@ pin-device kind which = record {
   never = λ d x y e. never-with d kind (which x y) e;
 }
 
-not-637-plus : Device (λ d x y. notOn637Plus d)
+not-637-plus : Known (λ d x y. notOn637Plus d)
 not-637-plus = record {
   board = λ d x y. home.Nowhere;
   carried = λ d x y e. none-missing (eqb (d .model) type637Plus) e;
@@ -67,16 +69,14 @@ not-637-plus = record {
     none-missing true e = differ presence.Never presence.BoardMissing (λ r. omega arith) e
     none-missing false e = differ presence.Present presence.BoardMissing (λ r. omega arith) e
 
-device : (n : ℕ) → Device (devicePresence n)
-unfolding devicePresence
-device zero = no-device
-device (suc zero) = pin-device Input (λ x y. x)
-device (suc (suc zero)) = pin-device Input (λ x y. y)
-device (suc (suc (suc zero))) = pin-device OutputRead (λ x y. x)
-device (suc (suc (suc (suc zero)))) = pin-device OutputRead (λ x y. y)
-device (suc (suc (suc (suc (suc zero))))) = pin-device OutputWritten (λ x y. x)
-device (suc (suc (suc (suc (suc (suc zero)))))) = not-637-plus
-device (suc (suc (suc (suc (suc (suc (suc n))))))) = no-device
+device : (k : Device) → Known (devicePresence k)
+device NoDevice = no-device
+device InputX = pin-device Input (λ x y. x)
+device InputY = pin-device Input (λ x y. y)
+device OutputReadX = pin-device OutputRead (λ x y. x)
+device OutputReadY = pin-device OutputRead (λ x y. y)
+device OutputWrittenX = pin-device OutputWritten (λ x y. x)
+device Not637Plus = not-637-plus
 
 -- ---- a command: 6 and 23 are what the drive has, and nothing else is
 
@@ -131,17 +131,17 @@ module _ (h : Header) (b : List ℕ) where
   rest = operandFault row (h .count) b c
 
   -- on any drive: 5, or what the drive has
-  by-drive : (d : Drive) (t : Bool) → eqb (row .layout) 0 ≡ t → blockFault (withDrive d h) b ≡ cond t NotCarried (ifPresent (has d) rest)
+  by-drive : (d : Drive) (t : Bool) → row .carried ≡ t → blockFault (withDrive d h) b ≡ cond t (ifPresent (has d) rest) NotCarried
   unfolding blockFault rowFault commandFault
-  by-drive d t e = ap (λ (u : Bool). cond u NotCarried (ifPresent (has d) rest)) e
+  by-drive d t e = ap (λ (u : Bool). cond u (ifPresent (has d) rest) NotCarried) e
 
   -- a block with a fault of the drive is carried, and the fault is what the drive has
-  of-presence : {A : Type 0} (f : BlockFault) → (NotCarried ≡ f → A) → (ifPresent (has (h .drive)) rest ≡ f → eqb (row .layout) 0 ≡ false → A) → blockFault h b ≡ f → A
-  of-presence {A} f uncarried carried e = go (eqb (row .layout) 0) refl
+  of-presence : {A : Type 0} (f : BlockFault) → (NotCarried ≡ f → A) → (ifPresent (has (h .drive)) rest ≡ f → row .carried ≡ true → A) → blockFault h b ≡ f → A
+  of-presence {A} f uncarried carried e = go (row .carried) refl
     where
-      go : (t : Bool) → eqb (row .layout) 0 ≡ t → A
-      go true i = uncarried (sym (by-drive (h .drive) true i) ∙ e)
-      go false i = carried (sym (by-drive (h .drive) false i) ∙ e) i
+      go : (t : Bool) → row .carried ≡ t → A
+      go true i = carried (sym (by-drive (h .drive) true i) ∙ e) i
+      go false i = uncarried (sym (by-drive (h .drive) false i) ∙ e)
 
   board : Home
   board = device (row .device) .board (h .drive) (c .x) (c .y)
@@ -162,7 +162,7 @@ module _ (h : Header) (b : List ℕ) where
       (λ i k.
       let m = missing row (h .count) b c (has (h .drive)) i in
       let there = device (row .device) .bought (h .drive) (c .x) (c .y) m in
-      let after = by-drive (fitted (h .drive) board) false k ∙ ap (λ (p : Presence). ifPresent p rest) there in
+      let after = by-drive (fitted (h .drive) board) true k ∙ ap (λ (p : Presence). ifPresent p rest) there in
       record {
         board = board;
         carried = device (row .device) .carried (h .drive) (c .x) (c .y) m;
@@ -185,7 +185,7 @@ module _ (h : Header) (b : List ℕ) where
           (λ i k. record {
             still = λ slotB slotC.
                 let never = device (row .device) .never (h .drive) (c .x) (c .y) (barred row (h .count) b c (has (h .drive)) i) slotB slotC in
-                by-drive (withBoards (h .drive) slotB slotC) false k ∙ ap (λ (p : Presence). ifPresent p rest) never;
+                by-drive (withBoards (h .drive) slotB slotC) true k ∙ ap (λ (p : Presence). ifPresent p rest) never;
           })
 
   -- so 6 is never told where a board would do

@@ -2,8 +2,7 @@
 -- change request 3 splits 23 off 6). Which device and which ranges a code asks for stands in its row. Assumes nothing.
 use Prim.Native.Nat.{ℕ, _+_}
 use mathlib.Core.Bool.{Bool, true, _&&_, not, cond}
-use mathlib.Core.List.{List, [], _∷_}
-use lib.ListN.{getD}
+use mathlib.Core.List.{List}
 use lib.Dec.{eqb, ltb, leb}
 use lib.IntN.{pos}
 use Rattle.limits.specs.Limits.{cells, mostLevel, mostRun, mostSpeed, mostRamp, upTo}
@@ -17,6 +16,11 @@ use Rattle.drive.specs.declared.Presence.the-variants as presence
 use Rattle.image.specs.declared.Header.{Header}
 use Rattle.rows.specs.Rows.{rowOf}
 use Rattle.rows.specs.declared.Row.{Row}
+use Rattle.rows.specs.declared.Device.{Device}
+use Rattle.rows.specs.declared.Device.the-variants.{NoDevice, InputX, InputY, OutputReadX, OutputReadY, OutputWrittenX, Not637Plus}
+use Rattle.rows.specs.declared.Ranges.{Ranges}
+use Rattle.rows.specs.declared.Ranges.the-variants.{Any, Address, Mode, Level, LevelJump, BitJump, ConditionJump, Divisor, FlagRun}
+use Rattle.rows.specs.declared.Ranges.the-variants.{AxisTarget, ModeAxis, ModeRamp, Speed, Ramp}
 use Rattle.operands.specs.Operands.{byteAt, laidOut, unusedZero}
 use Rattle.operands.specs.declared.Command.{Command}
 use Rattle.command.specs.declared.BlockFault.{BlockFault}
@@ -27,21 +31,15 @@ use Rattle.command.specs.declared.BlockFault.the-variants.{Fine, NotCarr
 abbrev pub notOn637Plus : Drive → Presence
 notOn637Plus d = cond (eqb (d .model) type637Plus) presence.Never presence.Present
 
--- for the operands x and y
-abbrev pub devices : List (Drive → ℕ → ℕ → Presence)
-devices =
-    (λ d x y. presence.Present) ∷  -- 0, noDevice
-    (λ d x y. pinOf d Input x) ∷  -- 1, inputX
-    (λ d x y. pinOf d Input y) ∷  -- 2, inputY
-    (λ d x y. pinOf d OutputRead x) ∷  -- 3, outputReadX
-    (λ d x y. pinOf d OutputRead y) ∷  -- 4, outputReadY
-    (λ d x y. pinOf d OutputWritten x) ∷  -- 5, outputWrittenX
-    (λ d x y. notOn637Plus d) ∷  -- 6, not637Plus
-    []
-
--- whether the drive has it
-unfoldable pub devicePresence : ℕ → Drive → ℕ → ℕ → Presence
-devicePresence n = getD devices n (λ d x y. presence.Present)
+-- whether the drive has it, for the operands x and y
+abbrev pub devicePresence : Device → Drive → ℕ → ℕ → Presence
+devicePresence NoDevice d x y = presence.Present
+devicePresence InputX d x y = pinOf d Input x
+devicePresence InputY d x y = pinOf d Input y
+devicePresence OutputReadX d x y = pinOf d OutputRead x
+devicePresence OutputReadY d x y = pinOf d OutputRead y
+devicePresence OutputWrittenX d x y = pinOf d OutputWritten x
+devicePresence Not637Plus d x y = notOn637Plus d
 
 -- ---- 7: the operands' ranges, by the row's ranges
 
@@ -77,37 +75,31 @@ conditionJump count y word = leb y mostCondition && ltb word count
 abbrev pub flagRun : ℕ → ℕ → Bool
 flagRun y z = upTo mostRun z && leb (y + z) cells
 
-abbrev pub axis : ℕ → ℕ → Bool
-axis x y = eqb x 0 && eqb y 0
+abbrev pub axisTarget : ℕ → ℕ → Bool
+axisTarget x y = eqb x 0 && eqb y 0
 
-abbrev pub stop : ℕ → ℕ → Bool
-stop x y = leb x mostStop && eqb y 0
+abbrev pub modeAxis : ℕ → ℕ → Bool
+modeAxis x y = leb x mostStop && eqb y 0
 
-abbrev pub rampStop : ℕ → ℕ → Bool
-rampStop x word = leb x mostStop && upTo mostRamp word
+abbrev pub modeRamp : ℕ → ℕ → Bool
+modeRamp x word = leb x mostStop && upTo mostRamp word
 
--- for the operands of a command, in an image of `count` blocks
-abbrev pub ranges : List (ℕ → Command → Bool)
-ranges =
-    (λ count c. true) ∷  -- 0, any
-    (λ count c. ltb (c .word) count) ∷  -- 1, address
-    (λ count c. leb (c .x) mostMode) ∷  -- 2, mode
-    (λ count c. leb (c .y) mostLevel) ∷  -- 3, level
-    (λ count c. levelJump count (c .y) (c .z) (c .word)) ∷  -- 4, levelJump
-    (λ count c. bitJump count (c .y) (c .z) (c .word)) ∷  -- 5, bitJump
-    (λ count c. conditionJump count (c .y) (c .word)) ∷  -- 6, conditionJump
-    (λ count c. not (eqZ (c .value) (pos 0))) ∷  -- 7, divisor
-    (λ count c. flagRun (c .y) (c .z)) ∷  -- 8, flagRun
-    (λ count c. axis (c .x) (c .y)) ∷  -- 9, axis
-    (λ count c. stop (c .x) (c .y)) ∷  -- 10, stop
-    (λ count c. rampStop (c .x) (c .word)) ∷  -- 11, rampStop
-    (λ count c. upTo mostSpeed (c .word)) ∷  -- 12, speed
-    (λ count c. upTo mostRamp (c .word)) ∷  -- 13, ramp
-    []
-
--- whether they are in range
-unfoldable pub inRange : ℕ → ℕ → Command → Bool
-inRange n = getD ranges n (λ count c. true)
+-- whether the operands of a command are in range, in an image of `count` blocks
+abbrev pub inRange : Ranges → ℕ → Command → Bool
+inRange Any count c = true
+inRange Address count c = ltb (c .word) count
+inRange Mode count c = leb (c .x) mostMode
+inRange Level count c = leb (c .y) mostLevel
+inRange LevelJump count c = levelJump count (c .y) (c .z) (c .word)
+inRange BitJump count c = bitJump count (c .y) (c .z) (c .word)
+inRange ConditionJump count c = conditionJump count (c .y) (c .word)
+inRange Divisor count c = not (eqZ (c .value) (pos 0))
+inRange FlagRun count c = flagRun (c .y) (c .z)
+inRange AxisTarget count c = axisTarget (c .x) (c .y)
+inRange ModeAxis count c = modeAxis (c .x) (c .y)
+inRange ModeRamp count c = modeRamp (c .x) (c .word)
+inRange Speed count c = upTo mostSpeed (c .word)
+inRange Ramp count c = upTo mostRamp (c .word)
 
 -- ---- the block
 
@@ -133,9 +125,9 @@ ifPresent presence.Never later = NotOnDrive
 unfoldable pub commandFault : Row → Header → List ℕ → Command → BlockFault
 commandFault r h b c = ifPresent (devicePresence (r .device) (h .drive) (c .x) (c .y)) (operandFault r (h .count) b c)
 
--- by its code's row; a row of layout 0 is none
+-- by its code's row
 unfoldable pub rowFault : Row → Header → List ℕ → BlockFault
-rowFault r h b = cond (eqb (r .layout) 0) NotCarried (commandFault r h b (laidOut (r .layout) b))
+rowFault r h b = cond (r .carried) (commandFault r h b (laidOut (r .layout) b)) NotCarried
 
 unfoldable pub blockFault : Header → List ℕ → BlockFault
 blockFault h b = rowFault (rowOf (byteAt b 0)) h b

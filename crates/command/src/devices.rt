@@ -2,22 +2,22 @@
 use drive::Drive;
 use drive::Presence;
 use pins::PinKind;
+use rows::Device;
 ghost use mathlib.Core.Path.{_≡_};
 ghost use Rattle.command.specs.Judged.{notOn637Plus, devicePresence};
 
 // Whether the drive has what the command needs for its operands x and y.
-pub fn presence(device: u8, drive: Drive, x: u8, y: u8) -> Presence
+pub fn presence(device: Device, drive: Drive, x: u8, y: u8) -> Presence
     ensures { λ r. ⌜ r ≡ devicePresence device drive x y ⌝ }
 {
     match device {
-        rows::INPUT_X => drive.pin(PinKind::Input, x),
-        rows::INPUT_Y => drive.pin(PinKind::Input, y),
-        rows::OUTPUT_READ_X => drive.pin(PinKind::OutputRead, x),
-        rows::OUTPUT_READ_Y => drive.pin(PinKind::OutputRead, y),
-        rows::OUTPUT_WRITTEN_X => drive.pin(PinKind::OutputWritten, x),
-        rows::NOT_637_PLUS => not_on_637_plus(drive),
-        // NO_DEVICE: no row has a number past these (proofs/Columns.antt)
-        _ => Presence::Present,
+        Device::NoDevice => Presence::Present,
+        Device::InputX => drive.pin(PinKind::Input, x),
+        Device::InputY => drive.pin(PinKind::Input, y),
+        Device::OutputReadX => drive.pin(PinKind::OutputRead, x),
+        Device::OutputReadY => drive.pin(PinKind::OutputRead, y),
+        Device::OutputWrittenX => drive.pin(PinKind::OutputWritten, x),
+        Device::Not637Plus => not_on_637_plus(drive),
     }
 }
 

@@ -47,17 +47,19 @@ pub fn judge(header: Header, block: [u8; BLOCK_LENGTH]) -> BlockFault
     ensures { λ r. ⌜ r ≡ blockFault header block ⌝ }
 {
     let row = rows::find(block[0]);
-    if row.layout == 0 {
+    if !row.carried {
         return BlockFault::NotCarried;
     }
-    judge_command(row, header, block, operands::lay_out(row.layout, block))
+    let layout = row.layout;
+    judge_command(row, header, block, operands::lay_out(layout, block))
 }
 
 // A block whose code has this row, with its operands c: what the drive must have, then the operands.
 fn judge_command(row: Row, header: Header, block: [u8; BLOCK_LENGTH], c: Command) -> BlockFault
     ensures { λ r. ⌜ r ≡ commandFault row header block c ⌝ }
 {
-    match devices::presence(row.device, header.drive, c.x, c.y) {
+    let device = row.device;
+    match devices::presence(device, header.drive, c.x, c.y) {
         Presence::Present => judge_operands(row, header.count, block, c),
         Presence::BoardMissing => BlockFault::BoardMissing,
         Presence::Never => BlockFault::NotOnDrive,
@@ -68,10 +70,12 @@ fn judge_command(row: Row, header: Header, block: [u8; BLOCK_LENGTH], c: Command
 fn judge_operands(row: Row, count: u16, block: [u8; BLOCK_LENGTH], c: Command) -> BlockFault
     ensures { λ r. ⌜ r ≡ operandFault row count block c ⌝ }
 {
-    if !ranges::in_range(row.ranges, count, c) {
+    let ranges = row.ranges;
+    if !ranges::in_range(ranges, count, c) {
         return BlockFault::OutOfRange;
     }
-    if !operands::unused_zero(row.layout, block) {
+    let layout = row.layout;
+    if !operands::unused_zero(layout, block) {
         return BlockFault::NotZero;
     }
     BlockFault::Fine

@@ -1,7 +1,8 @@
 // The ranges of the operands (document 01, refusal 7), by the ranges of a code's row: one small test for each.
 use operands::Command;
+use rows::Ranges;
 ghost use mathlib.Core.Path.{_≡_};
-ghost use Rattle.command.specs.Judged.{levelJump, bitJump, conditionJump, flagRun, axis, stop, rampStop, inRange};
+ghost use Rattle.command.specs.Judged.{levelJump, bitJump, conditionJump, flagRun, axisTarget, modeAxis, modeRamp, inRange};
 
 // 0 equal, 1 unequal: the conditions of 61, 6E, 70, 71.
 pub const MOST_EQUALITY: u8 = 1;
@@ -22,7 +23,7 @@ pub const MOST_CONDITION: u8 = 7;
 const FLAGS: u16 = limits::CELLS as u16;
 
 // Whether the operands of a command are in range, in an image of this many blocks.
-pub fn in_range(ranges: u8, count: u16, c: Command) -> bool
+pub fn in_range(ranges: Ranges, count: u16, c: Command) -> bool
     ensures { λ r. ⌜ r ≡ inRange ranges count c ⌝ }
 {
     let x = c.x;
@@ -31,21 +32,20 @@ pub fn in_range(ranges: u8, count: u16, c: Command) -> bool
     let word = c.word;
     let value = c.value;
     match ranges {
-        rows::ADDRESS => word < count,
-        rows::MODE => x <= MOST_MODE,
-        rows::LEVEL => y <= limits::MOST_LEVEL,
-        rows::LEVEL_JUMP => level_jump(count, y, z, word),
-        rows::BIT_JUMP => bit_jump(count, y, z, word),
-        rows::CONDITION_JUMP => condition_jump(count, y, word),
-        rows::DIVISOR => value != 0,
-        rows::FLAG_RUN => flag_run(y, z),
-        rows::AXIS => axis(x, y),
-        rows::STOP => stop(x, y),
-        rows::RAMP_STOP => ramp_stop(x, word),
-        rows::SPEED => limits::up_to(limits::MOST_SPEED, word),
-        rows::RAMP => limits::up_to(limits::MOST_RAMP, word),
-        // ANY: no row has a number past these (proofs/Columns.antt)
-        _ => true,
+        Ranges::Any => true,
+        Ranges::Address => word < count,
+        Ranges::Mode => x <= MOST_MODE,
+        Ranges::Level => y <= limits::MOST_LEVEL,
+        Ranges::LevelJump => level_jump(count, y, z, word),
+        Ranges::BitJump => bit_jump(count, y, z, word),
+        Ranges::ConditionJump => condition_jump(count, y, word),
+        Ranges::Divisor => value != 0,
+        Ranges::FlagRun => flag_run(y, z),
+        Ranges::AxisTarget => axis_target(x, y),
+        Ranges::ModeAxis => mode_axis(x, y),
+        Ranges::ModeRamp => mode_ramp(x, word),
+        Ranges::Speed => limits::up_to(limits::MOST_SPEED, word),
+        Ranges::Ramp => limits::up_to(limits::MOST_RAMP, word),
     }
 }
 
@@ -80,20 +80,20 @@ fn flag_run(y: u8, z: u8) -> bool
     limits::up_to(limits::MOST_RUN, z as u16) && y as u16 + z as u16 <= FLAGS
 }
 
-fn axis(x: u8, y: u8) -> bool
-    ensures { λ r. ⌜ r ≡ axis x y ⌝ }
+fn axis_target(x: u8, y: u8) -> bool
+    ensures { λ r. ⌜ r ≡ axisTarget x y ⌝ }
 {
     x == 0 && y == 0
 }
 
-fn stop(x: u8, y: u8) -> bool
-    ensures { λ r. ⌜ r ≡ stop x y ⌝ }
+fn mode_axis(x: u8, y: u8) -> bool
+    ensures { λ r. ⌜ r ≡ modeAxis x y ⌝ }
 {
     x <= MOST_STOP && y == 0
 }
 
-fn ramp_stop(x: u8, word: u16) -> bool
-    ensures { λ r. ⌜ r ≡ rampStop x word ⌝ }
+fn mode_ramp(x: u8, word: u16) -> bool
+    ensures { λ r. ⌜ r ≡ modeRamp x word ⌝ }
 {
     x <= MOST_STOP && limits::up_to(limits::MOST_RAMP, word)
 }

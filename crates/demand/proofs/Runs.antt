@@ -113,8 +113,8 @@ turn-same image m x =
     (either Same (eqb (length (x .levels)) 256)
     (either Same (k .runs)
     (either Same (ltb (k .block) (headerOf image .header .count))
-    (either Same (eqb (rowOf (commandAt (blocksOf image) (k .block) .code) .layout) 0) refl
-    (either Same (lost (effect .outcome) (k .returns)) refl (reply-same (effect .outcome) (x .task) k)))
+    (either Same (rowOf (commandAt (blocksOf image) (k .block) .code) .carried)
+    (either Same (lost (effect .outcome) (k .returns)) refl (reply-same (effect .outcome) (x .task) k)) refl)
     refl)
     refl)
     refl)

@@ -1,8 +1,8 @@
 // Effects in their forms, and what several commands read alike.
 use machine::Cause;
 use machine::Effect;
-use machine::Request;
 use machine::Outcome;
+use machine::Request;
 use operands::Command;
 use state::Values;
 ghost use mathlib.Core.Path.{_≡_};

@@ -4,37 +4,36 @@ use Prim.Native.Nat.{ℕ, _+_}
 use mathlib.Core.Path.{_≡_, refl, sym, ap, subst, _∙_}
 use mathlib.Core.Bool.{Bool, true, not}
 use mathlib.Core.Logic.{⊎-elim, _↔_}
-use native.Mathlib.Omega.{arith}
 use lib.Dec.{T, eqb}
 use borrow.Author.Tests.{eqb-true, eqb-false, eq-eqb, ne-eqb, not-true}
-use Rattle.number.proofs.Choice.{both}
-use Rattle.rows.specs.Rows.{noRow, rows, rowIn, rowOf, ending}
+use Rattle.number.proofs.Choice.{clash, both}
+use Rattle.rows.specs.Rows.{isEnding, noRow, rows, rowIn, rowOf}
 use Rattle.rows.specs.declared.Row.{Row}
 use Rattle.rows.proofs.Laws.{every, every-row, same, same-is}
 use Rattle.operands.specs.declared.Command.{Command}
 use Rattle.flow.specs.Tasks.{foreign}
 
 only51 : ℕ → Row → Bool
-only51 code r = same (eqb (r .flow) ending) (eqb code 0x51)
+only51 code r = same (isEnding (r .flow)) (eqb code 0x51)
 
 all-rows : T (every only51 rows)
 unfolding only51 rows
 all-rows = tt
 
-ends-51 : rowIn rows 0x51 .flow ≡ ending
+ends-51 : isEnding (rowIn rows 0x51 .flow) ≡ true
 unfolding rowIn rows
 ends-51 = refl
 
 -- the flow of an end is that of 51
-ends-is : (code : ℕ) → eqb (rowOf code .flow) ending ≡ eqb code 0x51
+ends-is : (code : ℕ) → isEnding (rowOf code .flow) ≡ eqb code 0x51
 unfolding rowOf only51
 ends-is code = ⊎-elim none (λ e. same-is _ _ (subst T (sym e) tt)) (every-row only51 rows all-rows code)
   where
     unlike : rowIn rows code ≡ noRow → code ≡ 0x51 → ⊥
-    unlike n e = let k = sym ends-51 ∙ ap (λ (k : ℕ). rowIn rows k .flow) (sym e) ∙ ap (λ (r : Row). r .flow) n in omega arith
+    unlike n e = clash (sym ends-51 ∙ ap (λ (k : ℕ). isEnding (rowIn rows k .flow)) (sym e) ∙ ap (λ (r : Row). isEnding (r .flow)) n)
 
-    none : rowIn rows code ≡ noRow → eqb (rowIn rows code .flow) ending ≡ eqb code 0x51
-    none n = ap (λ (r : Row). eqb (r .flow) ending) n ∙ sym (ne-eqb code 0x51 (unlike n))
+    none : rowIn rows code ≡ noRow → isEnding (rowIn rows code .flow) ≡ eqb code 0x51
+    none n = ap (λ (r : Row). isEnding (r .flow)) n ∙ sym (ne-eqb code 0x51 (unlike n))
 
 -- a 51 of another task's mode, in words
 pub record EndsAnother (task : ℕ) (c : Command) : Type 0 where
@@ -48,7 +47,7 @@ foreign-exactly task c = (to, from)
   where
     to : foreign task c ≡ true → EndsAnother task c
     to e =
-        let a = both (eqb (rowOf (c .code) .flow) ending) _ e in
+        let a = both (isEnding (rowOf (c .code) .flow)) _ e in
         let b = both (not (eqb (c .x) 0)) _ (a .1) in
         record {
           code = eqb-true (c .code) 0x51 (sym (ends-is (c .code)) ∙ a .0);

@@ -1,18 +1,22 @@
--- The default arms: a number that is in no arm has no flow, and a task past mathematics has no box. Assumes nothing.
-use Prim.Native.Nat.{ℕ}
-use mathlib.Core.Path.{_≡_, refl}
+-- The default arm of `permitted`: a task past mathematics has no box. Assumes nothing.
+use Prim.Native.Nat.{ℕ, zero, suc, _+_, _≤_, zero-le}
+use native.Mathlib.Omega.{arith}
+use mathlib.Core.Path.{_≡_}
 use mathlib.Core.Bool.{false}
+use lib.ListN.{List·getD-eq-default}
 use Rattle.limits.specs.Limits.{taskCount}
-use Rattle.operands.proofs.Tables.{NoneFrom, by-default}
 use Rattle.rows.specs.Rows.{rowOf}
-use Rattle.flow.specs.Flow.{flows, flowBy}
 use Rattle.flow.specs.Tasks.{boxes, permitted}
-use Rattle.flow.specs.declared.Flow.the-variants.{End}
 
-pub no-flow : (n x word : ℕ) → NoneFrom 1 10 n → flowBy n x word ≡ End
-unfolding flowBy
-no-flow n x word h = by-default End 1 (flows x word) refl n h
+-- t is none of the first n tasks, as the default of a match on all of them has it
+abbrev pub NoneBelow : ℕ → ℕ → Type 0
+NoneBelow zero t = Unit {0}
+NoneBelow (suc n) t = NoneBelow n t × (t ≡ 0 + n → ⊥)
 
-pub no-box : (code task : ℕ) → NoneFrom 0 taskCount task → permitted code task ≡ false
+past : (n t : ℕ) → NoneBelow n t → n ≤ t
+past zero t h = zero-le
+past (suc n) t h = let m = past n t (h .0) in let e = h .1 in omega arith
+
+pub no-box : (code task : ℕ) → NoneBelow taskCount task → permitted code task ≡ false
 unfolding permitted
-no-box code task h = by-default false 0 (boxes (rowOf code .tasks)) refl task h
+no-box code task h = List·getD-eq-default (boxes (rowOf code .tasks)) false (past taskCount task h)

@@ -3,10 +3,11 @@
 use Prim.Native.Nat.{ℕ, _+_}
 use mathlib.Core.Bool.{cond}
 use mathlib.Core.List.{List, [], _∷_}
-use lib.ListN.{getD}
 use lib.Dec.{eqb}
 use Rattle.limits.specs.Limits.{bias, plc, mathematics}
 use Rattle.rows.specs.Rows.{rowOf}
+use Rattle.rows.specs.declared.FlowKind.{FlowKind}
+use Rattle.rows.specs.declared.FlowKind.the-variants as kind
 use Rattle.operands.specs.declared.Command.{Command}
 use Rattle.flow.specs.declared.Flow.{Flow}
 use Rattle.flow.specs.declared.Flow.the-variants.{Next, Wait, Jump, Branch, Call, Return, Start, Restart, End}
@@ -15,24 +16,19 @@ use Rattle.flow.specs.declared.Flow.the-variants.{Next, Wait, Jump, Bran
 abbrev pub endingBy : ℕ → Flow
 endingBy mode = cond (eqb mode 0) Restart End
 
--- the flows by their numbers, with the operands x and word; a code that is not carried has none
-abbrev pub flows : ℕ → ℕ → List Flow
-flows x word =
-    End ∷  -- 0, not carried
-    Next ∷  -- 1, next
-    Wait ∷  -- 2, wait
-    Jump word ∷  -- 3, jump
-    Branch word ∷  -- 4, branch
-    Call word ∷  -- 5, call
-    Return ∷  -- 6, return
-    Start bias word ∷  -- 7, startBias
-    Start plc word ∷  -- 8, startPlc
-    Start mathematics word ∷  -- 9, startMathematics
-    endingBy x ∷  -- 10, ending
-    []
-
-unfoldable pub flowBy : ℕ → ℕ → ℕ → Flow
-flowBy n x word = getD (flows x word) n End
+-- with the operands x and word; a code that is not carried continues with nothing
+abbrev pub flowBy : FlowKind → ℕ → ℕ → Flow
+flowBy kind.Nothing x word = End
+flowBy kind.Next x word = Next
+flowBy kind.Wait x word = Wait
+flowBy kind.Jump x word = Jump word
+flowBy kind.Branch x word = Branch word
+flowBy kind.Call x word = Call word
+flowBy kind.Return x word = Return
+flowBy kind.StartBias x word = Start bias word
+flowBy kind.StartPlc x word = Start plc word
+flowBy kind.StartMathematics x word = Start mathematics word
+flowBy kind.Ending x word = endingBy x
 
 unfoldable pub flowOf : Command → Flow
 flowOf c = flowBy (rowOf (c .code) .flow) (c .x) (c .word)

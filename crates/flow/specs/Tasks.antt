@@ -5,12 +5,12 @@ use mathlib.Core.Bool.{Bool, false, _&&_, not}
 use mathlib.Core.List.{List, [], _∷_}
 use lib.Dec.{eqb}
 use lib.ListN.{getD}
-use Rattle.rows.specs.Rows.{B, P, M, rowOf, ending}
+use Rattle.rows.specs.Rows.{B, P, M, isEnding, rowOf}
 use Rattle.operands.specs.declared.Command.{Command}
 
 -- 7: a 51 whose mode names another task than the one that executes it; modes 1, 2 and 3 name BIAS, the PLC and mathematics, mode 0 none
 unfoldable pub foreign : ℕ → Command → Bool
-foreign task c = eqb (rowOf (c .code) .flow) ending && (not (eqb (c .x) 0) && not (eqb (c .x) (task + 1)))
+foreign task c = isEnding (rowOf (c .code) .flow) && (not (eqb (c .x) 0) && not (eqb (c .x) (task + 1)))
 
 -- 9: the boxes of chapter 3, by task, from the number in the row; there is no task above mathematics
 abbrev pub boxes : ℕ → List Bool

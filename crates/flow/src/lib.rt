@@ -1,5 +1,6 @@
 // What a command may continue with (document 01, "Walks"), and which task may execute it: 7 of a 51 that ends another task, and the boxes of 9.
 use operands::Command;
+use rows::FlowKind;
 ghost use mathlib.Core.Path.{_≡_};
 ghost use Rattle.flow.specs.Flow.{flowBy, endingBy, flowOf};
 ghost use Rattle.flow.specs.Tasks.{foreign, permitted};
@@ -32,7 +33,8 @@ impl Flow {
         ensures { λ r. ⌜ r ≡ flowOf c ⌝ }
     {
         let row = rows::find(c.code);
-        flow_by(row.flow, c.x, c.word)
+        let kind = row.flow;
+        flow_by(kind, c.x, c.word)
     }
 }
 
@@ -42,7 +44,8 @@ pub fn foreign(task: u8, c: Command) -> bool
 {
     let mode = c.x;
     let row = rows::find(c.code);
-    if row.flow != rows::ENDING {
+    let kind = row.flow;
+    if !kind.is_ending() {
         return false;
     }
     if mode == 0 {
@@ -65,22 +68,21 @@ pub fn permitted(code: u8, task: u8) -> bool
     }
 }
 
-fn flow_by(flow: u8, x: u8, word: u16) -> Flow
-    ensures { λ r. ⌜ r ≡ flowBy flow x word ⌝ }
+fn flow_by(kind: FlowKind, x: u8, word: u16) -> Flow
+    ensures { λ r. ⌜ r ≡ flowBy kind x word ⌝ }
 {
-    match flow {
-        rows::NEXT => Flow::Next,
-        rows::WAIT => Flow::Wait,
-        rows::JUMP => Flow::Jump(word),
-        rows::BRANCH => Flow::Branch(word),
-        rows::CALL => Flow::Call(word),
-        rows::RETURN => Flow::Return,
-        rows::START_BIAS => Flow::Start(limits::BIAS, word),
-        rows::START_PLC => Flow::Start(limits::PLC, word),
-        rows::START_MATHEMATICS => Flow::Start(limits::MATHEMATICS, word),
-        rows::ENDING => ending(x),
-        // 0, of a code that is not carried: no row has a number past these (proofs/Columns.antt)
-        _ => Flow::End,
+    match kind {
+        FlowKind::Nothing => Flow::End,
+        FlowKind::Next => Flow::Next,
+        FlowKind::Wait => Flow::Wait,
+        FlowKind::Jump => Flow::Jump(word),
+        FlowKind::Branch => Flow::Branch(word),
+        FlowKind::Call => Flow::Call(word),
+        FlowKind::Return => Flow::Return,
+        FlowKind::StartBias => Flow::Start(limits::BIAS, word),
+        FlowKind::StartPlc => Flow::Start(limits::PLC, word),
+        FlowKind::StartMathematics => Flow::Start(limits::MATHEMATICS, word),
+        FlowKind::Ending => ending(x),
     }
 }
 

@@ -1,16 +1,17 @@
 -- Codes and flows: which command it was, from the flow that an outcome is in; and the open calls after it. Assumes nothing.
-use Prim.Native.Nat.{ℕ, zero, suc, _+_, _<_}
-use mathlib.Core.Path.{_≡_, refl, sym, _∙_}
+use Prim.Native.Nat.{ℕ, _+_}
+use mathlib.Core.Path.{_≡_, refl, sym, ap, _∙_}
 use mathlib.Core.Bool.{Bool, true, false, _&&_, not, cond}
 use mathlib.Core.List.{[], _∷_}
-use native.Mathlib.Omega.{arith}
 use native.Mathlib.Decide.{ℕ-discrete}
 use lib.Dec.{eqb}
 use borrow.Author.Tests.{eqb-true, eqb-false, eq-eqb, not-true}
 use Rattle.limits.specs.Limits.{bias, plc, mathematics}
 use Rattle.number.proofs.Choice.{clash, both}
-use Rattle.rows.specs.Rows.{rowOf, return, startBias, startPlc, startMathematics, ending}
-use Rattle.rows.specs.Rows.{call as called}
+use Rattle.rows.specs.Rows.{rowOf}
+use Rattle.rows.specs.declared.FlowKind.{FlowKind}
+use Rattle.rows.specs.declared.FlowKind.the-variants as kind
+use Rattle.rows.proofs.FlowKinds.{is, is-true}
 use Rattle.operands.specs.declared.Command.{Command}
 use Rattle.flow.specs.Flow.{flowBy, flowOf}
 use Rattle.flow.specs.Tasks.{foreign}
@@ -46,60 +47,60 @@ endF flow.Return = false
 endF (flow.Start u a) = false
 endF flow.Restart = false
 
--- by the number of the flow
+-- by the kind of the flow
 module _ (x word t b : ℕ) (calls : Calls) where
-  countN : ℕ → Calls
-  countN n =
-      cond (eqb n called) (withCalls t (b ∷ calls t) calls)
-      (cond (eqb n return) (withCalls t (withoutLatest (calls t)) calls)
-      (cond (eqb n startPlc) (withCalls plc [] calls)
-      (cond (eqb n startBias) (withCalls bias [] calls)
-      (cond (eqb n startMathematics) (withCalls mathematics [] calls)
-      (cond (eqb n ending && eqb x 0) (withCalls t [] calls) calls)))))
+  countBy : FlowKind → Calls
+  countBy k =
+      cond (is k kind.Call) (withCalls t (b ∷ calls t) calls)
+      (cond (is k kind.Return) (withCalls t (withoutLatest (calls t)) calls)
+      (cond (is k kind.StartPlc) (withCalls plc [] calls)
+      (cond (is k kind.StartBias) (withCalls bias [] calls)
+      (cond (is k kind.StartMathematics) (withCalls mathematics [] calls)
+      (cond (is k kind.Ending && eqb x 0) (withCalls t [] calls) calls)))))
 
   -- what one flow comes to, by both ways of counting
-  record Counted (n : ℕ) : Type 0 where
-    count : countN n ≡ countF (flowBy n x word) t b calls
-    ends : endF (flowBy n x word) ≡ (eqb n ending && not (eqb x 0))
+  record Counted (k : FlowKind) : Type 0 where
+    count : countBy k ≡ countF (flowBy k x word) t b calls
+    ends : endF (flowBy k x word) ≡ (is k kind.Ending && not (eqb x 0))
 
   ending-by : (m : Bool) → (cond m (withCalls t [] calls) calls ≡ countF (cond m flow.Restart flow.End) t b calls) × (endF (cond m flow.Restart flow.End) ≡ not m)
   ending-by true = (refl, refl)
   ending-by false = (refl, refl)
 
-  counted : (n : ℕ) → 0 < n → n < 11 → Counted n
-  unfolding countN flowBy
-  counted zero l m = absurd (omega arith)
-  counted (suc zero) l m = record { count = refl; ends = refl }
-  counted (suc (suc zero)) l m = record { count = refl; ends = refl }
-  counted (suc (suc (suc zero))) l m = record { count = refl; ends = refl }
-  counted (suc (suc (suc (suc zero)))) l m = record { count = refl; ends = refl }
-  counted (suc (suc (suc (suc (suc zero))))) l m = record { count = refl; ends = refl }
-  counted (suc (suc (suc (suc (suc (suc zero)))))) l m = record { count = refl; ends = refl }
-  counted (suc (suc (suc (suc (suc (suc (suc zero))))))) l m = record { count = refl; ends = refl }
-  counted (suc (suc (suc (suc (suc (suc (suc (suc zero)))))))) l m = record { count = refl; ends = refl }
-  counted (suc (suc (suc (suc (suc (suc (suc (suc (suc zero))))))))) l m = record { count = refl; ends = refl }
-  counted (suc (suc (suc (suc (suc (suc (suc (suc (suc (suc zero)))))))))) l m = let e = ending-by (eqb x 0) in record { count = e .0; ends = e .1 }
-  counted (suc (suc (suc (suc (suc (suc (suc (suc (suc (suc (suc n))))))))))) l m = absurd (omega arith)
+  counted : (k : FlowKind) → is k kind.Nothing ≡ false → Counted k
+  unfolding countBy
+  counted kind.Nothing e = clash e
+  counted kind.Next e = record { count = refl; ends = refl }
+  counted kind.Wait e = record { count = refl; ends = refl }
+  counted kind.Jump e = record { count = refl; ends = refl }
+  counted kind.Branch e = record { count = refl; ends = refl }
+  counted kind.Call e = record { count = refl; ends = refl }
+  counted kind.Return e = record { count = refl; ends = refl }
+  counted kind.StartBias e = record { count = refl; ends = refl }
+  counted kind.StartPlc e = record { count = refl; ends = refl }
+  counted kind.StartMathematics e = record { count = refl; ends = refl }
+  counted kind.Ending e = let r = ending-by (eqb x 0) in record { count = r .0; ends = r .1 }
 
 -- a command whose code and flow go together
 module _ (c : Command) (f : Flows (c .code) (rowOf (c .code) .flow)) where
   pub counts-flow : (t b : ℕ) (calls : Calls) → counts c t b calls ≡ countF (flowOf c) t b calls
-  unfolding counts flowOf countN
+  unfolding counts flowOf countBy
   counts-flow t b calls =
       rw (f .calls, f .returns, f .begins-plc, f .begins-bias, f .begins-mathematics, f .ends)
-      (counted (c .x) (c .word) t b calls (rowOf (c .code) .flow) (f .some) (f .known) .count)
+      (counted (c .x) (c .word) t b calls (rowOf (c .code) .flow) (f .some) .count)
 
   -- a 53 returns
   pub return-flow : c .code ≡ 0x53 → flowOf c ≡ flow.Return
-  unfolding flowOf flowBy
-  return-flow e = rw (eqb-true (rowOf (c .code) .flow) return (sym (f .returns) ∙ eq-eqb (c .code) 0x53 e)) refl
+  unfolding flowOf
+  return-flow e =
+      ap (λ (k : FlowKind). flowBy k (c .x) (c .word)) (is-true (rowOf (c .code) .flow) kind.Return (sym (f .returns) ∙ eq-eqb (c .code) 0x53 e))
 
   -- a start of a task names it
   pub start-code : (u a : ℕ) → May (flowOf c) (Start u a) → starts (c .code) u ≡ true
   unfolding flowOf
   start-code u a m =
       rw (f .begins-bias, f .begins-plc, f .begins-mathematics)
-      (flowing (c .x) (c .word) (rowOf (c .code) .flow) (f .some) (f .known) .start u ∙ names (flowOf c) m)
+      (flowing (c .x) (c .word) (rowOf (c .code) .flow) (f .some) .start u ∙ names (flowOf c) m)
     where
       names : (g : Flow) → May g (Start u a) → startF g u ≡ true
       names _ May.start = eq-eqb u u refl
@@ -112,8 +113,8 @@ module _ (c : Command) (f : Flows (c .code) (rowOf (c .code) .flow)) where
       ends : (g : Flow) → May g End → endF g ≡ true
       ends _ May.end = refl
 
-      known : (eqb (rowOf (c .code) .flow) ending && not (eqb (c .x) 0)) ≡ true
-      known = sym (counted (c .x) (c .word) 0 0 noCalls (rowOf (c .code) .flow) (f .some) (f .known) .ends) ∙ ends (flowOf c) m
+      known : (is (rowOf (c .code) .flow) kind.Ending && not (eqb (c .x) 0)) ≡ true
+      known = sym (counted (c .x) (c .word) 0 0 noCalls (rowOf (c .code) .flow) (f .some) .ends) ∙ ends (flowOf c) m
 
       code : c .code ≡ 0x51
       code = eqb-true (c .code) 0x51 (f .ends ∙ both _ _ known .0)
@@ -121,4 +122,4 @@ module _ (c : Command) (f : Flows (c .code) (rowOf (c .code) .flow)) where
       mode : Dec (c .x ≡ t + 1) → c .x ≡ t + 1
       mode (yes e) = e
       mode (no n) =
-          clash (sym (foreign-exactly t c .1 (record { code = code; mode = eqb-false (c .x) 0 (not-true (eqb (c .x) 0) (both (eqb (rowOf (c .code) .flow) ending) (not (eqb (c .x) 0)) known .1)); other = n })) ∙ own)
+          clash (sym (foreign-exactly t c .1 (record { code = code; mode = eqb-false (c .x) 0 (not-true (eqb (c .x) 0) (both (is (rowOf (c .code) .flow) kind.Ending) (not (eqb (c .x) 0)) known .1)); other = n })) ∙ own)

@@ -4,7 +4,6 @@ use mathlib.Core.Path.{_≡_, refl}
 use mathlib.Core.Bool.{Bool, true, false, cond}
 use mathlib.Core.List.{List, [], _∷_}
 use native.Mathlib.Omega.{arith}
-use lib.Dec.{eqb}
 use lib.IntN.{pos}
 use mir.Syntax.{w32}
 use mir.Val.{SFits}
@@ -13,13 +12,14 @@ use Rattle.le.specs.LittleEndian.{leNumber}
 use Rattle.image.specs.declared.Header.{Header}
 use Rattle.rows.specs.Rows.{rowOf}
 use Rattle.rows.specs.declared.Row.{Row}
-use Rattle.operands.specs.Operands.{byteAt, wordAt, valueAt, bareOf, layouts, laidOut, operands, unusedZero}
+use Rattle.rows.specs.declared.Layout.{Layout}
+use Rattle.rows.specs.declared.Layout.the-variants.{Bare, Byte, Word, Pair, Triple, TripleWord, ByteWord, Value, ByteValue, PairValue, ValueJump}
+use Rattle.operands.specs.Operands.{byteAt, wordAt, valueAt, laidOut, operands, unusedZero}
 use Rattle.command.specs.Judged.{blockFault, rowFault, commandFault, operandFault, ifPresent, blockFaultNumber, inRange, devicePresence}
 use Rattle.operands.specs.declared.Command.{Command}
 use Rattle.command.specs.declared.BlockFault.the-variants.{Fine, NotCarried, OutOfRange, NotZero}
 use Rattle.drive.specs.declared.Presence.{Presence}
 use Rattle.drive.specs.declared.Presence.the-variants as presence
-use Rattle.machine.proofs.Every.{All, end, _&_, at-place}
 use Rattle.machine.proofs.Laws.{Ranged, Fit}
 
 -- every byte of a block, and what is read past its end, is below 256
@@ -53,25 +53,18 @@ no-word = omega arith
 half-word : (b : List ℕ) → BlockBytes b → 256 * (byteAt b 6 % 16) + byteAt b 7 ≤ 65535
 half-word b h = let x = h 6 in let y = h 7 in omega arith
 
-all-laid : All Laid layouts
-all-laid =
-    record { code = λ _. refl; word = λ _ _. no-word; value = λ _ _. no-value } &  -- bare
-    record { code = λ _. refl; word = λ _ _. no-word; value = λ _ _. no-value } &  -- bare
-    record { code = λ _. refl; word = λ _ _. no-word; value = λ _ _. no-value } &  -- byte
-    record { code = λ _. refl; word = λ b h. word-small b h 1; value = λ _ _. no-value } &  -- word
-    record { code = λ _. refl; word = λ _ _. no-word; value = λ _ _. no-value } &  -- pair
-    record { code = λ _. refl; word = λ _ _. no-word; value = λ _ _. no-value } &  -- triple
-    record { code = λ _. refl; word = λ b h. word-small b h 4; value = λ _ _. no-value } &  -- tripleWord
-    record { code = λ _. refl; word = λ b h. word-small b h 2; value = λ _ _. no-value } &  -- byteWord
-    record { code = λ _. refl; word = λ _ _. no-word; value = λ b h. value-fits b h 1 } &  -- value
-    record { code = λ _. refl; word = λ _ _. no-word; value = λ b h. value-fits b h 2 } &  -- byteValue
-    record { code = λ _. refl; word = λ _ _. no-word; value = λ b h. value-fits b h 3 } &  -- pairValue
-    record { code = λ _. refl; word = half-word; value = λ b h. value-fits b h 2 } &  -- valueJump
-    end
-
-laid : (n : ℕ) → Laid (laidOut n)
-unfolding laidOut
-laid n = at-place Laid bareOf (record { code = λ _. refl; word = λ _ _. no-word; value = λ _ _. no-value }) layouts all-laid n
+laid : (l : Layout) → Laid (laidOut l)
+laid Bare = record { code = λ _. refl; word = λ _ _. no-word; value = λ _ _. no-value }
+laid Byte = record { code = λ _. refl; word = λ _ _. no-word; value = λ _ _. no-value }
+laid Word = record { code = λ _. refl; word = λ b h. word-small b h 1; value = λ _ _. no-value }
+laid Pair = record { code = λ _. refl; word = λ _ _. no-word; value = λ _ _. no-value }
+laid Triple = record { code = λ _. refl; word = λ _ _. no-word; value = λ _ _. no-value }
+laid TripleWord = record { code = λ _. refl; word = λ b h. word-small b h 4; value = λ _ _. no-value }
+laid ByteWord = record { code = λ _. refl; word = λ b h. word-small b h 2; value = λ _ _. no-value }
+laid Value = record { code = λ _. refl; word = λ _ _. no-word; value = λ b h. value-fits b h 1 }
+laid ByteValue = record { code = λ _. refl; word = λ _ _. no-word; value = λ b h. value-fits b h 2 }
+laid PairValue = record { code = λ _. refl; word = λ _ _. no-word; value = λ b h. value-fits b h 3 }
+laid ValueJump = record { code = λ _. refl; word = half-word; value = λ b h. value-fits b h 2 }
 
 -- ---- ranges
 
@@ -90,13 +83,13 @@ module _ (r : Row) (h : Header) (b : List ℕ) (c : Command) where
       present presence.Never j = absurd (omega arith)
 
 pub in-ranges : (h : Header) (b : List ℕ) → blockFaultNumber (blockFault h b) ≡ 0 → Ranged (h .count) (operands b)
-unfolding blockFault rowFault operands laidOut
-in-ranges h b e = rw (laid (rowOf (byteAt b 0) .layout) .code b) (go (eqb (rowOf (byteAt b 0) .layout) 0) e)
+unfolding blockFault rowFault operands
+in-ranges h b e = rw (laid (rowOf (byteAt b 0) .layout) .code b) (go (rowOf (byteAt b 0) .carried) e)
   where
-    go : (t : Bool) → blockFaultNumber (cond t NotCarried (commandFault (rowOf (byteAt b 0)) h b (laidOut (rowOf (byteAt b 0) .layout) b))) ≡ 0
+    go : (t : Bool) → blockFaultNumber (cond t (commandFault (rowOf (byteAt b 0)) h b (laidOut (rowOf (byteAt b 0) .layout) b)) NotCarried) ≡ 0
         → inRange (rowOf (byteAt b 0) .ranges) (h .count) (laidOut (rowOf (byteAt b 0) .layout) b) ≡ true
-    go true i = absurd (omega arith)
-    go false i = judged (rowOf (byteAt b 0)) h b (laidOut (rowOf (byteAt b 0) .layout) b) i
+    go false i = absurd (omega arith)
+    go true i = judged (rowOf (byteAt b 0)) h b (laidOut (rowOf (byteAt b 0) .layout) b) i
 
 -- a block of bytes that 5 to 8 and 23 let pass
 pub fit : (h : Header) (b : List ℕ) → BlockBytes b → blockFaultNumber (blockFault h b) ≡ 0 → Fit (h .count) (operands b)

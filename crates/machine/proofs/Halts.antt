@@ -2,6 +2,7 @@
 -- Assumes nothing.
 use Prim.Native.Nat.{ℕ}
 use mathlib.Core.Path.{_≡_, subst}
+use mathlib.Core.Bool.{true}
 use mathlib.Core.Logic.{_↔_}
 use Rattle.rows.specs.Rows.{rowOf}
 use Rattle.arith.specs.Ops.{quotient}
@@ -25,7 +26,7 @@ module _ (g : Given) (c : Command) (v : Values) where
   halts-for (Reason.waiting e t r) = rw (e, t, r)
 
   -- of a command that is carried, with operands in range
-  pub halts-exactly : (rowOf (c .code) .layout ≡ 0 → ⊥) → (count : ℕ) → Ranged count c → (q : Cause)
+  pub halts-exactly : rowOf (c .code) .carried ≡ true → (count : ℕ) → Ranged count c → (q : Cause)
       → (effectOf g c v .outcome ≡ Halt q) ↔ Reason c v (g .time) q
   halts-exactly carried count ranged q =
       (λ e. subst (Halting c v (g .time)) e (every-law g c v carried .outcome .halt count ranged), λ r. halts-for r)

@@ -50,7 +50,7 @@ use Rattle.machine.proofs.Fits.{BlockBytes, fit}
 use Rattle.machine.proofs.Outcomes.{on-in, jump-in, call-in, behind-in, call-deep, return-deep, start-in, start-on}
 use Rattle.machine.proofs.Turn.{at-set, set-set}
 use Rattle.machine.proofs.Notes.{noted-alike, refused-alike}
-use Rattle.machine.proofs.StepCase.{layout-some}
+use Rattle.machine.proofs.StepCase.{used-carried}
 
 -- ---- tasks
 
@@ -251,7 +251,7 @@ module _ (image : List ℕ) (bytes : Bytes image) (s : State) (g : Good s) (x : 
   fit-here = fit h (blockAt bs (k .block)) (bytes-at image bytes (k .block)) (eqb-true _ 0 (block-fits .0))
 
   pub law : Law (c .code) c (given s k x) (s .values) e
-  law = every-law (given s k x) c (s .values) (layout-some (c .code) t (passed .allowed))
+  law = every-law (given s k x) c (s .values) (used-carried (c .code) t (passed .allowed))
 
   tasks : GoodTasks h (s .tasks)
   tasks = record { three = g .three; task = g .task; first = g .first }

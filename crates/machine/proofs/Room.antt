@@ -25,7 +25,7 @@ use Rattle.machine.specs.declared.Outcome.{Outcome}
 use Rattle.machine.specs.declared.Outcome.the-variants.{GoOn, Stay, Jump, Call, Return, Start, Restart, End, Halt}
 use Rattle.machine.proofs.RowLaw.{every-law}
 use Rattle.machine.proofs.Outcomes.{call-deep, return-deep}
-use Rattle.machine.proofs.StepCase.{layout-some}
+use Rattle.machine.proofs.StepCase.{used-carried}
 use Rattle.machine.proofs.Keeps.{no-fault}
 
 module _ (bs : List ℕ) (h : Header) (t : ℕ) (k : Task) (pass : blockFits h bs t k ≡ true) where
@@ -51,4 +51,4 @@ module _ (bs : List ℕ) (h : Header) (t : ℕ) (k : Task) (pass : blockFits h b
 
   pub deep : k .depth ≤ mostDepth → (g : Given) (v : Values) → Deep (k .depth) (effectOf g c v .outcome)
   unfolding flowOf
-  deep l g v = room l (effectOf g c v .outcome) (every-law g c v (layout-some (c .code) t (passed .allowed)) .outcome .flow)
+  deep l g v = room l (effectOf g c v .outcome) (every-law g c v (used-carried (c .code) t (passed .allowed)) .outcome .flow)

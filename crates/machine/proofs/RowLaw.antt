@@ -16,7 +16,6 @@ use Rattle.number.proofs.Choice.{clash, both}
 use Rattle.rows.specs.Rows.{rows, rowIn, rowOf}
 use Rattle.operands.specs.declared.Command.{Command}
 use Rattle.command.specs.Judged.{inRange}
-use Rattle.flow.specs.Flow.{flowBy}
 use Rattle.state.specs.State.{withFlag, withOutput, withAxis, withMark, withPosition, withSpeed, withAcceleration, withDeceleration}
 use Rattle.state.specs.declared.Values.{Values}
 use Rattle.machine.specs.Given.{Given, inputAt}
@@ -47,7 +46,7 @@ ranges-at k count c e f = subst (λ (n : ℕ). inRange (rowOf n .ranges) count c
 
 -- 51
 ends : (c : Command) (g : Given) (v : Values) → Lawful 0x51 c g v (cond (eqb (c .x) 0) Restart End)
-unfolding rowOf rowIn rows flowBy
+unfolding rowOf rowIn rows
 ends c g v =
     either 0x51 c g v (eqb (c .x) 0) Restart End (λ e. simply 0x51 c g v Restart refl (rw e May.restart)) (λ e. simply 0x51 c g v End refl (rw e May.end))
 
@@ -66,7 +65,7 @@ not-zero z e i = clash (sym e ∙ ap (λ (n : ℤ). not (eqZ n (pos 0))) i)
 -- ---- the rows
 
 rows-keep : All (Of Always) deeds
-unfolding rowOf rowIn rows flowBy inRange
+unfolding rowOf rowIn rows
 rows-keep =
     at 0x00 _ (λ c e g v. moves-law 0x00 c g v MoveTo May.over May.stay) &
     at 0x01 _ (λ c e g v. moves-law 0x01 c g v MoveBy May.over May.stay) &
@@ -128,6 +127,6 @@ rows-keep =
     end
 
 -- the law of every command that is carried
-pub every-law : (g : Given) (c : Command) (v : Values) → (rowOf (c .code) .layout ≡ 0 → ⊥) → Law (c .code) c g v (effectOf g c v)
+pub every-law : (g : Given) (c : Command) (v : Values) → rowOf (c .code) .carried ≡ true → Law (c .code) c g v (effectOf g c v)
 unfolding effectOf
 every-law g c v n = effect-of Always rows-keep c n g v

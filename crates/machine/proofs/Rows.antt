@@ -1,6 +1,6 @@
 -- A statement proved of every row of effects holds of the effect of every code that is carried, since each carried code has a row. Assumes nothing.
 use Prim.Native.Nat.{ℕ}
-use mathlib.Core.Path.{_≡_, refl, sym, ap}
+use mathlib.Core.Path.{_≡_, refl, sym, ap, _∙_}
 use mathlib.Core.Bool.{Bool, true, false, _||_, cond}
 use mathlib.Core.Logic.{⊎-elim}
 use mathlib.Core.List.{List, [], _∷_}
@@ -41,8 +41,8 @@ all-carried : T (every carried rows)
 unfolding carried rows
 all-carried = tt
 
-pub effect-of : (P : Command → Deed → Type 0) → All (Of P) deeds → (c : Command) → (rowOf (c .code) .layout ≡ 0 → ⊥) → P c (deedIn deeds (c .code))
+pub effect-of : (P : Command → Deed → Type 0) → All (Of P) deeds → (c : Command) → rowOf (c .code) .carried ≡ true → P c (deedIn deeds (c .code))
 unfolding rowOf carried
 effect-of P all c n =
-    ⊎-elim (λ (e : rowIn rows (c .code) ≡ noRow). absurd (n (ap (λ (r : Columns). r .layout) e))) (λ h. deed-in P deeds all c h)
+    ⊎-elim (λ (e : rowIn rows (c .code) ≡ noRow). clash (sym n ∙ ap (λ (r : Columns). r .carried) e)) (λ h. deed-in P deeds all c h)
     (every-row carried rows all-carried (c .code))

@@ -1,19 +1,22 @@
 -- What a step comes to in a run, for the engine and the reference machine at once: both refuse it, or both execute the command. Assumes nothing.
 use Prim.Native.Nat.{ℕ, zero, suc, _<_}
 use mathlib.Core.Path.{_≡_, refl, sym, ap, subst, _∙_}
-use mathlib.Core.Bool.{Bool, true, false, not, cond}
+use mathlib.Core.Bool.{Bool, true, false, cond}
 use mathlib.Core.List.{List, [], _∷_}
 use mathlib.Core.Logic.{⊎-elim}
 use native.Mathlib.Omega.{arith}
 use lib.Dec.{T, eqb, ltb}
 use lib.ListN.{length, getD}
-use borrow.Author.Tests.{eqb-true, eqb-false, ne-eqb, not-true, ltb-true, ltb-false, lt-ltb, le-ltb}
+use borrow.Author.Tests.{eqb-true, eqb-false, ltb-true, ltb-false, lt-ltb, le-ltb}
 use Rattle.limits.specs.Limits.{taskCount, inputsLength}
 use Rattle.image.specs.Scan.{headerOf, blocksOf}
 use Rattle.image.specs.declared.Header.{Header}
+use Rattle.number.proofs.Choice.{clash}
 use Rattle.rows.specs.Rows.{rows, rowIn, rowOf, noRow}
 use Rattle.rows.specs.declared.Row.{Row as Columns}
+use Rattle.rows.specs.declared.FlowKind.the-variants.{Nothing}
 use Rattle.rows.proofs.Laws.{every, every-row}
+use Rattle.rows.proofs.FlowKinds.{is}
 use Rattle.operands.specs.declared.Command.{Command}
 use Rattle.flow.specs.Flow.{flowOf}
 use Rattle.flow.specs.Tasks.{permitted}
@@ -47,20 +50,19 @@ length-returns : (stack : List ℕ) (d : ℕ) → length (returnsOf stack d) ≡
 length-returns stack zero = refl
 length-returns stack (suc d) = ap suc (length-returns stack d)
 
--- a code that some task may use has a layout
-has-layout : ℕ → Columns → Bool
-has-layout code r = not (eqb (r .layout) 0)
+-- a code that some task may use is carried
+is-carried : ℕ → Columns → Bool
+is-carried code r = r .carried
 
-all-laid-out : T (every has-layout rows)
-unfolding has-layout rows
-all-laid-out = tt
+all-carried : T (every is-carried rows)
+unfolding is-carried rows
+all-carried = tt
 
-pub layout-some : (code task : ℕ) → permitted code task ≡ true → rowOf code .layout ≡ 0 → ⊥
-unfolding rowOf has-layout
-layout-some code task a e =
-    ⊎-elim (λ (n : rowIn rows code ≡ noRow). let f = carried code task a .some in let z = ap (λ (r : Columns). r .flow) n in omega arith)
-    (λ t. eqb-false _ 0 (not-true _ t) e)
-    (every-row has-layout rows all-laid-out code)
+pub used-carried : (code task : ℕ) → permitted code task ≡ true → rowOf code .carried ≡ true
+unfolding rowOf is-carried
+used-carried code task a =
+    ⊎-elim (λ (n : rowIn rows code ≡ noRow). clash (sym (ap (λ (r : Columns). is (r .flow) Nothing) n) ∙ carried code task a .some)) (λ t. t)
+    (every-row is-carried rows all-carried code)
 
 module _ (image : List ℕ) where
   abbrev h : Header
@@ -128,8 +130,8 @@ module _ (image : List ℕ) where
           g .both .sound t l .wait r,
         )
 
-    carried-here : rowOf (c .code) .layout ≡ 0 → ⊥
-    carried-here = layout-some (c .code) t (passing image ok (pointOf t k) here .allowed)
+    carried-here : rowOf (c .code) .carried ≡ true
+    carried-here = used-carried (c .code) t (passing image ok (pointOf t k) here .allowed)
 
     depth-here : k .depth ≡ length (p .returns)
     depth-here = sym (length-returns (k .stack) (k .depth)) ∙ ap length (same .returns r)
@@ -176,7 +178,7 @@ module _ (image : List ℕ) where
     acts-is : acts image m x p ≡ does m x p e
     unfolding acts
     acts-is =
-        rw (lt-ltb (p .block) (h .count) (subst (λ (b : ℕ). b < h .count) (same .block r) (within image ok (pointOf t k) here .block)), ← same .block r, ne-eqb _ 0 carried-here)
+        rw (lt-ltb (p .block) (h .count) (subst (λ (b : ℕ). b < h .count) (same .block r) (within image ok (pointOf t k) here .block)), ← same .block r, carried-here)
         (ap (tries m x p) effect-same ∙ tries-is)
 
     ran-here : step image s x ≡ performed s x k e → turn image m x ≡ acts image m x p → Case s m x

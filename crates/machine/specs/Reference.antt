@@ -148,8 +148,7 @@ tries m x k e = cond (lost (e .outcome) (k .returns)) (stays m Done) (does m x k
 unfoldable pub acts : List ℕ → Machine → Inputs → Thread → Did
 acts image m x k =
     cond (ltb (k .block) (headerOf image .header .count))
-    (cond (eqb (rowOf (commandAt (blocksOf image) (k .block) .code) .layout) 0)
-    (stays m Done)
+    (cond (rowOf (commandAt (blocksOf image) (k .block) .code) .carried)
     (tries m x k
     (effectOf
     (record {
@@ -160,7 +159,8 @@ acts image m x k =
       time = k .time;
       turns = k .turns;
     })
-    (commandAt (blocksOf image) (k .block)) (m .values))))
+    (commandAt (blocksOf image) (k .block)) (m .values)))
+    (stays m Done))
     (stays m Done)
 
 -- what 15 and 18 describe changes nothing

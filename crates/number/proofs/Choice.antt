@@ -1,6 +1,5 @@
--- Choices by a test: what holds of both ways, and which way was taken.
--- Assumes nothing.
-use mathlib.Core.Path.{_≡_, refl, sym, _∙_}
+-- Choices by a test: what holds of both ways, and which way was taken. Assumes nothing.
+use mathlib.Core.Path.{_≡_, refl, sym, ap, _∙_}
 use mathlib.Core.Bool.{Bool, true, false, _&&_, cond}
 use Prim.Native.Nat.{ℕ, _<_, _≤_}
 use native.Mathlib.Omega.{arith}
@@ -14,6 +13,10 @@ by {P} a b f g = split (ltb a b) refl
     split : (t : Bool) → ltb a b ≡ t → P
     split true e = f (ltb-true a b e)
     split false e = g (ltb-false a b e)
+
+-- an arm of a match: a is k there, and the result is f's at k
+pub arm : {A B : Type 0} (f : A → B) {a k : A} {r : B} → a ≡ k → r ≡ f k → r ≡ f a
+arm f i e = e ∙ sym (ap f i)
 
 pub clash : {A : Type 0} → _≡_ {A = Bool} true false → A
 clash e = absurd (let z : _≡_ {A = ℕ} 0 1 = cc in omega arith)

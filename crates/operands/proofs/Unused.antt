@@ -1,29 +1,31 @@
 -- Bytes that a layout does not use: how many it uses, and whether those from a place on are 0. Assumes nothing.
-use Prim.Native.Nat.{ℕ, zero, suc, _+_, _<_, _≤_, zero-le}
+use Prim.Native.Nat.{ℕ, _+_, _<_, _≤_}
+use native.Mathlib.Omega.{arith}
 use native.Mathlib.Numerals.{add-one}
-use mathlib.Core.Path.{_≡_, refl}
-use mathlib.Core.Bool.{Bool, true, false, _&&_}
-use mathlib.Core.List.{List, [], _∷_}
-use lib.Dec.{leb}
+use mathlib.Core.Path.{_≡_}
+use mathlib.Core.Bool.{true, false}
+use mathlib.Core.List.{List}
 use lib.ListN.{length, getD, drop, drop-of-length-le}
 use lib.Seq.{drop-cons}
-use borrow.Author.Tests.{leb-true, eq-eqb, ne-eqb}
-use Rattle.number.proofs.Choice.{both}
-use Rattle.operands.specs.Operands.{used, usedBytes, allZero}
+use borrow.Author.Tests.{eq-eqb, ne-eqb}
+use Rattle.limits.specs.Limits.{blockLength}
+use Rattle.rows.specs.declared.Layout.{Layout}
+use Rattle.rows.specs.declared.Layout.the-variants.{Bare, Byte, Word, Pair, Triple, TripleWord, ByteWord, Value, ByteValue, PairValue, ValueJump}
+use Rattle.operands.specs.Operands.{usedBytes, allZero}
 
--- every number of a list is at most m
-abbrev every : ℕ → List ℕ → Bool
-every m [] = true
-every m (x ∷ xs) = leb x m && every m xs
-
-at-most : (m : ℕ) (xs : List ℕ) → every m xs ≡ true → (n : ℕ) → getD xs n 0 ≤ m
-at-most m [] e n = zero-le
-at-most m (x ∷ xs) e zero = leb-true x m (both (leb x m) (every m xs) e .0)
-at-most m (x ∷ xs) e (suc n) = at-most m xs (both (leb x m) (every m xs) e .1) n
-
-pub used-most : (n : ℕ) → usedBytes n ≤ 7
-unfolding usedBytes
-used-most n = at-most 7 used refl n
+-- with the code byte they are at most a block
+pub used-most : (layout : Layout) → usedBytes layout < blockLength
+used-most Bare = omega arith
+used-most Byte = omega arith
+used-most Word = omega arith
+used-most Pair = omega arith
+used-most Triple = omega arith
+used-most TripleWord = omega arith
+used-most ByteWord = omega arith
+used-most Value = omega arith
+used-most ByteValue = omega arith
+used-most PairValue = omega arith
+used-most ValueJump = omega arith
 
 -- the bytes from k on
 module _ (b : List ℕ) (k : ℕ) where

@@ -10,6 +10,8 @@ use mir.Syntax.{w32}
 use mir.Val.{toZ}
 use Rattle.le.specs.LittleEndian.{leNumber}
 use Rattle.rows.specs.Rows.{rowOf}
+use Rattle.rows.specs.declared.Layout.{Layout}
+use Rattle.rows.specs.declared.Layout.the-variants.{Bare, Byte, Word, Pair, Triple, TripleWord, ByteWord, Value, ByteValue, PairValue, ValueJump}
 use Rattle.operands.specs.declared.Command.{Command}
 
 abbrev pub command : ℕ → ℕ → ℕ → ℕ → ℕ → ℤ → Command
@@ -64,41 +66,41 @@ abbrev pub valueJumpOf : List ℕ → Command
 valueJumpOf b =
     command (byteAt b 0) (byteAt b 1) (byteAt b 6 / 16) 0 (256 * (byteAt b 6 % 16) + byteAt b 7) (valueAt b 2)
 
--- by the layout's number; 0 is that of a code that is not carried
-abbrev pub layouts : List (List ℕ → Command)
-layouts =
-    bareOf ∷  -- 0, not carried
-    bareOf ∷  -- 1, bare
-    byteOf ∷  -- 2, byte
-    wordOf ∷  -- 3, word
-    pairOf ∷  -- 4, pair
-    tripleOf ∷  -- 5, triple
-    tripleWordOf ∷  -- 6, tripleWord
-    byteWordOf ∷  -- 7, byteWord
-    valueOf ∷  -- 8, value
-    byteValueOf ∷  -- 9, byteValue
-    pairValueOf ∷  -- 10, pairValue
-    valueJumpOf ∷  -- 11, valueJump
-    []
-
-unfoldable pub laidOut : ℕ → List ℕ → Command
-laidOut n = getD layouts n bareOf
+abbrev pub laidOut : Layout → List ℕ → Command
+laidOut Bare = bareOf
+laidOut Byte = byteOf
+laidOut Word = wordOf
+laidOut Pair = pairOf
+laidOut Triple = tripleOf
+laidOut TripleWord = tripleWordOf
+laidOut ByteWord = byteWordOf
+laidOut Value = valueOf
+laidOut ByteValue = byteValueOf
+laidOut PairValue = pairValueOf
+laidOut ValueJump = valueJumpOf
 
 -- the command of a block
 unfoldable pub operands : List ℕ → Command
 operands b = laidOut (rowOf (byteAt b 0) .layout) b
 
--- how many of D1 to D7 a layout uses, by its number: always the first ones
-abbrev pub used : List ℕ
-used = 0 ∷ 0 ∷ 1 ∷ 2 ∷ 2 ∷ 3 ∷ 5 ∷ 3 ∷ 4 ∷ 5 ∷ 6 ∷ 7 ∷ []
-
-unfoldable pub usedBytes : ℕ → ℕ
-usedBytes n = getD used n 0
+-- how many of D1 to D7 a layout uses: always the first ones
+abbrev pub usedBytes : Layout → ℕ
+usedBytes Bare = 0
+usedBytes Byte = 1
+usedBytes Word = 2
+usedBytes Pair = 2
+usedBytes Triple = 3
+usedBytes TripleWord = 5
+usedBytes ByteWord = 3
+usedBytes Value = 4
+usedBytes ByteValue = 5
+usedBytes PairValue = 6
+usedBytes ValueJump = 7
 
 unfoldable pub allZero : List ℕ → Bool
 allZero [] = true
 allZero (x ∷ xs) = eqb x 0 && allZero xs
 
 -- the bytes that a layout does not use are 0
-unfoldable pub unusedZero : ℕ → List ℕ → Bool
-unusedZero n b = allZero (drop (1 + usedBytes n) b)
+unfoldable pub unusedZero : Layout → List ℕ → Bool
+unusedZero layout b = allZero (drop (1 + usedBytes layout) b)

@@ -1,5 +1,6 @@
 // The operands of a block, where its code's layout has them. Nothing is judged but that unused bytes are 0.
 use limits::BLOCK_LENGTH;
+use rows::Layout;
 ghost use mathlib.Core.Path.{_≡_};
 ghost use Rattle.operands.specs.Operands.{laidOut, operands, usedBytes, unusedZero};
 ghost use Rattle.operands.specs.Operands.{byteOf, wordOf, pairOf, tripleOf, tripleWordOf, byteWordOf, valueOf, byteValueOf, pairValueOf, valueJumpOf, bareOf};
@@ -19,26 +20,26 @@ pub fn read(block: [u8; BLOCK_LENGTH]) -> Command
     ensures { λ r. ⌜ r ≡ operands block ⌝ }
 {
     let row = rows::find(block[0]);
-    lay_out(row.layout, block)
+    let layout = row.layout;
+    lay_out(layout, block)
 }
 
 // The command of a block whose code has this layout.
-pub fn lay_out(layout: u8, block: [u8; BLOCK_LENGTH]) -> Command
+pub fn lay_out(layout: Layout, block: [u8; BLOCK_LENGTH]) -> Command
     ensures { λ r. ⌜ r ≡ laidOut layout block ⌝ }
 {
     match layout {
-        rows::BYTE => byte(block),
-        rows::WORD => word(block),
-        rows::PAIR => pair(block),
-        rows::TRIPLE => triple(block),
-        rows::TRIPLE_WORD => triple_word(block),
-        rows::BYTE_WORD => byte_word(block),
-        rows::VALUE => value(block),
-        rows::BYTE_VALUE => byte_value(block),
-        rows::PAIR_VALUE => pair_value(block),
-        rows::VALUE_JUMP => value_jump(block),
-        // BARE, and 0 for a code that is not carried: no row has a number past these (proofs/Columns.antt)
-        _ => bare(block),
+        Layout::Bare => bare(block),
+        Layout::Byte => byte(block),
+        Layout::Word => word(block),
+        Layout::Pair => pair(block),
+        Layout::Triple => triple(block),
+        Layout::TripleWord => triple_word(block),
+        Layout::ByteWord => byte_word(block),
+        Layout::Value => value(block),
+        Layout::ByteValue => byte_value(block),
+        Layout::PairValue => pair_value(block),
+        Layout::ValueJump => value_jump(block),
     }
 }
 
@@ -195,7 +196,7 @@ fn value_jump(block: [u8; BLOCK_LENGTH]) -> Command
 }
 
 // Whether the bytes that this layout does not use are 0.
-pub fn unused_zero(layout: u8, block: [u8; BLOCK_LENGTH]) -> bool
+pub fn unused_zero(layout: Layout, block: [u8; BLOCK_LENGTH]) -> bool
     ensures { λ r. ⌜ r ≡ unusedZero layout block ⌝ }
 {
     let mut k = 1 + used_bytes(layout);
@@ -209,21 +210,20 @@ pub fn unused_zero(layout: u8, block: [u8; BLOCK_LENGTH]) -> bool
 }
 
 // How many of D1 to D7 a layout uses.
-fn used_bytes(layout: u8) -> usize
+fn used_bytes(layout: Layout) -> usize
     ensures { λ r. ⌜ r ≡ usedBytes layout ⌝ }
 {
     match layout {
-        rows::BYTE => 1,
-        rows::WORD => 2,
-        rows::PAIR => 2,
-        rows::TRIPLE => 3,
-        rows::TRIPLE_WORD => 5,
-        rows::BYTE_WORD => 3,
-        rows::VALUE => 4,
-        rows::BYTE_VALUE => 5,
-        rows::PAIR_VALUE => 6,
-        rows::VALUE_JUMP => 7,
-        // BARE and 0, as in lay_out
-        _ => 0,
+        Layout::Bare => 0,
+        Layout::Byte => 1,
+        Layout::Word => 2,
+        Layout::Pair => 2,
+        Layout::Triple => 3,
+        Layout::TripleWord => 5,
+        Layout::ByteWord => 3,
+        Layout::Value => 4,
+        Layout::ByteValue => 5,
+        Layout::PairValue => 6,
+        Layout::ValueJump => 7,
     }
 }

@@ -1,3 +1,4 @@
 mod Missed
 pub mod Laws
-pub mod Columns
+pub mod Tasks
+pub mod FlowKinds

@@ -6,7 +6,7 @@ use Prim.Native.Nat.{ℕ}
 use Rattle.limits.specs.Limits.{bias, plc, mathematics}
 use Rattle.image.specs.declared.Header.{Header}
 use Rattle.rows.specs.Rows.{rowOf, rowIn, rows}
-use Rattle.operands.specs.Operands.{operands, laidOut}
+use Rattle.operands.specs.Operands.{operands}
 use Rattle.point.specs.Fault.{point}
 use Rattle.point.specs.declared.Point.{Point}
 use Rattle.walk.specs.Program.{commandAt}
@@ -28,18 +28,18 @@ abbrev pub path : List Point
 path = point 0 4 0 ∷ point 0 3 0 ∷ point 0 2 0 ∷ point 0 1 0 ∷ point 0 0 0 ∷ []
 
 pub plc-latest : startOf header program plc path ≡ Named.at 11
-unfolding startOf latest commandAt operands laidOut rowOf rowIn rows
+unfolding startOf latest commandAt operands rowOf rowIn rows
 plc-latest = refl
 
 pub mathematics-latest : startOf header program mathematics path ≡ Named.at 13
-unfolding startOf latest commandAt operands laidOut rowOf rowIn rows
+unfolding startOf latest commandAt operands rowOf rowIn rows
 mathematics-latest = refl
 
 pub bias-start : startOf header program bias path ≡ Named.at 7
-unfolding startOf latest commandAt operands laidOut rowOf rowIn rows
+unfolding startOf latest commandAt operands rowOf rowIn rows
 bias-start = refl
 
 -- a task that no command of the path started has no start
 pub no-start : startOf header program plc (point 0 3 0 ∷ point 0 2 0 ∷ []) ≡ Named.none
-unfolding startOf latest commandAt operands laidOut rowOf rowIn rows
+unfolding startOf latest commandAt operands rowOf rowIn rows
 no-start = refl

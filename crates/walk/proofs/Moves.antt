@@ -1,20 +1,21 @@
 -- A step of a walk is a move by its command's flow: the codes that the walks' sentences name are those that the rows give these flows, by one
 -- computation over all rows; and the moves of a flow are the points that follow. Assumes nothing.
-use Prim.Native.Nat.{ℕ, zero, suc, _+_, _<_}
+use Prim.Native.Nat.{ℕ, zero, suc, _+_}
 use mathlib.Core.Path.{_≡_, refl, sym, ap, subst, _∙_}
 use mathlib.Core.Bool.{Bool, true, false, _&&_, _||_, not, cond, or-false}
 use mathlib.Core.Logic.{inl, inr, ⊎-elim}
 use mathlib.Core.List.{[], _∷_}
-use native.Mathlib.Omega.{arith}
 use lib.ListN.{getD}
-use lib.Dec.{T, eqb, ltb}
-use borrow.Author.Tests.{eqb-true, eqb-false, eq-eqb, ne-eqb, ltb-true, not-true}
+use lib.Dec.{T, eqb}
+use borrow.Author.Tests.{eqb-true, eqb-false, eq-eqb, ne-eqb, not-true}
 use Rattle.limits.specs.Limits.{bias, plc, mathematics}
 use Rattle.number.proofs.Choice.{clash, both}
-use Rattle.rows.specs.Rows.{noRow, rows, rowIn, rowOf, wait, branch, return, startBias, startPlc, startMathematics, ending}
-use Rattle.rows.specs.Rows.{jump as jumped, call as called}
+use Rattle.rows.specs.Rows.{noRow, rows, rowIn, rowOf}
+use Rattle.rows.specs.declared.FlowKind.{FlowKind}
+use Rattle.rows.specs.declared.FlowKind.the-variants as kind
 use Rattle.rows.specs.declared.Row.{Row}
 use Rattle.rows.proofs.Laws.{every, every-row, same, same-is}
+use Rattle.rows.proofs.FlowKinds.{is, isOneOf}
 use Rattle.flow.specs.Flow.{flowBy}
 use Rattle.flow.specs.Tasks.{boxes, permitted}
 use Rattle.point.specs.Fault.{point}
@@ -22,33 +23,33 @@ use Rattle.point.specs.declared.Point.{Point}
 use Rattle.flow.specs.declared.Flow.{Flow}
 use Rattle.flow.specs.declared.Flow.the-variants.{Next, Wait, Jump, Branch, Call, Return, Start, Restart, End}
 use Rattle.walk.specs.Graph.{In}
-use Rattle.walk.specs.Walk.{oneOf, jumps, stays}
+use Rattle.walk.specs.Walk.{jumps, stays}
 use Rattle.walk.specs.Successors.{goes}
 
--- ---- flows by their numbers
+-- ---- kinds of flow: what each lets a walk do
 
-abbrev pub jumpsBy : ℕ → Bool
-jumpsBy n = eqb n jumped || eqb n branch
+abbrev pub jumpsBy : FlowKind → Bool
+jumpsBy k = is k kind.Jump || is k kind.Branch
 
-abbrev pub startsBy : ℕ → ℕ → Bool
-startsBy n u = (eqb n startBias && eqb u bias) || ((eqb n startPlc && eqb u plc) || (eqb n startMathematics && eqb u mathematics))
+abbrev pub startsBy : FlowKind → ℕ → Bool
+startsBy k u = (is k kind.StartBias && eqb u bias) || ((is k kind.StartPlc && eqb u plc) || (is k kind.StartMathematics && eqb u mathematics))
 
-abbrev pub onBy : ℕ → ℕ → Bool
-onBy n task = not (oneOf (ending ∷ called ∷ return ∷ jumped ∷ []) n || startsBy n task)
+abbrev pub onBy : FlowKind → ℕ → Bool
+onBy k task = not (isOneOf (kind.Ending ∷ kind.Call ∷ kind.Return ∷ kind.Jump ∷ []) k || startsBy k task)
 
--- a code and its flow: each code that walks name has a flow of its own, and jumps are jumps
+-- a code and its kind of flow: each code that walks name has a kind of its own, and jumps are jumps
 agrees : ℕ → Row → Bool
 agrees code r =
-    same (eqb code 0x51) (eqb (r .flow) ending) &&
-    (same (eqb code 0x52) (eqb (r .flow) called) &&
-    (same (eqb code 0x53) (eqb (r .flow) return) &&
-    (same (eqb code 0x55) (eqb (r .flow) jumped) &&
-    (same (eqb code 0x57) (eqb (r .flow) startBias) &&
-    (same (eqb code 0x54) (eqb (r .flow) startPlc) &&
-    (same (eqb code 0x90) (eqb (r .flow) startMathematics) &&
+    same (eqb code 0x51) (is (r .flow) kind.Ending) &&
+    (same (eqb code 0x52) (is (r .flow) kind.Call) &&
+    (same (eqb code 0x53) (is (r .flow) kind.Return) &&
+    (same (eqb code 0x55) (is (r .flow) kind.Jump) &&
+    (same (eqb code 0x57) (is (r .flow) kind.StartBias) &&
+    (same (eqb code 0x54) (is (r .flow) kind.StartPlc) &&
+    (same (eqb code 0x90) (is (r .flow) kind.StartMathematics) &&
     (same (jumps code) (jumpsBy (r .flow)) &&
-    (same (stays code) (eqb (r .flow) wait) &&
-    (ltb 0 (r .flow) && ltb (r .flow) 11)))))))))
+    (same (stays code) (is (r .flow) kind.Wait) &&
+    not (is (r .flow) kind.Nothing)))))))))
 
 all-agree : T (every agrees rows)
 unfolding agrees rows
@@ -57,19 +58,18 @@ all-agree = tt
 agree : {a b : Bool} → same a b ≡ true → a ≡ b
 agree e = same-is _ _ (subst T (sym e) tt)
 
--- what a code that some task may use has to do with its flow n
-pub record Flows (code n : ℕ) : Type 0 where
-  pub ends : eqb code 0x51 ≡ eqb n ending
-  pub calls : eqb code 0x52 ≡ eqb n called
-  pub returns : eqb code 0x53 ≡ eqb n return
-  pub goes-to : eqb code 0x55 ≡ eqb n jumped
-  pub begins-bias : eqb code 0x57 ≡ eqb n startBias
-  pub begins-plc : eqb code 0x54 ≡ eqb n startPlc
-  pub begins-mathematics : eqb code 0x90 ≡ eqb n startMathematics
-  pub jumping : jumps code ≡ jumpsBy n
-  pub staying : stays code ≡ eqb n wait
-  pub some : 0 < n
-  pub known : n < 11
+-- what a code that some task may use has to do with its kind of flow
+pub record Flows (code : ℕ) (k : FlowKind) : Type 0 where
+  pub ends : eqb code 0x51 ≡ is k kind.Ending
+  pub calls : eqb code 0x52 ≡ is k kind.Call
+  pub returns : eqb code 0x53 ≡ is k kind.Return
+  pub goes-to : eqb code 0x55 ≡ is k kind.Jump
+  pub begins-bias : eqb code 0x57 ≡ is k kind.StartBias
+  pub begins-plc : eqb code 0x54 ≡ is k kind.StartPlc
+  pub begins-mathematics : eqb code 0x90 ≡ is k kind.StartMathematics
+  pub jumping : jumps code ≡ jumpsBy k
+  pub staying : stays code ≡ is k kind.Wait
+  pub some : is k kind.Nothing ≡ false
 
 flows-of : (code : ℕ) (r : Row) → agrees code r ≡ true → Flows code (r .flow)
 unfolding agrees
@@ -83,7 +83,6 @@ flows-of code r e =
     let h = both _ _ (g .1) in
     let i = both _ _ (h .1) in
     let k = both _ _ (i .1) in
-    let j = both _ _ (k .1) in
     record {
       ends = agree (a .0);
       calls = agree (b .0);
@@ -94,8 +93,7 @@ flows-of code r e =
       begins-mathematics = agree (h .0);
       jumping = agree (i .0);
       staying = agree (k .0);
-      some = ltb-true _ _ (j .0);
-      known = ltb-true _ _ (j .1);
+      some = not-true _ (k .1);
     }
 
 -- no task may use a code that has no row
@@ -180,37 +178,34 @@ Names word (Start u a) = a ≡ word
 Names word Restart = Unit {0}
 Names word End = Unit {0}
 
-pub record Flowing (n word : ℕ) (f : Flow) : Type 0 where
-  pub on : (t : ℕ) → onBy n t ≡ onF f t
-  pub jump : jumpsBy n ≡ jumpF f
-  pub call : eqb n called ≡ callF f
-  pub start : (v : ℕ) → startsBy n v ≡ startF f v
-  pub stay : eqb n wait ≡ waitF f
+pub record Flowing (k : FlowKind) (word : ℕ) (f : Flow) : Type 0 where
+  pub on : (t : ℕ) → onBy k t ≡ onF f t
+  pub jump : jumpsBy k ≡ jumpF f
+  pub call : is k kind.Call ≡ callF f
+  pub start : (v : ℕ) → startsBy k v ≡ startF f v
+  pub stay : is k kind.Wait ≡ waitF f
   pub names : Names word f
 
--- a flow by its number lets a walk do what its number says
+-- a flow lets a walk do what its kind says
 module _ (x word : ℕ) where
-  ends : (t : Bool) → Flowing ending word (cond t Restart End)
+  ends : (t : Bool) → Flowing kind.Ending word (cond t Restart End)
   ends true = record { on = λ t. refl; jump = refl; call = refl; start = λ v. refl; stay = refl; names = tt }
   ends false = record { on = λ t. refl; jump = refl; call = refl; start = λ v. refl; stay = refl; names = tt }
 
-  pub flowing : (n : ℕ) → 0 < n → n < 11 → Flowing n word (flowBy n x word)
-  unfolding flowBy
-  flowing zero l m = absurd (omega arith)
-  flowing (suc zero) l m = record { on = λ t. refl; jump = refl; call = refl; start = λ v. refl; stay = refl; names = tt }
-  flowing (suc (suc zero)) l m = record { on = λ t. refl; jump = refl; call = refl; start = λ v. refl; stay = refl; names = tt }
-  flowing (suc (suc (suc zero))) l m = record { on = λ t. refl; jump = refl; call = refl; start = λ v. refl; stay = refl; names = refl }
-  flowing (suc (suc (suc (suc zero)))) l m = record { on = λ t. refl; jump = refl; call = refl; start = λ v. refl; stay = refl; names = refl }
-  flowing (suc (suc (suc (suc (suc zero))))) l m = record { on = λ t. refl; jump = refl; call = refl; start = λ v. refl; stay = refl; names = refl }
-  flowing (suc (suc (suc (suc (suc (suc zero)))))) l m = record { on = λ t. refl; jump = refl; call = refl; start = λ v. refl; stay = refl; names = tt }
-  flowing (suc (suc (suc (suc (suc (suc (suc zero))))))) l m =
+  pub flowing : (k : FlowKind) → is k kind.Nothing ≡ false → Flowing k word (flowBy k x word)
+  flowing kind.Nothing e = clash e
+  flowing kind.Next e = record { on = λ t. refl; jump = refl; call = refl; start = λ v. refl; stay = refl; names = tt }
+  flowing kind.Wait e = record { on = λ t. refl; jump = refl; call = refl; start = λ v. refl; stay = refl; names = tt }
+  flowing kind.Jump e = record { on = λ t. refl; jump = refl; call = refl; start = λ v. refl; stay = refl; names = refl }
+  flowing kind.Branch e = record { on = λ t. refl; jump = refl; call = refl; start = λ v. refl; stay = refl; names = refl }
+  flowing kind.Call e = record { on = λ t. refl; jump = refl; call = refl; start = λ v. refl; stay = refl; names = refl }
+  flowing kind.Return e = record { on = λ t. refl; jump = refl; call = refl; start = λ v. refl; stay = refl; names = tt }
+  flowing kind.StartBias e =
       record { on = λ t. ap not (or-false (eqb t bias)); jump = refl; call = refl; start = λ v. or-false _; stay = refl; names = refl }
-  flowing (suc (suc (suc (suc (suc (suc (suc (suc zero)))))))) l m =
+  flowing kind.StartPlc e =
       record { on = λ t. ap not (or-false (eqb t plc)); jump = refl; call = refl; start = λ v. or-false _; stay = refl; names = refl }
-  flowing (suc (suc (suc (suc (suc (suc (suc (suc (suc zero))))))))) l m =
-      record { on = λ t. refl; jump = refl; call = refl; start = λ v. refl; stay = refl; names = refl }
-  flowing (suc (suc (suc (suc (suc (suc (suc (suc (suc (suc zero)))))))))) l m = ends (eqb x 0)
-  flowing (suc (suc (suc (suc (suc (suc (suc (suc (suc (suc (suc n))))))))))) l m = absurd (omega arith)
+  flowing kind.StartMathematics e = record { on = λ t. refl; jump = refl; call = refl; start = λ v. refl; stay = refl; names = refl }
+  flowing kind.Ending e = ends (eqb x 0)
 
 -- ---- moves
 

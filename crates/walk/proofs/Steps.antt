@@ -32,7 +32,7 @@ module _ (h : Header) (bs : List ℕ) (path : List Point) (p : Point) (c : Comma
 
   flow : Flowing (rowOf (c .code) .flow) (c .word) (flowOf c)
   unfolding flowOf
-  flow = flowing (c .x) (c .word) (rowOf (c .code) .flow) (codes .some) (codes .known)
+  flow = flowing (c .x) (c .word) (rowOf (c .code) .flow) (codes .some)
 
   begins : (u : ℕ) → starts (c .code) u ≡ startsBy (rowOf (c .code) .flow) u
   begins u = rw (codes .begins-bias, codes .begins-plc, codes .begins-mathematics)

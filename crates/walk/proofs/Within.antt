@@ -1,6 +1,6 @@
 -- Walks stay within the image: what follows a point of a task, a block of the image and a depth up to the limit is again such a point, since
 -- nothing follows a bad point; and at most two points follow. Assumes nothing.
-use Prim.Native.Nat.{ℕ, zero, suc, _+_, _<_, _≤_}
+use Prim.Native.Nat.{ℕ, _+_, _<_, _≤_}
 use mathlib.Core.Path.{_≡_, refl, sym, ap, _∙_}
 use mathlib.Core.Bool.{Bool, true, false, _||_, cond}
 use mathlib.Core.Logic.{⊎-elim}
@@ -13,6 +13,8 @@ use Rattle.limits.specs.Limits.{taskCount, mostDepth}
 use Rattle.image.specs.declared.Header.{Header}
 use Rattle.number.proofs.Choice.{clash}
 use Rattle.rows.specs.Rows.{rowOf}
+use Rattle.rows.specs.declared.FlowKind.{FlowKind}
+use Rattle.rows.specs.declared.FlowKind.the-variants as flowKind
 use Rattle.operands.specs.declared.Command.{Command}
 use Rattle.flow.specs.Flow.{flowBy, flowOf, continues}
 use Rattle.flow.specs.Tasks.{foreign, permitted}
@@ -83,24 +85,22 @@ Small Return = Unit {0}
 Small Restart = Unit {0}
 Small End = Unit {0}
 
-small : (n x word : ℕ) → Small (flowBy n x word)
-unfolding flowBy
-small zero x word = tt
-small (suc zero) x word = tt
-small (suc (suc zero)) x word = tt
-small (suc (suc (suc zero))) x word = tt
-small (suc (suc (suc (suc zero)))) x word = tt
-small (suc (suc (suc (suc (suc zero))))) x word = tt
-small (suc (suc (suc (suc (suc (suc zero)))))) x word = tt
-small (suc (suc (suc (suc (suc (suc (suc zero))))))) x word = omega arith
-small (suc (suc (suc (suc (suc (suc (suc (suc zero)))))))) x word = omega arith
-small (suc (suc (suc (suc (suc (suc (suc (suc (suc zero))))))))) x word = omega arith
-small (suc (suc (suc (suc (suc (suc (suc (suc (suc (suc zero)))))))))) x word = ends (eqb x 0)
+small : (k : FlowKind) (x word : ℕ) → Small (flowBy k x word)
+small flowKind.Nothing x word = tt
+small flowKind.Next x word = tt
+small flowKind.Wait x word = tt
+small flowKind.Jump x word = tt
+small flowKind.Branch x word = tt
+small flowKind.Call x word = tt
+small flowKind.Return x word = tt
+small flowKind.StartBias x word = omega arith
+small flowKind.StartPlc x word = omega arith
+small flowKind.StartMathematics x word = omega arith
+small flowKind.Ending x word = ends (eqb x 0)
   where
     ends : (t : Bool) → Small (cond t Restart End)
     ends true = tt
     ends false = tt
-small (suc (suc (suc (suc (suc (suc (suc (suc (suc (suc (suc n))))))))))) x word = tt
 
 small-flow : (c : Command) → Small (flowOf c)
 unfolding flowOf

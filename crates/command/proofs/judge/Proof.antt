@@ -1,7 +1,15 @@
 -- `judge` meets its contract: the row is that of the code, and its first test is the definition's. Assumes nothing.
 use native.Mathlib.Omega.{arith}
-use borrow.Author.Tests.{eq-eqb, ne-eqb}
-use Rattle.command.specs.Judged.{rowFault, blockFault}
+use Prim.Native.Nat.{ℕ}
+use mathlib.Core.Path.{_≡_, ap}
+use mathlib.Core.Bool.{Bool, true, cond}
+use mathlib.Core.List.{List}
+use borrow.Author.Tests.{not-true, not-false}
+use Rattle.image.specs.declared.Header.{Header}
+use Rattle.rows.specs.declared.Row.{Row}
+use Rattle.operands.specs.Operands.{laidOut}
+use Rattle.command.specs.Judged.{commandFault, rowFault, blockFault}
+use Rattle.command.specs.declared.BlockFault.the-variants.{NotCarried}
 use Rattle.command.proofs.judge.Statement.{statement}
 use Rattle.command.proofs.judge.Tie as tie
 
@@ -13,7 +21,7 @@ find-requires c κs = tt
 
 returns : tie.Need-returns
 unfolding blockFault rowFault
-returns c = rw (← c .before .before .find .ensures, eq-eqb (c .before .before .find .result .layout) 0 (c .if1 .taken))
+returns c = rw (← c .before .before .find .ensures, not-true (c .before .before .find .result .carried) (c .if1 .taken))
 
 lay-out-requires : tie.Need-lay-out-requires
 lay-out-requires c κs = tt
@@ -21,9 +29,17 @@ lay-out-requires c κs = tt
 judge-command-requires : tie.Need-judge-command-requires
 judge-command-requires c κs = tt
 
+carried-row : (r : Row) (h : Header) (b : List ℕ) → r .carried ≡ true → rowFault r h b ≡ commandFault r h b (laidOut (r .layout) b)
+unfolding rowFault
+carried-row r h b e = ap (λ (t : Bool). cond t (commandFault r h b (laidOut (r .layout) b)) NotCarried) e
+
 returns-2 : tie.Need-returns-2
-unfolding blockFault rowFault
-returns-2 c = rw (← c .before .before .before .before .find .ensures, ne-eqb (c .before .before .before .before .find .result .layout) 0 (c .before .before .if1 .left), ← c .before .lay-out .ensures) (c .judge-command .ensures)
+unfolding blockFault
+returns-2 c =
+    let a = c .before .before .before .before .before .args in
+    let row = c .before .before .before .before .find .result in
+    let carried = carried-row row (a .header) (a .t2) (not-false (row .carried) (c .before .before .if1 .left)) in
+    rw (← c .before .before .before .before .find .ensures, carried, ← c .before .lay-out .ensures) (c .judge-command .ensures)
 
 pub judge-spec : {M : Type 1} → statement M
 judge-spec =

@@ -1,20 +1,22 @@
--- `unused_zero` meets its contract. The loop's invariant: the bytes from k on tell whether all of the unused ones are 0. Assumes nothing.
+-- `unused_zero` meets its contract. The loop's invariant: the bytes from k on tell whether all from the first unused one on are 0. Assumes nothing.
 use borrow.Author.Needs.{needs}
-use mathlib.Core.Path.{_≡_, sym, _∙_}
-use Prim.Native.Nat.{_-_}
+use mathlib.Core.Path.{_≡_, refl, sym, ap, _∙_}
+use Prim.Native.Nat.{ℕ, _+_, _-_}
+use mathlib.Core.List.{List}
 use native.Mathlib.Omega.{arith}
 use lib.ListN.{drop}
 use Rattle.limits.specs.Limits.{blockLength}
-use Rattle.operands.specs.Operands.{allZero, unusedZero}
+use Rattle.rows.specs.declared.Layout.{Layout}
+use Rattle.operands.specs.Operands.{usedBytes, allZero, unusedZero}
 use Rattle.operands.proofs.Unused.{used-most, done, found, passed}
 use Rattle.operands.proofs.unused_zero.Statement.{statement}
 use Rattle.operands.proofs.unused_zero.Tie as tie
 
 abbrev Inv-loop : tie.InvT-loop
-Inv-loop layout block k₀ k = allZero (drop k block) ≡ unusedZero layout block
+Inv-loop block k₀ k = allZero (drop k block) ≡ allZero (drop k₀ block)
 
 abbrev μ-loop : tie.MeasureT-loop
-μ-loop layout block k₀ k = blockLength - k
+μ-loop block k₀ k = blockLength - k
 
 used-bytes-requires : tie.Need-used-bytes-requires Inv-loop μ-loop
 used-bytes-requires c κs = tt
@@ -23,16 +25,21 @@ add-k : tie.Need-add-k Inv-loop μ-loop
 add-k c = let m = used-most (c .before .args .layout) in omega (arith, c .used-bytes .ensures)
 
 loop-holds : tie.Need-loop-holds Inv-loop μ-loop
+loop-holds c = refl
+
+-- the first unused byte is behind those that are used
+from-used : (layout : Layout) (b : List ℕ) {n : ℕ} → n ≡ usedBytes layout → allZero (drop (1 + n) b) ≡ unusedZero layout b
 unfolding unusedZero
-loop-holds c = rw (c .used-bytes .ensures)
+from-used layout b e = ap (λ (m : ℕ). allZero (drop (1 + m) b)) e
 
 array-read-if1 : tie.Need-array-read-if1 Inv-loop μ-loop
 array-read-if1 c = omega arith
 
 returns : tie.Need-returns Inv-loop μ-loop
 returns c =
-    let b = c .before .before .before .before .args .t2 in
-    sym (found b (c .before .before .loop .k) (omega arith) (c .if1 .taken)) ∙ c .before .before .loop .inv
+    let a = c .before .before .before .before .args in
+    sym (found (a .t2) (c .before .before .loop .k) (omega arith) (c .if1 .taken)) ∙ c .before .before .loop .inv
+    ∙ from-used (a .layout) (a .t2) (c .before .before .before .used-bytes .ensures)
 
 add-k-2 : tie.Need-add-k-2 Inv-loop μ-loop
 add-k-2 c = search needs
@@ -47,8 +54,8 @@ loop-again c =
 
 returns-2 : tie.Need-returns-2 Inv-loop μ-loop
 returns-2 c =
-    let b = c .before .before .before .args .t2 in
-    sym (done b (c .before .loop .k) (omega arith)) ∙ c .before .loop .inv
+    let a = c .before .before .before .args in
+    sym (done (a .t2) (c .before .loop .k) (omega arith)) ∙ c .before .loop .inv ∙ from-used (a .layout) (a .t2) (c .before .before .used-bytes .ensures)
 
 pub unused-zero-spec : {M : Type 1} → statement M
 unused-zero-spec =

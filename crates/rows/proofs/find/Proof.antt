@@ -129,4 +129,4 @@ find-spec =
     (λ c. c .entry55 .ensures ∙ is (c .before .match .keys55))
     (λ c. c .entry56 .ensures ∙ is (c .before .match .keys56))
     (λ c. c .entry57 .ensures ∙ is (c .before .match .keys57))
-    (λ c. c .entry58 .ensures ∙ sym (missed rows (c .before .before .args .code) (c .before .match .rest))))
+    (λ c. c .not-carried .ensures ∙ sym (missed rows (c .before .before .args .code) (c .before .match .rest))))

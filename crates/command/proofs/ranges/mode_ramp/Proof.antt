@@ -1,7 +1,7 @@
--- `ramp_stop` meets its contract, by its first test. Assumes nothing.
+-- `mode_ramp` meets its contract, by its first test. Assumes nothing.
 use borrow.Author.Tests.{le-leb, lt-leb}
-use Rattle.command.proofs.ranges.ramp_stop.Statement.{statement}
-use Rattle.command.proofs.ranges.ramp_stop.Tie as tie
+use Rattle.command.proofs.ranges.mode_ramp.Statement.{statement}
+use Rattle.command.proofs.ranges.mode_ramp.Tie as tie
 
 up-to-requires : tie.Need-up-to-requires
 up-to-requires c κs = tt
@@ -12,5 +12,5 @@ returns c = rw (le-leb (c .before .before .args .x) 1 (c .before .if1 .taken)) (
 returns-2 : tie.Need-returns-2
 returns-2 c = rw (lt-leb (c .before .args .x) 1 (c .if1 .left))
 
-pub ramp-stop-spec : {M : Type 1} → statement M
-ramp-stop-spec = tie.close (tie.spec up-to-requires returns returns-2)
+pub mode-ramp-spec : {M : Type 1} → statement M
+mode-ramp-spec = tie.close (tie.spec up-to-requires returns returns-2)
