@@ -10,8 +10,9 @@ use lib.ListN.{getD}
 use Rattle.limits.specs.Limits.{taskCount, mostDepth}
 use Rattle.le.specs.LittleEndian.{Bytes}
 use Rattle.number.proofs.Choice.{clash}
-use Rattle.image.specs.Scan.{headerOf, blocksOf}
+use Rattle.image.specs.Scan.{blocksOf}
 use Rattle.point.specs.declared.Point.{Point}
+use Rattle.flow.specs.Terms.{termsOf}
 use Rattle.walk.specs.Program.{faultAt}
 use Rattle.walk.specs.Says.{BadAt, NoForeign, Says, Judges}
 use Rattle.walk.specs.Verdict.{verdictNumber}
@@ -125,12 +126,12 @@ module _ {image b : List ℕ} {x : Inputs} where
 -- ---- the place that is named when walks refuse: a bad one, with its number, and the first that a reader of the listing comes to
 
 abbrev pub Bad : List ℕ → Point → Type 0
-Bad image = BadAt (headerOf image .header) (blocksOf image)
+Bad image = BadAt (termsOf image) (blocksOf image)
 
 pub record Topmost (image : List ℕ) (v : BiasVerdict) : Type 0 where
   pub place : Point
   pub bad : Bad image place
-  pub named : v ≡ verdictFor (verdict.Bad (faultAt (headerOf image .header) (blocksOf image) place) place)
+  pub named : v ≡ verdictFor (verdict.Bad (faultAt (termsOf image) (blocksOf image) place) place)
   -- no bad place is in a block above it; in its block none is of an earlier task, and of its task none is less deep
   pub noneAbove : (q : Point) → Bad image q → place .block ≤ q .block
   pub noneEarlier : (q : Point) → Bad image q → place .block ≡ q .block → place .task ≤ q .task
@@ -159,7 +160,7 @@ module _ (d : Demand) (image : List ℕ) (n : ℕ) (b : List ℕ) where
 
     -- 3
     pub block-fits : (t : ℕ) → t < taskCount → taskAt (decoded (bufferAfter image (load image n b .buffer) xs)) t .status ≡ runs
-        → (blockFits (headerOf image .header) (blocksOf image) t (taskAt (decoded (bufferAfter image (load image n b .buffer) xs)) t) ≡ true)
+        → (blockFits (termsOf image) (blocksOf image) t (taskAt (decoded (bufferAfter image (load image n b .buffer) xs)) t) ≡ true)
         × (taskAt (decoded (bufferAfter image (load image n b .buffer) xs)) t .depth ≤ mostDepth)
     block-fits t l r = let p = run .permitted t l r in (permitted-fits image t _ p, p .depth)
 
@@ -180,12 +181,12 @@ module _ (d : Demand) (image : List ℕ) (n : ℕ) (b : List ℕ) where
 
   pub refused-for : WellFormed image n b
       → ((load image n b .verdict .number ≡ 0 → ⊥) ↔ (SomeBad image ⊎ SomeForeign image))
-      × (NoForeign (headerOf image .header) (blocksOf image) → (load image n b .verdict .number ≡ 0 → ⊥) ↔ SomeBad image)
+      × (NoForeign (termsOf image) (blocksOf image) → (load image n b .verdict .number ≡ 0 → ⊥) ↔ SomeBad image)
   refused-for w = (d .exactly .byForm image n b w, d .exactly .byPlace image n b w)
 
   -- ---- the place that a refusal by 9 to 12 names
 
-  module _ (w : WellFormed image n b) (own : NoForeign (headerOf image .header) (blocksOf image)) where
+  module _ (w : WellFormed image n b) (own : NoForeign (termsOf image) (blocksOf image)) where
     judged-topmost : {v : Verdict} → Judges image n v → (verdictNumber v ≡ 0 → ⊥) → Topmost image (verdictFor v)
     judged-topmost (Judges.marks short) r = absurd (let m = w .marks in omega arith)
     judged-topmost (Judges.header room f) r = clash (sym (w .header) ∙ f)

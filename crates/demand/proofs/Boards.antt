@@ -26,6 +26,7 @@ use Rattle.command.proofs.Boards.{buyable, by-6-exactly, never-on-631}
 use Rattle.fault.specs.Fault.{faultNumber}
 use Rattle.fault.specs.declared.Fault.{Fault}
 use Rattle.fault.specs.declared.Fault.the-variants as fault
+use Rattle.flow.specs.Terms.{termsOf}
 use Rattle.walk.specs.Program.{blockAt, blockFaultAt, blockNumber, faultAt}
 use Rattle.walk.specs.Says.{Says, Judges}
 use Rattle.walk.specs.Verdict.{verdictNumber}
@@ -34,7 +35,7 @@ use Rattle.walk.specs.declared.Verdict.the-variants as verdict
 use Rattle.state.specs.State.{taskAt}
 use Rattle.layout.specs.Layout.{decoded}
 use Rattle.machine.specs.Given.{Inputs}
-use Rattle.machine.specs.Engine.{pointOf, fits}
+use Rattle.machine.specs.Engine.{pointOf, fits, termsHeld}
 use Rattle.machine.specs.Numbers.{causeNumber}
 use Rattle.machine.specs.declared.Cause.{Cause}
 use Rattle.machine.specs.declared.Cause.the-variants.{ZeroDivisor, BadContent}
@@ -100,7 +101,7 @@ module _ (image : List ℕ) (n : ℕ) (b : List ℕ) where
 
   -- what such a number says of the block beside it
   First : BiasVerdict → Type 0
-  First v = FirstFault image n b (v .place) (blockFaultAt h bs (v .place)) × (blockNumber h bs (v .place) ≡ v .number)
+  First v = FirstFault image n b (v .place) (blockFaultAt (termsOf image) bs (v .place)) × (blockNumber (termsOf image) bs (v .place) ≡ v .number)
 
   of-verdict : length b ≡ stateLength → {v : Verdict} → Judges image n v → T (ofDrive (verdictNumber v)) → First (verdictFor v)
   unfolding First
@@ -110,7 +111,7 @@ module _ (image : List ℕ) (n : ℕ) (b : List ℕ) where
       (record { marks = room; buffer = right; header = d; block = l; before = all; fault = refl }, refl)
   of-verdict right (Judges.walks room d all v (Says.accepted f g)) t = absurd t
   of-verdict right (Judges.walks room d all v (Says.foreign p f g)) t = absurd t
-  of-verdict right (Judges.walks room d all v (Says.bad f p q g)) t = absurd (not-walk (faultAt h bs p) t)
+  of-verdict right (Judges.walks room d all v (Says.bad f p q g)) t = absurd (not-walk (faultAt (termsOf image) bs p) t)
 
   of-load : {v : BiasVerdict} → Loads image n b v → T (ofDrive (v .number)) → First v
   of-load (Loads.marks short) t = absurd t
@@ -121,7 +122,7 @@ module _ (image : List ℕ) (n : ℕ) (b : List ℕ) where
   unfolding First
   told f t e =
       let r = of-load (loads image n b) (subst (λ (m : ℕ). T (ofDrive m)) (sym e) t) in
-      subst (FirstFault image n b named) (number-tells (blockFaultAt h bs named) f (r .1 ∙ e)) (r .0)
+      subst (FirstFault image n b named) (number-tells (blockFaultAt (termsOf image) bs named) f (r .1 ∙ e)) (r .0)
 
   -- 6 or 23 is answered, with block k, exactly where k is the first block that is refused by itself, and by that
   pub told-exactly : (f : BlockFault) (k : ℕ) → T (ofDrive (blockFaultNumber f))
@@ -164,10 +165,10 @@ module _ (image b : List ℕ) (bytes : Bytes image) (own : Bytes b) (x : Inputs)
   step-never-23 = no-way (every-step image b bytes own x .way (stepped image b x .answer) (stepped image b x .buffer) .1 (refl, refl))
 
   -- where a running task stands at a block that 5 to 8 or 23 refuse, the answer is 17 at its point
-  pub step-is-17 : Running b x → (blockNumber (decoded b .header) (blocksOf image) (taskAt (decoded b) (x .task) .block) ≡ 0 → ⊥)
+  pub step-is-17 : Running b x → (blockNumber (termsHeld (decoded b)) (blocksOf image) (taskAt (decoded b) (x .task) .block) ≡ 0 → ⊥)
       → stepped image b x .answer ≡ answerFor None (Differs (pointOf (x .task) (taskAt (decoded b) (x .task))))
   unfolding fits
   step-is-17 k bad = sym (every-step image b bytes own x .way _ b .0 (Way.differs k fails) .0)
     where
-      fails : fits image (decoded b .header) (x .task) (taskAt (decoded b) (x .task)) ≡ false
+      fails : fits image (termsHeld (decoded b)) (x .task) (taskAt (decoded b) (x .task)) ≡ false
       fails = simp (ne-eqb _ 0 bad, and-false)

@@ -25,7 +25,7 @@ use Rattle.layout.specs.Test.{isState}
 use Rattle.layout.proofs.Round.{state-good, encode-decode, good-state}
 use Rattle.machine.specs.Given.{Inputs}
 use Rattle.machine.specs.Effect.{effectOf, isSet}
-use Rattle.machine.specs.Engine.{given, isWait, isLoaded, blockFits, waitFits, fits, pointOf, answerTo, noted, stopped, tasksAfter, performed, carriedOut, taskStep, step}
+use Rattle.machine.specs.Engine.{given, isWait, isLoaded, blockFits, waitFits, fits, pointOf, answerTo, noted, stopped, tasksAfter, performed, carriedOut, taskStep, step, termsHeld}
 use Rattle.machine.specs.Engine as engine
 use Rattle.machine.specs.Each.{commandOf, Reason}
 use Rattle.machine.specs.declared.Cause.{Cause}
@@ -146,8 +146,8 @@ module _ (image b : List ℕ) (x : Inputs) where
       wait-here : isSet (k .time) ≡ true → isWait (commandOf image s x .code) ≡ true
       unfolding fits
       wait-here t =
-          let here = both (isLoaded (headerOf image) (s .header)) (blockFits (s .header) (blocksOf image) (x .task) k && waitFits (blocksOf image) k) (r .fits) in
-          let waiting = both (blockFits (s .header) (blocksOf image) (x .task) k) (waitFits (blocksOf image) k) (here .1) .1 in
+          let here = both (isLoaded (headerOf image) (s .header)) (blockFits (termsHeld s) (blocksOf image) (x .task) k && waitFits (blocksOf image) k) (r .fits) in
+          let waiting = both (blockFits (termsHeld s) (blocksOf image) (x .task) k) (waitFits (blocksOf image) k) (here .1) .1 in
           sym (ap (λ (u : Bool). not u || isWait (commandOf image s x .code)) t) ∙ waiting
 
       halting : (q : Cause) → e .outcome ≡ outcome.Halt q → Gives (answerFor None (Halted q (pointOf (x .task) k))) (encoded (haltedState s x))
@@ -197,12 +197,12 @@ module _ (image b : List ℕ) (x : Inputs) where
         (λ h. goes (Way.done r (λ q w. clash (ap isHalt (sym (halts-for (given s k x) (commandOf image s x) (s .values) w)) ∙ h .1))))
         (halt-or-done (e r .outcome) (pointOf (x .task) k))
 
-    running-way : Running b x → (t : Bool) → fits image (s .header) (x .task) k ≡ t → Some
+    running-way : Running b x → (t : Bool) → fits image (termsHeld s) (x .task) k ≡ t → Some
     running-way h true f = executed-way (record { runs = h; fits = f })
     running-way h false f = goes (Way.differs h f)
 
     held-way : Held b x → (t : Bool) → eqb (k .status) runs ≡ t → Some
-    held-way h true f = running-way (record { held = h; running = eqb-true _ _ f }) (fits image (s .header) (x .task) k) refl
+    held-way h true f = running-way (record { held = h; running = eqb-true _ _ f }) (fits image (termsHeld s) (x .task) k) refl
     held-way h false f = goes (Way.notRunning h (eqb-false _ _ f))
 
     asked-way : Asked x → (t : Bool) → isState b ≡ t → Some

@@ -20,6 +20,7 @@ use Rattle.number.proofs.Choice.{clash, by}
 use Rattle.fault.specs.Fault.{isBad, faultNumber}
 use Rattle.fault.specs.declared.Fault.{Fault}
 use Rattle.fault.specs.declared.Fault.the-variants as fault
+use Rattle.flow.specs.Terms.{termsOf}
 use Rattle.walk.specs.Program.{faultAt}
 use Rattle.walk.specs.Says.{NoForeign, Says, Judges}
 use Rattle.walk.specs.Verdict.{verdictNumber, verdictOf, isAccepted}
@@ -94,7 +95,7 @@ module _ (image : List ℕ) (n : ℕ) (b : List ℕ) where
   accepted-says (Judges.block room d c l all bad) e = absurd (bad e)
   accepted-says (Judges.walks room d all v (Says.accepted f g)) e = refl
   accepted-says (Judges.walks room d all v (Says.foreign p f g)) e = absurd (omega arith)
-  accepted-says (Judges.walks room d all v (Says.bad f p q g)) e = absurd (bad-number (faultAt (headerOf image .header) (blocksOf image) p) (q .1) e)
+  accepted-says (Judges.walks room d all v (Says.bad f p q g)) e = absurd (bad-number (faultAt (termsOf image) (blocksOf image) p) (q .1) e)
 
   -- the number of a load that comes to the image is that of its verdict
   number-is : marksLength ≤ n → length b ≡ stateLength → load image n b .verdict .number ≡ verdictNumber (verdictOf image n)
@@ -130,15 +131,15 @@ module _ (image : List ℕ) (n : ℕ) (b : List ℕ) where
 
   -- what a load answers 0 to is well formed, in both readings
   fits-well : marksLength ≤ n → length b ≡ stateLength → {v : Verdict} → Judges image n v → verdictNumber v ≡ 0
-      → WellFormed image n b × NoForeign (headerOf image .header) (blocksOf image)
+      → WellFormed image n b × NoForeign (termsOf image) (blocksOf image)
   fits-well room right (Judges.marks short) e = absurd (omega arith)
   fits-well room right (Judges.header m d) e = absurd (not-zero (headerOf image .outcome) d e)
   fits-well room right (Judges.block m d c l all bad) e = absurd (bad e)
   fits-well room right (Judges.walks m d all v (Says.accepted f g)) e = (record { marks = room; buffer = right; header = d; blocks = all }, f)
   fits-well room right (Judges.walks m d all v (Says.foreign p f g)) e = absurd (omega arith)
-  fits-well room right (Judges.walks m d all v (Says.bad f p q g)) e = absurd (bad-number (faultAt (headerOf image .header) (blocksOf image) p) (q .1) e)
+  fits-well room right (Judges.walks m d all v (Says.bad f p q g)) e = absurd (bad-number (faultAt (termsOf image) (blocksOf image) p) (q .1) e)
 
-  pub well-formed : load image n b .verdict .number ≡ 0 → WellFormed image n b × NoForeign (headerOf image .header) (blocksOf image)
+  pub well-formed : load image n b .verdict .number ≡ 0 → WellFormed image n b × NoForeign (termsOf image) (blocksOf image)
   well-formed z = zero-way z (λ room right. fits-well room right (verdict-judges image n) (sym (number-is room right) ∙ z))
 
   -- so it is no longer than the longest image (include/bias.h)
@@ -156,7 +157,7 @@ module _ (image : List ℕ) (n : ℕ) (b : List ℕ) where
         (λ r. absurd (r refl), λ s. absurd (⊎-elim (λ (a : SomeBad image). g (a .place) (a .bad)) (λ (a : SomeForeign image). f (a .place) (a .foreign)) s))
     both-ways (Judges.walks room d all v (Says.foreign p f g)) = (λ r. inr (record { place = p; foreign = f }), λ s e. omega arith)
     both-ways (Judges.walks room d all v (Says.bad f p q g)) =
-        (λ r. inl (record { place = p; bad = q }), λ s e. bad-number (faultAt (headerOf image .header) (blocksOf image) p) (q .1) e)
+        (λ r. inl (record { place = p; bad = q }), λ s e. bad-number (faultAt (termsOf image) (blocksOf image) p) (q .1) e)
 
     refused-by-form : (load image n b .verdict .number ≡ 0 → ⊥) ↔ (SomeBad image ⊎ SomeForeign image)
     refused-by-form =
@@ -165,7 +166,7 @@ module _ (image : List ℕ) (n : ℕ) (b : List ℕ) where
         (λ r. e .0 (λ z. r (m ∙ z)), λ s z. e .1 s (sym m ∙ z))
 
     -- where no walk reaches such a 51
-    refused-by-place : NoForeign (headerOf image .header) (blocksOf image) → (load image n b .verdict .number ≡ 0 → ⊥) ↔ SomeBad image
+    refused-by-place : NoForeign (termsOf image) (blocksOf image) → (load image n b .verdict .number ≡ 0 → ⊥) ↔ SomeBad image
     refused-by-place own =
         (λ r. ⊎-elim (λ (a : SomeBad image). a) (λ (a : SomeForeign image). absurd (own (a .place) (a .foreign))) (refused-by-form .0 r), λ s. refused-by-form .1 (inl s))
 

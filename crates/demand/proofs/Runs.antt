@@ -22,7 +22,7 @@ use Rattle.layout.specs.Layout.{decoded, encoded}
 use Rattle.layout.specs.Test.{isState}
 use Rattle.layout.proofs.Round.{decode-encode, good-state}
 use Rattle.machine.specs.Given.{Inputs, level}
-use Rattle.machine.specs.Engine.{given, fits, pointOf, answerTo, performed, taskStep, step}
+use Rattle.machine.specs.Engine.{given, fits, pointOf, answerTo, performed, taskStep, step, termsHeld}
 use Rattle.machine.specs.Effect.{effectOf}
 use Rattle.machine.specs.Reference.{Thread, Machine, Did, idle, begun, replies, does, lost, tries, acts, turn}
 use Rattle.machine.specs.Alike.{Alike}
@@ -83,7 +83,7 @@ refused-stays image s x =
     either Stays (ltb (x .task) taskCount)
     (either Stays (eqb (length (x .levels)) inputsLength)
     (either Stays (eqb (taskAt s (x .task) .status) runs)
-    (either Stays (fits image (s .header) (x .task) (taskAt s (x .task))) (λ r. clash (sym r ∙ not-refused (effect .outcome) (pointOf (x .task) (taskAt s (x .task))))) (λ r. refl))
+    (either Stays (fits image (termsHeld s) (x .task) (taskAt s (x .task))) (λ r. clash (sym r ∙ not-refused (effect .outcome) (pointOf (x .task) (taskAt s (x .task))))) (λ r. refl))
     (λ r. refl))
     (λ r. refl))
     (λ r. refl)

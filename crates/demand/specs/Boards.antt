@@ -9,6 +9,7 @@ use Rattle.limits.specs.Limits.{marksLength, stateLength}
 use Rattle.outcome.specs.Outcome.{done}
 use Rattle.image.specs.Scan.{headerOf, blocksOf}
 use Rattle.command.specs.declared.BlockFault.{BlockFault}
+use Rattle.flow.specs.Terms.{termsOf}
 use Rattle.walk.specs.Program.{blockFaultAt}
 use Rattle.walk.specs.Says.{BlockPasses}
 
@@ -19,5 +20,5 @@ pub record FirstFault (image : List ℕ) (n : ℕ) (b : List ℕ) (k : ℕ) (f :
   pub header : done (headerOf image .outcome) ≡ true
   -- this is wrong with block k, and the blocks before it pass
   pub block : k < headerOf image .header .count
-  pub before : (a : ℕ) → a < k → BlockPasses (headerOf image .header) (blocksOf image) a
-  pub fault : blockFaultAt (headerOf image .header) (blocksOf image) k ≡ f
+  pub before : (a : ℕ) → a < k → BlockPasses (termsOf image) (blocksOf image) a
+  pub fault : blockFaultAt (termsOf image) (blocksOf image) k ≡ f

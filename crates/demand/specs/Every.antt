@@ -15,7 +15,7 @@ use Rattle.layout.specs.Layout.{decoded, encoded}
 use Rattle.layout.specs.Test.{isState}
 use Rattle.machine.specs.Given.{Inputs}
 use Rattle.image.specs.Scan.{blocksOf}
-use Rattle.machine.specs.Engine.{pointOf, noted, fits, carriedOut}
+use Rattle.machine.specs.Engine.{pointOf, noted, fits, carriedOut, termsHeld}
 use Rattle.machine.specs.Each.{commandOf, Reason}
 use Rattle.machine.specs.declared.Cause.{Cause}
 use Rattle.machine.specs.declared.Request.the-variants.{None}
@@ -58,7 +58,7 @@ pub record Running (b : List ℕ) (x : Inputs) : Type 0 where
 -- and 17: the command at the task's block is executed
 pub record Ready (image b : List ℕ) (x : Inputs) : Type 0 where
   pub runs : Running b x
-  pub fits : fits image (decoded b .header) (x .task) (taskAt (decoded b) (x .task)) ≡ true
+  pub fits : fits image (termsHeld (decoded b)) (x .task) (taskAt (decoded b) (x .task)) ≡ true
 
 -- the command has this reason to halt its task
 abbrev pub ReasonHere : List ℕ → List ℕ → Inputs → Cause → Type 0
@@ -76,7 +76,7 @@ pub data Way (image b : List ℕ) (x : Inputs) : BiasAnswer → List ℕ → Typ
   -- 18
   notRunning : Held b x → (taskAt (decoded b) (x .task) .status ≡ runs → ⊥) → Way image b x (answerFor None NotRunning) b
   -- 17, at the task's point
-  differs : Running b x → fits image (decoded b .header) (x .task) (taskAt (decoded b) (x .task)) ≡ false
+  differs : Running b x → fits image (termsHeld (decoded b)) (x .task) (taskAt (decoded b) (x .task)) ≡ false
       → Way image b x (answerFor None (Differs (pointOf (x .task) (taskAt (decoded b) (x .task))))) b
   -- carried out: the motion and the state are those of the command
   done : Ready image b x → ((q : Cause) → ReasonHere image b x q → ⊥)

@@ -11,6 +11,7 @@ use Rattle.le.specs.LittleEndian.{Bytes}
 use Rattle.outcome.specs.Outcome.{done}
 use Rattle.image.specs.Scan.{headerOf, blocksOf}
 use Rattle.point.specs.declared.Point.{Point}
+use Rattle.flow.specs.Terms.{termsOf}
 use Rattle.walk.specs.Says.{BadAt, ForeignAt, NoForeign, BlockPasses, Judges}
 use Rattle.walk.specs.declared.Verdict.{Verdict}
 use Rattle.walk.specs.declared.Verdict.the-variants.{MarksShort}
@@ -114,24 +115,24 @@ pub record WellFormed (image : List ℕ) (n : ℕ) (b : List ℕ) : Type 0 where
   pub marks : marksLength ≤ n
   pub buffer : length b ≡ stateLength
   pub header : done (headerOf image .outcome) ≡ true
-  pub blocks : (k : ℕ) → k < headerOf image .header .count → BlockPasses (headerOf image .header) (blocksOf image) k
+  pub blocks : (k : ℕ) → k < headerOf image .header .count → BlockPasses (termsOf image) (blocksOf image) k
 
 -- some walk reaches a bad place
 pub record SomeBad (image : List ℕ) : Type 0 where
   pub place : Point
-  pub bad : BadAt (headerOf image .header) (blocksOf image) place
+  pub bad : BadAt (termsOf image) (blocksOf image) place
 
 -- some walk reaches a 51 that would end another task
 pub record SomeForeign (image : List ℕ) : Type 0 where
   pub place : Point
-  pub foreign : ForeignAt (headerOf image .header) (blocksOf image) place
+  pub foreign : ForeignAt (termsOf image) (blocksOf image) place
 
 -- a load of bytes that are well formed is refused exactly when .., in both readings of document 01's "well formed" (docs/DECISIONS.md, the border to C)
 pub record RefusedExactly : Type 0 where
   -- the form is that of header, blocks and lengths alone: when some walk reaches a bad place or a 51 that would end another task
   pub byForm : (image : List ℕ) (n : ℕ) (b : List ℕ) → WellFormed image n b → (load image n b .verdict .number ≡ 0 → ⊥) ↔ (SomeBad image ⊎ SomeForeign image)
   -- the 7 of such a 51 counts as form too: when some walk reaches a bad place
-  pub byPlace : (image : List ℕ) (n : ℕ) (b : List ℕ) → WellFormed image n b → NoForeign (headerOf image .header) (blocksOf image)
+  pub byPlace : (image : List ℕ) (n : ℕ) (b : List ℕ) → WellFormed image n b → NoForeign (termsOf image) (blocksOf image)
       → (load image n b .verdict .number ≡ 0 → ⊥) ↔ SomeBad image
 
 -- ---- the whole

@@ -19,7 +19,7 @@ use Rattle.machine.specs.Effect.{effectOf}
 use Rattle.number.proofs.Choice.{both}
 use Rattle.image.specs.Scan.{headerOf, blocksOf}
 use Rattle.image.specs.declared.reader.HeaderRead.{HeaderRead}
-use Rattle.machine.specs.Engine.{noted, tasksAfter, answerTo, pointOf, performed, refuse, fits, given, carriedOut, taskStep, step, isLoaded, blockFits, waitFits, fitsAs}
+use Rattle.machine.specs.Engine.{noted, tasksAfter, answerTo, pointOf, performed, refuse, fits, given, carriedOut, taskStep, step, isLoaded, blockFits, waitFits, fitsAs, termsHeld}
 use Rattle.machine.specs.declared.Answer.the-variants.{NoTask, Inputs as BadInputs, NotRunning, Differs}
 use Rattle.machine.specs.declared.Answer.{Answer}
 use Rattle.machine.specs.declared.Effect.{Effect}
@@ -63,21 +63,21 @@ module _ (image : List ℕ) (s : State) (x : Inputs) where
     unfolding taskStep
     not-running n = rw (ne-eqb (k .status) runs n) refl
 
-    pub differs : k .status ≡ runs → fits image (s .header) (x .task) k ≡ false → refuse s (Differs (pointOf (x .task) k)) ≡ taskStep image s x k
+    pub differs : k .status ≡ runs → fits image (termsHeld s) (x .task) k ≡ false → refuse s (Differs (pointOf (x .task) k)) ≡ taskStep image s x k
     unfolding taskStep
     differs e f = rw (eq-eqb (k .status) runs e, f) refl
 
-    pub carried : k .status ≡ runs → fits image (s .header) (x .task) k ≡ true → carriedOut (blocksOf image) s x k ≡ taskStep image s x k
+    pub carried : k .status ≡ runs → fits image (termsHeld s) (x .task) k ≡ true → carriedOut (blocksOf image) s x k ≡ taskStep image s x k
     unfolding taskStep
     carried e f = rw (eq-eqb (k .status) runs e, f) refl
 
   -- what 17 asks of an image, of what was read of it; the block at the pointer passes
-  pub fits-of : (r : HeaderRead) (bs : List ℕ) (k : Task) → r ≡ headerOf image → bs ≡ blocksOf image → fitsAs r bs (s .header) (x .task) k ≡ fits image (s .header) (x .task) k
+  pub fits-of : (r : HeaderRead) (bs : List ℕ) (k : Task) → r ≡ headerOf image → bs ≡ blocksOf image → fitsAs r bs (termsHeld s) (x .task) k ≡ fits image (termsHeld s) (x .task) k
   unfolding fits
   fits-of r bs k e b = rw (e, b) refl
 
-  pub block-passes : (r : HeaderRead) (bs : List ℕ) (k : Task) → fitsAs r bs (s .header) (x .task) k ≡ true → blockFits (s .header) bs (x .task) k ≡ true
-  block-passes r bs k e = both (blockFits (s .header) bs (x .task) k) (waitFits bs k) (both (isLoaded r (s .header)) _ e .1) .0
+  pub block-passes : (r : HeaderRead) (bs : List ℕ) (k : Task) → fitsAs r bs (termsHeld s) (x .task) k ≡ true → blockFits (termsHeld s) bs (x .task) k ≡ true
+  block-passes r bs k e = both (blockFits (termsHeld s) bs (x .task) k) (waitFits bs k) (both (isLoaded r (s .header)) _ e .1) .0
 
   pub no-task : taskCount ≤ x .task → refuse s (NoTask (x .task)) ≡ step image s x
   unfolding step

@@ -22,9 +22,10 @@ ghost use Rattle.limits.specs.Limits.{taskCount, mostBlocks, mostDepth};
 ghost use Rattle.walk.specs.Program.{commandAt};
 ghost use Rattle.state.specs.State.{taskAt};
 ghost use Rattle.state.specs.Good.{Good};
+ghost use Rattle.flow.specs.Terms.{under};
 ghost use Rattle.machine.specs.Given.{inputsOf};
 ghost use Rattle.machine.specs.Deep.{Deep};
-ghost use Rattle.machine.specs.Engine.{refuse, isWait, isLoaded, blockFits, waitFits, fitsAs, noted, answerTo, pointOf, performed, carriedOut, taskStep, step};
+ghost use Rattle.machine.specs.Engine.{refuse, isWait, isLoaded, blockFits, waitFits, fitsAs, noted, answerTo, pointOf, performed, carriedOut, taskStep, step, termsHeld};
 
 // A step that is refused: nothing changes, and no motion is asked for.
 fn refuse(state: State, answer: Answer) -> Out
@@ -88,7 +89,7 @@ fn noted(t: u8, start: u8, v: Values) -> Values
 // 17: whether the lent image, whose header and blocks these are, is the loaded one, the block at the pointer passes 5 to 12 and 23 there, and a pending
 // wait stands at a wait.
 fn fits(read: HeaderRead, blocks: &[u8], header: Header, t: u8, k: Task) -> bool
-    ensures { λ r. ⌜ r ≡ fitsAs read (now (blocks .entry)) header t k ⌝ }
+    ensures { λ r. ⌜ r ≡ fitsAs read (now (blocks .entry)) (under header) t k ⌝ }
 {
     is_loaded(read, header) & (block_fits(header, blocks, t, k) & wait_fits(blocks, k))
 }
@@ -103,7 +104,7 @@ fn is_loaded(read: HeaderRead, header: Header) -> bool
 
 // Whether the block at a task's pointer passes 5 to 8 and 23 by itself, and 9 to 12 where the task is.
 fn block_fits(header: Header, blocks: &[u8], t: u8, k: Task) -> bool
-    ensures { λ r. ⌜ r ≡ blockFits header (now (blocks .entry)) t k ⌝ }
+    ensures { λ r. ⌜ r ≡ blockFits (under header) (now (blocks .entry)) t k ⌝ }
 {
     let fault = fetch::fault_at(header, blocks, point_of(t, k));
     let block_fault = fetch::block_fault_at(header, blocks, k.block);
@@ -151,7 +152,7 @@ fn carry_out(blocks: &[u8], s: State, t: u8, inputs: &[u8], start: u8, reached: 
     requires { ⌜ k .block < mostBlocks ⌝ }
     requires { ⌜ k .depth ≤ mostDepth ⌝ }
     requires { ⌜ k .turns < 4294967295 ⌝ }
-    requires { ⌜ blockFits (s .header) (now blocks) t k ≡ true ⌝ }
+    requires { ⌜ blockFits (termsHeld s) (now blocks) t k ≡ true ⌝ }
     ensures { λ r. ⌜ r ≡ carriedOut (now (blocks .entry)) s (inputsOf t (now (inputs .entry)) start reached) k ⌝ }
 {
     let c = command_here(blocks, k);

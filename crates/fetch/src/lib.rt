@@ -8,11 +8,12 @@ use operands::Command;
 use point::Point;
 ghost use mathlib.Core.Path.{_≡_};
 ghost use lib.ListN.{getD};
+ghost use Rattle.flow.specs.Terms.{under};
 ghost use Rattle.walk.specs.Program.{blockAt, blockFaultAt, commandAt, faultAt};
 
 // What the command at a point breaks there.
 pub fn fault_at(header: Header, blocks: &[u8], p: Point) -> Fault
-    ensures { λ r. ⌜ r ≡ faultAt header (now (blocks .entry)) p ⌝ }
+    ensures { λ r. ⌜ r ≡ faultAt (under header) (now (blocks .entry)) p ⌝ }
 {
     p.fault(header, command_at(blocks, p.block))
 }
@@ -52,7 +53,7 @@ fn byte_at(bytes: &[u8], at: usize) -> u8
 
 // What is wrong with a block by itself, by 5 to 8 or 23.
 pub fn block_fault_at(header: Header, blocks: &[u8], b: u16) -> BlockFault
-    ensures { λ r. ⌜ r ≡ blockFaultAt header (now (blocks .entry)) b ⌝ }
+    ensures { λ r. ⌜ r ≡ blockFaultAt (under header) (now (blocks .entry)) b ⌝ }
 {
     command::judge(header, block_at(blocks, b))
 }

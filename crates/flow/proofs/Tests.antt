@@ -6,6 +6,7 @@ use mathlib.Core.Bool.{false}
 use lib.ListN.{List·getD-eq-default}
 use Rattle.limits.specs.Limits.{taskCount}
 use Rattle.rows.specs.Rows.{rowOf}
+use Rattle.flow.specs.Terms.{Terms}
 use Rattle.flow.specs.Tasks.{boxes, permitted}
 
 -- t is none of the first n tasks, as the default of a match on all of them has it
@@ -17,6 +18,6 @@ past : (n t : ℕ) → NoneBelow n t → n ≤ t
 past zero t h = zero-le
 past (suc n) t h = let m = past n t (h .0) in let e = h .1 in omega arith
 
-pub no-box : (code task : ℕ) → NoneBelow taskCount task → permitted code task ≡ false
+pub no-box : (t : Terms) (code task : ℕ) → NoneBelow taskCount task → permitted t code task ≡ false
 unfolding permitted
-no-box code task h = List·getD-eq-default (boxes (rowOf code .tasks)) false (past taskCount task h)
+no-box t code task h = List·getD-eq-default (boxes (rowOf code .tasks)) false (past taskCount task h)

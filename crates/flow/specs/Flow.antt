@@ -9,6 +9,7 @@ use Rattle.rows.specs.Rows.{rowOf}
 use Rattle.rows.specs.declared.FlowKind.{FlowKind}
 use Rattle.rows.specs.declared.FlowKind.the-variants as kind
 use Rattle.operands.specs.declared.Command.{Command}
+use Rattle.flow.specs.Terms.{Terms}
 use Rattle.flow.specs.declared.Flow.{Flow}
 use Rattle.flow.specs.declared.Flow.the-variants.{Next, Wait, Jump, Branch, Call, Return, Start, Restart, End}
 
@@ -30,8 +31,8 @@ flowBy kind.StartPlc x word = Start plc word
 flowBy kind.StartMathematics x word = Start mathematics word
 flowBy kind.Ending x word = endingBy x
 
-unfoldable pub flowOf : Command → Flow
-flowOf c = flowBy (rowOf (c .code) .flow) (c .x) (c .word)
+unfoldable pub flowOf : Terms → Command → Flow
+flowOf t c = flowBy (rowOf (c .code) .flow) (c .x) (c .word)
 
 -- The blocks that a command at block b of a task may continue with, each of which 12 judges. The block behind a call counts at the call, a start
 -- block where it is named. Starting its own task, a command has nothing behind it: it goes on at the named block alone. (By the boxes no command

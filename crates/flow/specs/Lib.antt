@@ -1,2 +1,3 @@
+pub mod Terms
 pub mod Flow
 pub mod Tasks

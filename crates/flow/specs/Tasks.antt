@@ -7,6 +7,7 @@ use lib.Dec.{eqb}
 use lib.ListN.{getD}
 use Rattle.rows.specs.Rows.{B, P, M, isEnding, rowOf}
 use Rattle.operands.specs.declared.Command.{Command}
+use Rattle.flow.specs.Terms.{Terms}
 
 -- 7: a 51 whose mode names another task than the one that executes it; modes 1, 2 and 3 name BIAS, the PLC and mathematics, mode 0 none
 unfoldable pub foreign : ℕ → Command → Bool
@@ -16,5 +17,5 @@ foreign task c = isEnding (rowOf (c .code) .flow) && (not (eqb (c .x) 0) && not 
 abbrev pub boxes : ℕ → List Bool
 boxes tasks = eqb (tasks / B % 2) 1 ∷ eqb (tasks / P % 2) 1 ∷ eqb (tasks / M % 2) 1 ∷ []
 
-unfoldable pub permitted : ℕ → ℕ → Bool
-permitted code task = getD (boxes (rowOf code .tasks)) task false
+unfoldable pub permitted : Terms → ℕ → ℕ → Bool
+permitted t code task = getD (boxes (rowOf code .tasks)) task false

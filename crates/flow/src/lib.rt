@@ -1,7 +1,9 @@
 // What a command may continue with (document 01, "Walks"), and which task may execute it: 7 of a 51 that ends another task, and the boxes of 9.
+use image::Header;
 use operands::Command;
 use rows::FlowKind;
 ghost use mathlib.Core.Path.{_≡_};
+ghost use Rattle.flow.specs.Terms.{under};
 ghost use Rattle.flow.specs.Flow.{flowBy, endingBy, flowOf};
 ghost use Rattle.flow.specs.Tasks.{foreign, permitted};
 
@@ -28,9 +30,9 @@ pub enum Flow {
 }
 
 impl Flow {
-    // All that a command may continue with.
-    pub fn of(c: Command) -> Flow
-        ensures { λ r. ⌜ r ≡ flowOf c ⌝ }
+    // All that a command of a program with this header may continue with.
+    pub fn of(header: Header, c: Command) -> Flow
+        ensures { λ r. ⌜ r ≡ flowOf (under header) c ⌝ }
     {
         let row = rows::find(c.code);
         let kind = row.flow;
@@ -54,9 +56,9 @@ pub fn foreign(task: u8, c: Command) -> bool
     mode as u16 != task as u16 + 1
 }
 
-// Whether the boxes of the manual let a task use a code.
-pub fn permitted(code: u8, task: u8) -> bool
-    ensures { λ r. ⌜ r ≡ permitted code task ⌝ }
+// Whether the boxes of the manual let a task use a code, in a program with this header.
+pub fn permitted(header: Header, code: u8, task: u8) -> bool
+    ensures { λ r. ⌜ r ≡ permitted (under header) code task ⌝ }
 {
     let row = rows::find(code);
     let tasks = row.tasks;

@@ -7,7 +7,7 @@ use native.Mathlib.Omega.{arith}
 use native.Mathlib.Decide.{ℕ-discrete}
 use lib.ListN.{length, getD, drop, length-drop}
 use lib.Seq.{ext-getD, getD-drop}
-use Rattle.image.specs.declared.Header.{Header}
+use Rattle.flow.specs.Terms.{Terms}
 use Rattle.loader.specs.After.{After}
 use Rattle.loader.specs.Search.{pageCount, Searched, Swept, Fresh}
 
@@ -18,7 +18,7 @@ module _ {n : ℕ} {l m : List ℕ} (a : After n l m) where
       ext-getD 0 (drop n m) (drop n l) (length-drop n m ∙ (λ ι. a .long ι - n) ∙ sym (length-drop n l))
       (λ k h. getD-drop n m k 0 ∙ a .rest (n + k) (omega arith) ∙ sym (getD-drop n l k 0))
 
-pub searched-one : {h : Header} {bs l m : List ℕ} → Searched h bs l → Searched h bs m → l ≡ m
+pub searched-one : {h : Terms} {bs l m : List ℕ} → Searched h bs l → Searched h bs m → l ≡ m
 searched-one {h} {bs} {l} {m} a b = ext-getD 0 l m (a .long ∙ sym (b .long)) (λ k h. a .mark k ∙ sym (b .mark k))
 
 pub swept-one : {l m : List ℕ} → Swept l → Swept m → l ≡ m

@@ -8,19 +8,19 @@ use mathlib.Core.List.{List, [], _∷_}
 use native.Mathlib.Nat.{not-suc-le-zero, le-of-suc-le-suc}
 use native.Mathlib.Decide.{ℕ-discrete, decLt}
 use native.Mathlib.Omega.{arith}
-use lib.ListN.{length, getD, set, length-set, List·getD-eq-default, replicate, getD-replicate}
+use native.Mathlib.Numerals.{add-one}
+use lib.ListN.{length, getD, take, set, length-set, List·getD-eq-default, replicate, getD-replicate}
 use lib.Seq.{getD-set-same, getD-set-other}
 use lib.Dec.{eqb}
 use borrow.Author.Count.{below-more}
 use borrow.Author.Tests.{eqb-true, eqb-false}
 use Rattle.limits.specs.Limits.{marksLength}
 use Rattle.number.proofs.Choice.{clash}
-use Rattle.image.specs.declared.Header.{Header}
+use Rattle.flow.specs.Terms.{Terms}
 use Rattle.point.specs.declared.Point.{Point}
-use Rattle.program.specs.Numbers.{numbers}
-use Rattle.program.specs.declared.Following.{Following}
 use Rattle.walk.specs.Index.{pointAt}
-use Rattle.walk.specs.Successors.{successors, indices, nextOf}
+use Rattle.flow.specs.declared.Flow.{Flow}
+use Rattle.walk.specs.Successors.{goes, flowAt, successors, indices, nextOf}
 use Rattle.walk.specs.Graph.{In, Reach, has, lesser}
 use Rattle.walk.specs.Verdict.{rootOf, reached}
 use Rattle.walk.proofs.Choice.{has-in, in-has}
@@ -143,7 +143,7 @@ module _ (next : ℕ → List ℕ) (root : ℕ) (l : List ℕ) (g : Going next r
   all-marked p (Reach.step o q w to) = g .closed o p (all-marked o w) (beyond o) to
 
 -- so its marks are those of what walks reach, and of no other
-pub searched : (h : Header) (bs : List ℕ) → Ready h → (l : List ℕ) → Going (nextOf h bs) (rootOf h) l marksLength → Searched h bs l
+pub searched : (h : Terms) (bs : List ℕ) → Ready h → (l : List ℕ) → Going (nextOf h bs) (rootOf h) l marksLength → Searched h bs l
 searched h bs r l g = record { long = g .long; mark = λ p. go p (has (reached h bs) p) refl }
   where
     go : (p : ℕ) (t : Bool) → has (reached h bs) p ≡ t → getD l p 0 ≡ cond t 2 0
@@ -320,7 +320,23 @@ pub touch-inside : (next : ℕ → List ℕ) (root : ℕ) → ((q : ℕ) → Rea
     → (qs : List ℕ) → qs ≡ next p → (q : ℕ) → In q qs → q < marksLength
 touch-inside next root inside l p g e qs s q t = inside q (Reach.step p q (g .sound p (λ z. omega arith)) (rw s at t))
 
--- the numbers that were found to follow a point are the next ones
-pub follow-next : (h : Header) (bs : List ℕ) (i : ℕ) (p : Point) (f : Following) → p ≡ pointAt i → numbers f ≡ indices (successors h bs p) → numbers f ≡ nextOf h bs i
-unfolding nextOf
-follow-next h bs i p f e k = k ∙ ap (λ (q : Point). indices (successors h bs q)) e
+-- the points of a list are touched up to one, and then that one
+touched-suc : (qs : List ℕ) (k : ℕ) → k < length qs → (b : Board) → touchedAll (take (suc k) qs) b ≡ touched (getD qs k 0) (touchedAll (take k qs) b)
+unfolding touchedAll
+touched-suc [] k h b = absurd (not-suc-le-zero h)
+touched-suc (q ∷ qs) zero h b = refl
+touched-suc (q ∷ qs) (suc k) h b = touched-suc qs k (le-of-suc-le-suc h) (touched q b)
+
+pub touched-more : (qs : List ℕ) (k : ℕ) → k < length qs → (b : Board) → touchedAll (take (k + 1) qs) b ≡ touched (getD qs k 0) (touchedAll (take k qs) b)
+touched-more qs k h b = rw add-one (touched-suc qs k h b)
+
+-- the numbers of the points that a flow leads to are the next ones, where it is that of the point
+pub next-is : (h : Terms) (bs : List ℕ) (i : ℕ) (p : Point) (f : Flow) → p ≡ pointAt i → f ≡ flowAt h bs p → indices (goes p f) ≡ nextOf h bs i
+unfolding nextOf successors
+next-is h bs i p f e k = ap (λ (g : Flow). indices (goes p g)) k ∙ ap (λ (q : Point). indices (goes q (flowAt h bs q))) e
+
+-- the k-th of a list is in it
+pub kth-in : (xs : List ℕ) (k : ℕ) → k < length xs → In (getD xs k 0) xs
+kth-in [] k h = absurd (not-suc-le-zero h)
+kth-in (x ∷ xs) zero h = inl refl
+kth-in (x ∷ xs) (suc k) h = inr (kth-in xs k (le-of-suc-le-suc h))

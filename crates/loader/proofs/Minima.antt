@@ -10,7 +10,7 @@ use lib.Dec.{ltb}
 use borrow.Author.Tests.{ltb-true, ltb-false, lt-ltb, le-ltb}
 use borrow.Author.Count.{below-more}
 use Rattle.limits.specs.Limits.{mostBlocks, marksLength}
-use Rattle.image.specs.declared.Header.{Header}
+use Rattle.flow.specs.Terms.{Terms}
 use Rattle.number.proofs.Choice.{clash, by}
 use Rattle.point.specs.declared.Point.{Point}
 use Rattle.fault.specs.declared.Fault.{Fault}
@@ -67,7 +67,7 @@ least-lower marks test key none i m s k t = go (ltb (key i) m) refl
 pub least-begun : (marks : List ℕ) (test : ℕ → Bool) (key : ℕ → ℕ) (none : ℕ) → LeastSo marks test key none 0 none
 least-begun marks test key none = record { below = λ k l. absurd (omega arith); found = inl refl }
 
-module _ (h : Header) (bs : List ℕ) where
+module _ (h : Terms) (bs : List ℕ) where
   abbrev pub foreignAt : ℕ → Bool
   foreignAt i = isForeign (faultAt h bs (pointAt i))
 
@@ -114,7 +114,7 @@ module _ (h : Header) (bs : List ℕ) where
     bad-is = least-marked badAt self marksLength (λ p l. omega arith)
 
 -- the tests of `lower`: a 51 at the point ends another task, and its block is less than that found, or not
-module _ (h : Header) (bs : List ℕ) (i found : ℕ) (p : Point) (f : Fault) (e : p ≡ pointAt i) (k : f ≡ faultAt h bs p) (t : isForeign f ≡ true) where
+module _ (h : Terms) (bs : List ℕ) (i found : ℕ) (p : Point) (f : Fault) (e : p ≡ pointAt i) (k : f ≡ faultAt h bs p) (t : isForeign f ≡ true) where
   foreign-here : isForeign (faultAt h bs (pointAt i)) ≡ true
   foreign-here = ap (λ (q : Point). isForeign (faultAt h bs q)) (sym e) ∙ ap isForeign (sym k) ∙ t
 
@@ -127,14 +127,14 @@ module _ (h : Header) (bs : List ℕ) (i found : ℕ) (p : Point) (f : Fault) (e
   lower-not l = rw (foreign-here, ← e, le-ltb (p .block) found l)
 
 -- what the point of a number breaks, as it was found
-fault-is : (h : Header) (bs : List ℕ) (i : ℕ) (p : Point) (f : Fault) → p ≡ pointAt i → f ≡ faultAt h bs p → f ≡ faultAt h bs (pointAt i)
+fault-is : (h : Terms) (bs : List ℕ) (i : ℕ) (p : Point) (f : Fault) → p ≡ pointAt i → f ≡ faultAt h bs p → f ≡ faultAt h bs (pointAt i)
 fault-is h bs i p f e k = k ∙ ap (faultAt h bs) e
 
-pub fault-bad : (h : Header) (bs : List ℕ) (i : ℕ) (p : Point) (f : Fault) → p ≡ pointAt i → f ≡ faultAt h bs p → {t : Bool} → isBad f ≡ t → badAt h bs i ≡ t
+pub fault-bad : (h : Terms) (bs : List ℕ) (i : ℕ) (p : Point) (f : Fault) → p ≡ pointAt i → f ≡ faultAt h bs p → {t : Bool} → isBad f ≡ t → badAt h bs i ≡ t
 fault-bad h bs i p f e k b = ap isBad (sym (fault-is h bs i p f e k)) ∙ b
 
 -- the first bad point: none before it is bad
-pub first-bad : (h : Header) (bs : List ℕ) (r : Ready h) (marks : List ℕ) (g : Searched h bs marks) (i : ℕ)
+pub first-bad : (h : Terms) (bs : List ℕ) (r : Ready h) (marks : List ℕ) (g : Searched h bs marks) (i : ℕ)
     → LeastSo marks (badAt h bs) self marksLength i marksLength → (getD marks i 0 ≡ 0 → ⊥) → badAt h bs i ≡ true → i ≡ leastBad h bs (reached h bs)
 first-bad h bs r marks g i s m b = bad-is h bs r marks g i (record { below = below; found = inr (record { at = i; marked = m; passes = b; key-is = refl }) })
   where

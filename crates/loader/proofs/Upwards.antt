@@ -5,14 +5,14 @@ use mathlib.Core.Bool.{Bool, cond}
 use mathlib.Core.List.{List}
 use native.Mathlib.Omega.{arith}
 use borrow.Author.Tests.{eq-eqb, ne-eqb}
-use Rattle.image.specs.declared.Header.{Header}
+use Rattle.flow.specs.Terms.{Terms}
 use Rattle.number.proofs.Choice.{by}
 use Rattle.walk.specs.Program.{blockFaultAt, blockNumber}
 use Rattle.walk.specs.Verdict.{walksVerdict, blocksVerdict}
 use Rattle.walk.specs.declared.Verdict.the-variants.{Block}
 use Rattle.loader.specs.Search.{FirstRefused}
 
-module _ (h : Header) (bs : List ℕ) where
+module _ (h : Terms) (bs : List ℕ) where
   -- a block that passes leads to the next, and one that does not is refused
   onward : (b m : ℕ) → blockNumber h bs b ≡ 0 → blocksVerdict h bs b (suc m) ≡ blocksVerdict h bs (b + 1) m
   unfolding blocksVerdict
@@ -34,8 +34,8 @@ module _ (h : Header) (bs : List ℕ) where
   none-of zero b all = refl
   none-of (suc m) b all = onward b m (all b (omega arith)) ∙ none-of m (b + 1) (λ a l. all a (omega arith))
 
-  pub first-refused-is : (r : ℕ) → FirstRefused h bs r → r < h .count → Block (blockFaultAt h bs r) r ≡ blocksVerdict h bs 0 (h .count)
-  first-refused-is r f l = sym (first-of (h .count) 0 r (omega arith) (omega arith) (f .before) (f .refused l))
+  pub first-refused-is : (r : ℕ) → FirstRefused h bs r → r < h .header .count → Block (blockFaultAt h bs r) r ≡ blocksVerdict h bs 0 (h .header .count)
+  first-refused-is r f l = sym (first-of (h .header .count) 0 r (omega arith) (omega arith) (f .before) (f .refused l))
 
-  pub none-refused-is : (r : ℕ) → FirstRefused h bs r → h .count ≤ r → walksVerdict h bs ≡ blocksVerdict h bs 0 (h .count)
-  none-refused-is r f l = sym (none-of (h .count) 0 (λ a k. f .before a (let m = f .most in omega arith)))
+  pub none-refused-is : (r : ℕ) → FirstRefused h bs r → h .header .count ≤ r → walksVerdict h bs ≡ blocksVerdict h bs 0 (h .header .count)
+  none-refused-is r f l = sym (none-of (h .header .count) 0 (λ a k. f .before a (let m = f .most in omega arith)))

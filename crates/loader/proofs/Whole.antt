@@ -12,6 +12,7 @@ use Rattle.outcome.specs.Outcome.{done}
 use Rattle.image.specs.Scan.{headerOf, blocksOf}
 use Rattle.image.specs.declared.reader.HeaderRead.{HeaderRead}
 use Rattle.image.proofs.HeaderLaws.{header-good}
+use Rattle.flow.specs.Terms.{termsIn}
 use Rattle.walk.specs.Verdict.{blocksVerdict, readVerdict, verdictOf, isAccepted, acceptedBlocks}
 use Rattle.number.proofs.Choice.{either}
 use Rattle.walk.specs.declared.Verdict.{Verdict}
@@ -24,13 +25,13 @@ module _ (image : List ℕ) where
   unfolding verdictOf readVerdict
   refused-image n r e f l = rw (le-ltb n marksLength l, ← e, f)
 
-  pub ready : (r : HeaderRead) → r ≡ headerOf image → done (r .outcome) ≡ true → Ready (r .header)
+  pub ready : (r : HeaderRead) → r ≡ headerOf image → done (r .outcome) ≡ true → Ready (termsIn r)
   ready r e f =
       let g = header-good image (sym (ap (λ (q : HeaderRead). q .outcome) e) ∙ is-done (r .outcome) f) in
       rw e (record { most = g .count .1; begins = g .start })
 
   pub judged-image : (n : ℕ) (r : HeaderRead) (bs : List ℕ) (v : Verdict) → r ≡ headerOf image → bs ≡ blocksOf image → done (r .outcome) ≡ true → marksLength ≤ n
-      → v ≡ blocksVerdict (r .header) bs 0 (r .header .count) → v ≡ verdictOf image n
+      → v ≡ blocksVerdict (termsIn r) bs 0 (r .header .count) → v ≡ verdictOf image n
   unfolding verdictOf readVerdict
   judged-image n r bs v e k f l j = rw (le-ltb n marksLength l, ← e, ← k, f) j
 

@@ -7,7 +7,7 @@ use mathlib.Core.List.{List, [], _∷_}
 use lib.ListN.{length, getD, set}
 use lib.Dec.{eqb}
 use Rattle.limits.specs.Limits.{mostBlocks, marksLength}
-use Rattle.image.specs.declared.Header.{Header}
+use Rattle.flow.specs.Terms.{Terms}
 use Rattle.fault.specs.Fault.{isForeign}
 use Rattle.walk.specs.Program.{blockNumber, faultAt}
 use Rattle.walk.specs.Index.{pointAt}
@@ -22,9 +22,9 @@ abbrev pub pageCount : ℕ
 pageCount = (marksLength + pageLength - 1) / pageLength
 
 -- a header with which walks stay within the marks: what the header's own refusals leave
-pub record Ready (h : Header) : Type 0 where
-  pub most : h .count ≤ mostBlocks
-  pub begins : h .start < h .count
+pub record Ready (h : Terms) : Type 0 where
+  pub most : h .header .count ≤ mostBlocks
+  pub begins : h .header .start < h .header .count
 
 -- the pages with the cursor: those wholly before it are clean; the last, at whose end it never stands, is dirty
 pub record Paged (marks dirty : List ℕ) (cursor : ℕ) : Type 0 where
@@ -73,7 +73,7 @@ pub record Going (next : ℕ → List ℕ) (root : ℕ) (marks : List ℕ) (curs
   pub past : (p : ℕ) → p < cursor → getD marks p 0 ≡ 1 → ⊥
 
 -- the search is over: the points that walks reach are done, and no other was seen
-pub record Searched (h : Header) (bs marks : List ℕ) : Type 0 where
+pub record Searched (h : Terms) (bs marks : List ℕ) : Type 0 where
   pub long : length marks ≡ marksLength
   pub mark : (p : ℕ) → getD marks p 0 ≡ cond (has (reached h bs) p) 2 0
 
@@ -90,11 +90,11 @@ pub record Fresh (first : ℕ) (marks : List ℕ) : Type 0 where
   pub others : (p : ℕ) → (p ≡ first → ⊥) → getD marks p 0 ≡ 0
 
 -- a block found so far, and the block of point i where a 51 there ends another task: the lesser
-unfoldable pub lowered : Header → List ℕ → ℕ → ℕ → ℕ
+unfoldable pub lowered : Terms → List ℕ → ℕ → ℕ → ℕ
 lowered h bs i found = cond (isForeign (faultAt h bs (pointAt i))) (lesser (pointAt i .block) found) found
 
 -- the first of the header's blocks that 5 to 8 or 23 refuse, or the count
-pub record FirstRefused (h : Header) (bs : List ℕ) (b : ℕ) : Type 0 where
-  pub most : b ≤ h .count
+pub record FirstRefused (h : Terms) (bs : List ℕ) (b : ℕ) : Type 0 where
+  pub most : b ≤ h .header .count
   pub before : (a : ℕ) → a < b → blockNumber h bs a ≡ 0
-  pub refused : b < h .count → blockNumber h bs b ≡ 0 → ⊥
+  pub refused : b < h .header .count → blockNumber h bs b ≡ 0 → ⊥

@@ -8,6 +8,7 @@ ghost use mathlib.Core.Bool.{cond};
 ghost use Prim.Native.Nat.{_≤_};
 ghost use lib.ListN.{length};
 ghost use Rattle.limits.specs.Limits.{marksLength};
+ghost use Rattle.flow.specs.Terms.{under};
 ghost use Rattle.walk.specs.Verdict.{blocksVerdict, verdictOf, acceptedBlocks, isAccepted};
 ghost use Rattle.loader.specs.After.{After};
 ghost use Rattle.loader.specs.Search.{Ready, FirstRefused};
@@ -54,9 +55,9 @@ fn kept_length(verdict: Verdict, length: usize) -> usize
 
 // The blocks of an image with this header, judged upwards by 5 to 8 and 23, then the walks.
 fn judge_blocks(header: Header, blocks: &[u8], marks: &mut [u8]) -> Verdict
-    requires { ⌜ Ready header ⌝ }
+    requires { ⌜ Ready (under header) ⌝ }
     requires { ⌜ marksLength ≤ length (now marks) ⌝ }
-    ensures { λ r. ⌜ r ≡ blocksVerdict header (now (blocks .entry)) 0 (header .count) ⌝ }
+    ensures { λ r. ⌜ r ≡ blocksVerdict (under header) (now (blocks .entry)) 0 (header .count) ⌝ }
     ensures { λ _. ⌜ After marksLength (now (marks .entry)) (now (marks .exit)) ⌝ }
 {
     let b = first_refused(header, blocks);
@@ -68,7 +69,7 @@ fn judge_blocks(header: Header, blocks: &[u8], marks: &mut [u8]) -> Verdict
 
 // The first block that 5 to 8 or 23 refuse, the count where there is none.
 fn first_refused(header: Header, blocks: &[u8]) -> u16
-    ensures { λ r. ⌜ FirstRefused header (now (blocks .entry)) r ⌝ }
+    ensures { λ r. ⌜ FirstRefused (under header) (now (blocks .entry)) r ⌝ }
 {
     let mut b: u16 = 0;
     while b < header.count {

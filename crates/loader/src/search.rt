@@ -4,12 +4,12 @@
 use image::Header;
 use limits::MARKS_LENGTH;
 use point::Point;
-use program::Following;
 use walk::Verdict;
 ghost use mathlib.Core.Path.{_≡_};
 ghost use Prim.Native.Nat.{_<_, _≤_};
 ghost use lib.ListN.{length, getD};
 ghost use Rattle.limits.specs.Limits.{marksLength};
+ghost use Rattle.flow.specs.Terms.{under};
 ghost use Rattle.walk.specs.Index.{pointAt};
 ghost use Rattle.walk.specs.Successors.{nextOf};
 ghost use Rattle.walk.specs.Verdict.{rootOf, reached, leastForeign, leastBad, verdictBy, walksVerdict};
@@ -31,20 +31,20 @@ const DONE: u8 = 2;
 // What the walks of an image with this header and these blocks come to, found in the first n bytes of marks. (n is MARKS_LENGTH; it is no
 // literal here, so that no proof counts it out.)
 pub fn judge_walks(header: Header, blocks: &[u8], marks: &mut [u8], n: usize) -> Verdict
-    requires { ⌜ Ready header ⌝ }
+    requires { ⌜ Ready (under header) ⌝ }
     requires { ⌜ n ≡ marksLength ⌝ }
     requires { ⌜ n ≤ length (now marks) ⌝ }
-    ensures { λ r. ⌜ r ≡ walksVerdict header (now (blocks .entry)) ⌝ }
+    ensures { λ r. ⌜ r ≡ walksVerdict (under header) (now (blocks .entry)) ⌝ }
     ensures { λ _. ⌜ After n (now (marks .entry)) (now (marks .exit)) ⌝ }
 {
     search(header, blocks, &mut marks[..n])
 }
 
 fn search(header: Header, blocks: &[u8], marks: &mut [u8]) -> Verdict
-    requires { ⌜ Ready header ⌝ }
+    requires { ⌜ Ready (under header) ⌝ }
     requires { ⌜ length (now marks) ≡ marksLength ⌝ }
-    ensures { λ r. ⌜ r ≡ walksVerdict header (now (blocks .entry)) ⌝ }
-    ensures { λ _. ⌜ Searched header (now (blocks .entry)) (now (marks .exit)) ⌝ }
+    ensures { λ r. ⌜ r ≡ walksVerdict (under header) (now (blocks .entry)) ⌝ }
+    ensures { λ _. ⌜ Searched (under header) (now (blocks .entry)) (now (marks .exit)) ⌝ }
 {
     clear(marks, root(header));
     let mut dirty = [1u8; PAGE_COUNT];
@@ -54,7 +54,7 @@ fn search(header: Header, blocks: &[u8], marks: &mut [u8]) -> Verdict
 
 // The number of the first point.
 fn root(header: Header) -> usize
-    ensures { λ r. ⌜ r ≡ rootOf header ⌝ }
+    ensures { λ r. ⌜ r ≡ rootOf (under header) ⌝ }
 {
     program::number(limits::BIAS, header.start as u32, 0)
 }
@@ -75,10 +75,10 @@ fn clear(marks: &mut [u8], first: usize)
 
 // From the first point to all that is reached.
 fn walk(header: Header, blocks: &[u8], marks: &mut [u8], dirty: &mut [u8; PAGE_COUNT])
-    requires { ⌜ Ready header ⌝ }
+    requires { ⌜ Ready (under header) ⌝ }
     requires { ⌜ Paged (now marks) (now dirty) 0 ⌝ }
-    requires { ⌜ Going (nextOf header (now blocks)) (rootOf header) (now marks) 0 ⌝ }
-    ensures { λ _. ⌜ Searched header (now (blocks .entry)) (now (marks .exit)) ⌝ }
+    requires { ⌜ Going (nextOf (under header) (now blocks)) (rootOf (under header)) (now marks) 0 ⌝ }
+    ensures { λ _. ⌜ Searched (under header) (now (blocks .entry)) (now (marks .exit)) ⌝ }
     ensures { λ _. ⌜ Swept (now (dirty .exit)) ⌝ }
 {
     let mut cursor = 0;
@@ -111,29 +111,23 @@ fn visit(
     dirty: &mut [u8; PAGE_COUNT],
     p: usize,
 ) -> usize
-    requires { ⌜ Ready header ⌝ }
-    requires { ⌜ Going (nextOf header (now blocks)) (rootOf header) (now marks) p ⌝ }
+    requires { ⌜ Ready (under header) ⌝ }
+    requires { ⌜ Going (nextOf (under header) (now blocks)) (rootOf (under header)) (now marks) p ⌝ }
     requires { ⌜ p < marksLength ⌝ }
     requires { ⌜ getD (now marks) p 0 ≡ 1 ⌝ }
-    ensures { λ r. ⌜ board (now (marks .exit)) (now (dirty .exit)) r ≡ visited (nextOf header (now (blocks .entry))) p (board (now (marks .entry)) (now (dirty .entry)) p) ⌝ }
+    ensures { λ r. ⌜ board (now (marks .exit)) (now (dirty .exit)) r ≡ visited (nextOf (under header) (now (blocks .entry))) p (board (now (marks .entry)) (now (dirty .entry)) p) ⌝ }
 {
-    match program::follow(header, blocks, point_at(p)) {
-        Following::Nothing => {
-            marks[p] = DONE;
-            p
-        }
-        Following::One(a) => {
-            let c = touch(marks, dirty, a, p);
-            marks[p] = DONE;
-            c
-        }
-        Following::Two(a, b) => {
-            let c = touch(marks, dirty, a, p);
-            let d = touch(marks, dirty, b, c);
-            marks[p] = DONE;
-            d
-        }
+    let at = point_at(p);
+    let flow = program::flow_at(header, blocks, at);
+    let count = program::count(at, flow);
+    let mut cursor = p;
+    let mut k = 0;
+    while k < count {
+        cursor = touch(marks, dirty, program::successor(at, flow, k), cursor);
+        k += 1;
     }
+    marks[p] = DONE;
+    cursor
 }
 
 // Marks q as pending where it was not seen, and its page as dirty. Returns the cursor: the lesser of the two then.
@@ -168,9 +162,9 @@ fn point_at(i: usize) -> Point
 
 // The least of what is marked: the least foreign block, or else the least bad point.
 fn least(header: Header, blocks: &[u8], marks: &[u8]) -> Verdict
-    requires { ⌜ Ready header ⌝ }
-    requires { ⌜ Searched header (now blocks) (now marks) ⌝ }
-    ensures { λ r. ⌜ r ≡ walksVerdict header (now (blocks .entry)) ⌝ }
+    requires { ⌜ Ready (under header) ⌝ }
+    requires { ⌜ Searched (under header) (now blocks) (now marks) ⌝ }
+    ensures { λ r. ⌜ r ≡ walksVerdict (under header) (now (blocks .entry)) ⌝ }
 {
     let foreign = least_foreign(header, blocks, marks);
     let bad = least_bad(header, blocks, marks);
@@ -179,9 +173,9 @@ fn least(header: Header, blocks: &[u8], marks: &[u8]) -> Verdict
 
 // The least block of a marked point with a 51 that ends another task; MOST_BLOCKS where there is none.
 fn least_foreign(header: Header, blocks: &[u8], marks: &[u8]) -> usize
-    requires { ⌜ Ready header ⌝ }
-    requires { ⌜ Searched header (now blocks) (now marks) ⌝ }
-    ensures { λ r. ⌜ r ≡ leastForeign header (now (blocks .entry)) (reached header (now (blocks .entry))) ⌝ }
+    requires { ⌜ Ready (under header) ⌝ }
+    requires { ⌜ Searched (under header) (now blocks) (now marks) ⌝ }
+    ensures { λ r. ⌜ r ≡ leastForeign (under header) (now (blocks .entry)) (reached (under header) (now (blocks .entry))) ⌝ }
 {
     let mut found = limits::MOST_BLOCKS as usize;
     let mut i = 0;
@@ -197,7 +191,7 @@ fn least_foreign(header: Header, blocks: &[u8], marks: &[u8]) -> usize
 // The lesser of a block and that of point i, if a 51 there ends another task.
 fn lower(header: Header, blocks: &[u8], i: usize, found: usize) -> usize
     requires { ⌜ i < marksLength ⌝ }
-    ensures { λ r. ⌜ r ≡ lowered header (now (blocks .entry)) i found ⌝ }
+    ensures { λ r. ⌜ r ≡ lowered (under header) (now (blocks .entry)) i found ⌝ }
 {
     let p = point_at(i);
     let block = p.block as usize;
@@ -213,9 +207,9 @@ fn lower(header: Header, blocks: &[u8], i: usize, found: usize) -> usize
 
 // The least marked point that is bad; MARKS_LENGTH where there is none.
 fn least_bad(header: Header, blocks: &[u8], marks: &[u8]) -> usize
-    requires { ⌜ Ready header ⌝ }
-    requires { ⌜ Searched header (now blocks) (now marks) ⌝ }
-    ensures { λ r. ⌜ r ≡ leastBad header (now (blocks .entry)) (reached header (now (blocks .entry))) ⌝ }
+    requires { ⌜ Ready (under header) ⌝ }
+    requires { ⌜ Searched (under header) (now blocks) (now marks) ⌝ }
+    ensures { λ r. ⌜ r ≡ leastBad (under header) (now (blocks .entry)) (reached (under header) (now (blocks .entry))) ⌝ }
 {
     let mut i = 0;
     while i < MARKS_LENGTH {
@@ -231,7 +225,7 @@ fn least_bad(header: Header, blocks: &[u8], marks: &[u8]) -> usize
 }
 
 fn verdict_by(header: Header, blocks: &[u8], foreign: usize, bad: usize) -> Verdict
-    ensures { λ r. ⌜ r ≡ verdictBy header (now (blocks .entry)) foreign bad ⌝ }
+    ensures { λ r. ⌜ r ≡ verdictBy (under header) (now (blocks .entry)) foreign bad ⌝ }
 {
     if foreign < limits::MOST_BLOCKS as usize {
         return Verdict::Foreign(foreign);

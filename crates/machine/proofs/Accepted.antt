@@ -7,7 +7,7 @@ use mathlib.Core.List.{List, _∷_}
 use Rattle.limits.specs.Limits.{mostBlocks}
 use Rattle.outcome.specs.Outcome.{done}
 use Rattle.image.specs.Scan.{headerOf, blocksOf}
-use Rattle.image.specs.declared.Header.{Header}
+use Rattle.flow.specs.Terms.{Terms, termsOf}
 use Rattle.number.proofs.Choice.{clash}
 use Rattle.image.proofs.HeaderLaws.{header-good}
 use Rattle.fault.specs.Fault.{isForeign, isBad}
@@ -28,15 +28,15 @@ use Rattle.walk.proofs.Within.{Within, Passes, passes}
 use Rattle.walk.proofs.Steps.{follow-step}
 use Rattle.walk.proofs.History.{reached-within}
 
-abbrev pub hd : List ℕ → Header
-hd image = headerOf image .header
+abbrev pub hd : List ℕ → Terms
+hd image = termsOf image
 
 abbrev pub body : List ℕ → List ℕ
 body image = blocksOf image
 
 pub record Accepted (image : List ℕ) : Type 0 where
   pub read : done (headerOf image .outcome) ≡ true
-  pub blocks : (b : ℕ) → b < hd image .count → blockNumber (hd image) (body image) b ≡ 0
+  pub blocks : (b : ℕ) → b < hd image .header .count → blockNumber (hd image) (body image) b ≡ 0
   pub fine : (p : Point) → Reaches (hd image) (body image) p → faultAt (hd image) (body image) p ≡ Fine
 
 -- a fault that is neither foreign nor bad is none
@@ -66,16 +66,16 @@ module _ (image : List ℕ) where
   -- ---- points that are reached
 
   module _ (ok : Accepted image) where
-    abbrev h : Header
+    abbrev h : Terms
     h = hd image
 
     abbrev bs : List ℕ
     bs = body image
 
-    most : h .count ≤ mostBlocks
+    most : h .header .count ≤ mostBlocks
     most = header-good image (is-done _ (ok .read)) .count .1
 
-    pub begins : h .start < h .count
+    pub begins : h .header .start < h .header .count
     begins = header-good image (is-done _ (ok .read)) .start
 
     pub within : (p : Point) → Reaches h bs p → Within h p
@@ -86,7 +86,7 @@ module _ (image : List ℕ) where
     passing p r = passes h (commandAt bs (p .block)) p (ok .fine p r)
 
     -- what follows a point that is reached is reached
-    pub reach-next : (p q : Point) → Reaches h bs p → In q (goes p (flowOf (commandAt bs (p .block)))) → Reaches h bs q
+    pub reach-next : (p q : Point) → Reaches h bs p → In q (goes p (flowOf h (commandAt bs (p .block)))) → Reaches h bs q
     reach-next p q r m = record {
       path = p ∷ r .path;
       walk = Walk.onward q (r .walk) (ok .fine p r)

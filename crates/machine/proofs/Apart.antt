@@ -10,6 +10,7 @@ use lib.Dec.{eqb}
 use lib.ListN.{length, getD}
 use borrow.Author.Tests.{eqb-true, eq-eqb}
 use Rattle.limits.specs.Limits.{taskCount, mostDepth}
+use Rattle.flow.specs.Terms.{termsOf}
 use Rattle.image.specs.Scan.{headerOf, blocksOf}
 use Rattle.number.proofs.Choice.{clash}
 use Rattle.fault.specs.Fault.{faultNumber}
@@ -76,7 +77,7 @@ alike-is s m e = (values-are (s .values) (m .values) (e .values), λ t l r. thre
 
 -- ---- part 3: what is permitted passes the engine's own tests of a block
 
-pub permitted-fits : (image : List ℕ) (t : ℕ) (k : Task) → Permitted image t k → blockFits (headerOf image .header) (blocksOf image) t k ≡ true
+pub permitted-fits : (image : List ℕ) (t : ℕ) (k : Task) → Permitted image t k → blockFits (termsOf image) (blocksOf image) t k ≡ true
 permitted-fits image t k p =
     let e = ap (λ (f : Fault). eqb (faultNumber f) 0) (p .fine) in
     λ ι. eqb (p .sound ι) 0 && e ι

@@ -13,6 +13,7 @@ use Rattle.rows.specs.declared.FlowKind.{FlowKind}
 use Rattle.rows.specs.declared.FlowKind.the-variants as kind
 use Rattle.rows.proofs.FlowKinds.{is, is-true}
 use Rattle.operands.specs.declared.Command.{Command}
+use Rattle.flow.specs.Terms.{Terms}
 use Rattle.flow.specs.Flow.{flowBy, flowOf}
 use Rattle.flow.specs.Tasks.{foreign}
 use Rattle.flow.specs.declared.Flow.{Flow}
@@ -82,31 +83,31 @@ module _ (x word t b : ℕ) (calls : Calls) where
   counted kind.Ending e = let r = ending-by (eqb x 0) in record { count = r .0; ends = r .1 }
 
 -- a command whose code and flow go together
-module _ (c : Command) (f : Flows (c .code) (rowOf (c .code) .flow)) where
-  pub counts-flow : (t b : ℕ) (calls : Calls) → counts c t b calls ≡ countF (flowOf c) t b calls
+module _ (h : Terms) (c : Command) (f : Flows (c .code) (rowOf (c .code) .flow)) where
+  pub counts-flow : (t b : ℕ) (calls : Calls) → counts c t b calls ≡ countF (flowOf h c) t b calls
   unfolding counts flowOf countBy
   counts-flow t b calls =
       rw (f .calls, f .returns, f .begins-plc, f .begins-bias, f .begins-mathematics, f .ends)
       (counted (c .x) (c .word) t b calls (rowOf (c .code) .flow) (f .some) .count)
 
   -- a 53 returns
-  pub return-flow : c .code ≡ 0x53 → flowOf c ≡ flow.Return
+  pub return-flow : c .code ≡ 0x53 → flowOf h c ≡ flow.Return
   unfolding flowOf
   return-flow e =
       ap (λ (k : FlowKind). flowBy k (c .x) (c .word)) (is-true (rowOf (c .code) .flow) kind.Return (sym (f .returns) ∙ eq-eqb (c .code) 0x53 e))
 
   -- a start of a task names it
-  pub start-code : (u a : ℕ) → May (flowOf c) (Start u a) → starts (c .code) u ≡ true
+  pub start-code : (u a : ℕ) → May (flowOf h c) (Start u a) → starts (c .code) u ≡ true
   unfolding flowOf
   start-code u a m =
       rw (f .begins-bias, f .begins-plc, f .begins-mathematics)
-      (flowing (c .x) (c .word) (rowOf (c .code) .flow) (f .some) .start u ∙ names (flowOf c) m)
+      (flowing (c .x) (c .word) (rowOf (c .code) .flow) (f .some) .start u ∙ names (flowOf h c) m)
     where
       names : (g : Flow) → May g (Start u a) → startF g u ≡ true
       names _ May.start = eq-eqb u u refl
 
   -- an end is a 51 of its own task's mode
-  pub end-code : (t : ℕ) → foreign t c ≡ false → May (flowOf c) End → (c .code ≡ 0x51) × (c .x ≡ t + 1)
+  pub end-code : (t : ℕ) → foreign t c ≡ false → May (flowOf h c) End → (c .code ≡ 0x51) × (c .x ≡ t + 1)
   unfolding flowOf
   end-code t own m = (code, mode (ℕ-discrete (c .x) (t + 1)))
     where
@@ -114,7 +115,7 @@ module _ (c : Command) (f : Flows (c .code) (rowOf (c .code) .flow)) where
       ends _ May.end = refl
 
       known : (is (rowOf (c .code) .flow) kind.Ending && not (eqb (c .x) 0)) ≡ true
-      known = sym (counted (c .x) (c .word) 0 0 noCalls (rowOf (c .code) .flow) (f .some) .ends) ∙ ends (flowOf c) m
+      known = sym (counted (c .x) (c .word) 0 0 noCalls (rowOf (c .code) .flow) (f .some) .ends) ∙ ends (flowOf h c) m
 
       code : c .code ≡ 0x51
       code = eqb-true (c .code) 0x51 (f .ends ∙ both _ _ known .0)

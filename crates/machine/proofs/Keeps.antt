@@ -23,7 +23,7 @@ use Rattle.fault.specs.declared.Fault.{Fault}
 use Rattle.fault.specs.declared.Fault.the-variants.{Fine, Foreign, Forbidden, TooDeep, NoCall, PastEnd}
 use Rattle.walk.specs.Program.{blockAt, commandAt, faultAt, blockNumber}
 use Rattle.walk.specs.Graph.{In}
-use Rattle.walk.specs.Successors.{goes as walked, successors}
+use Rattle.walk.specs.Successors.{goes as walked, flowAt, successors}
 use Rattle.walk.proofs.Within.{Within, Passes, passes, successors-within}
 use Rattle.state.specs.State.{runs, ended, halted, noTask, taskAt, withNotes}
 use Rattle.state.specs.Good.{GoodWait, GoodTask, GoodValues, Good}
@@ -31,9 +31,10 @@ use Rattle.state.specs.declared.Task.{Task}
 use Rattle.state.specs.declared.Values.{Values}
 use Rattle.state.specs.declared.State.{State}
 use Rattle.state.proofs.Fresh.{getD-replicate}
+use Rattle.flow.specs.Terms.{under}
 use Rattle.machine.specs.Given.{Inputs, level}
 use Rattle.machine.specs.Effect.{effectOf}
-use Rattle.machine.specs.Engine.{goTo, stayWith, callTo, returnFrom, startAnew, restarted, stopped, tasksAfter, pointOf, given, performed, isLoaded, blockFits, waitFits, fits, refuse, taskStep, step}
+use Rattle.machine.specs.Engine.{goTo, stayWith, callTo, returnFrom, startAnew, restarted, stopped, tasksAfter, pointOf, given, performed, isLoaded, blockFits, waitFits, fits, refuse, taskStep, step, termsHeld}
 use Rattle.machine.specs.declared.Out.{Out}
 use Rattle.machine.specs.Reference.{keeps}
 use Rattle.machine.specs.Ways.{May}
@@ -201,7 +202,7 @@ no-fault NoCall e = absurd (omega arith)
 no-fault PastEnd e = absurd (omega arith)
 
 module _ (image : List ℕ) (bytes : Bytes image) (s : State) (g : Good s) (x : Inputs) (l : x .task < taskCount)
-    (r : taskAt s (x .task) .status ≡ runs) (pass : fits image (s .header) (x .task) (taskAt s (x .task)) ≡ true) where
+    (r : taskAt s (x .task) .status ≡ runs) (pass : fits image (termsHeld s) (x .task) (taskAt s (x .task)) ≡ true) where
   abbrev t : ℕ
   t = x .task
 
@@ -227,31 +228,31 @@ module _ (image : List ℕ) (bytes : Bytes image) (s : State) (g : Good s) (x : 
   known = g .task t l
 
   -- the block, by 5 to 8 and 23, and at its point by 9 to 12
-  block-fits : (eqb (blockNumber h bs (k .block)) 0 ≡ true) × (eqb (faultNumber (faultAt h bs p)) 0 ≡ true)
+  block-fits : (eqb (blockNumber (under h) bs (k .block)) 0 ≡ true) × (eqb (faultNumber (faultAt (under h) bs p)) 0 ≡ true)
   unfolding fits
   block-fits =
-      let a = both (isLoaded (headerOf image) h) (blockFits h bs t k && waitFits bs k) pass in
-      let b = both (blockFits h bs t k) (waitFits bs k) (a .1) in
-      both (eqb (blockNumber h bs (k .block)) 0) (eqb (faultNumber (faultAt h bs p)) 0) (b .0)
+      let a = both (isLoaded (headerOf image) h) (blockFits (under h) bs t k && waitFits bs k) pass in
+      let b = both (blockFits (under h) bs t k) (waitFits bs k) (a .1) in
+      both (eqb (blockNumber (under h) bs (k .block)) 0) (eqb (faultNumber (faultAt (under h) bs p)) 0) (b .0)
 
-  fault-free : faultAt h bs p ≡ Fine
-  fault-free = no-fault (faultAt h bs p) (eqb-true _ 0 (block-fits .1))
+  fault-free : faultAt (under h) bs p ≡ Fine
+  fault-free = no-fault (faultAt (under h) bs p) (eqb-true _ 0 (block-fits .1))
 
-  passed : Passes h c p
+  passed : Passes (under h) c p
   unfolding faultAt
-  passed = passes h c p fault-free
+  passed = passes (under h) c p fault-free
 
   -- what follows is in the image
-  next : (q : Point) → In q (walked p (flowOf c)) → Within h q
-  unfolding successors
-  next q m = successors-within h bs p q (record { task = l; block = known .block; depth = known .depth }) (rw fault-free m)
+  next : (q : Point) → In q (walked p (flowOf (under h) c)) → Within (under h) q
+  unfolding successors flowAt
+  next q m = successors-within (under h) bs p q (record { task = l; block = known .block; depth = known .depth }) (rw fault-free m)
 
   pub fit-here : Fit (h .count) c
   unfolding commandAt
   fit-here = fit h (blockAt bs (k .block)) (bytes-at image bytes (k .block)) (eqb-true _ 0 (block-fits .0))
 
   pub law : Law (c .code) c (given s k x) (s .values) e
-  law = every-law (given s k x) c (s .values) (used-carried (c .code) t (passed .allowed))
+  law = every-law (given s k x) c (s .values) (used-carried (under h) (c .code) t (passed .allowed))
 
   tasks : GoodTasks h (s .tasks)
   tasks = record { three = g .three; task = g .task; first = g .first }
@@ -266,25 +267,25 @@ module _ (image : List ℕ) (bytes : Bytes image) (s : State) (g : Good s) (x : 
   goes-on b i = here (goTo b k) (go-good h k known b i) refl
 
   -- another task starts, or the own one does
-  starts : (u a : ℕ) → May (flowOf c) (Start u a) → Dec (u ≡ t) → GoodTasks h (set (set (s .tasks) t (goTo (k .block + 1) k)) u (startAnew (h .start) u a))
+  starts : (u a : ℕ) → May (flowOf (under h) c) (Start u a) → Dec (u ≡ t) → GoodTasks h (set (set (s .tasks) t (goTo (k .block + 1) k)) u (startAnew (h .start) u a))
   starts u a m (no n) =
-      let w = next _ (start-in p (flowOf c) u a m) in
+      let w = next _ (start-in p (flowOf (under h) c) u a m) in
       put-good h (set (s .tasks) t (goTo (k .block + 1) k)) u (startAnew (h .start) u a)
-      (goes-on (k .block + 1) (next _ (start-on p (flowOf c) u a m n) .block)) (w .task) (start-good h u a (w .block) (g .header .start)) (λ i. rw i refl)
+      (goes-on (k .block + 1) (next _ (start-on p (flowOf (under h) c) u a m n) .block)) (w .task) (start-good h u a (w .block) (g .header .start)) (λ i. rw i refl)
   starts u a m (yes i) =
-      let w = next _ (start-in p (flowOf c) u a m) in
+      let w = next _ (start-in p (flowOf (under h) c) u a m) in
       rw (i, set-set (s .tasks) t (goTo (k .block + 1) k) (startAnew (h .start) t a))
       (put-good h (s .tasks) t (startAnew (h .start) t a) tasks l (start-good h t a (w .block) (g .header .start)) (λ j. rw j refl))
 
-  turned : (o : Outcome) → May (flowOf c) o → Staying (h .drive .model) o → GoodTasks h (tasksAfter (h .start) t k o (s .tasks))
-  turned GoOn m w = goes-on (k .block + 1) (next _ (on-in p (flowOf c) m) .block)
+  turned : (o : Outcome) → May (flowOf (under h) c) o → Staying (h .drive .model) o → GoodTasks h (tasksAfter (h .start) t k o (s .tasks))
+  turned GoOn m w = goes-on (k .block + 1) (next _ (on-in p (flowOf (under h) c) m) .block)
   turned (Stay time turns) m w = here (stayWith time turns k) (stay-good h k known time turns w) refl
-  turned (Jump a) m w = goes-on a (next _ (jump-in p (flowOf c) a m) .block)
+  turned (Jump a) m w = goes-on a (next _ (jump-in p (flowOf (under h) c) a m) .block)
   turned (Call a) m w =
-      let d = leb-false mostDepth (k .depth) (sym (call-deep p (flowOf c) a m) ∙ passed .shallow) in
-      here (callTo a k) (call-good h k known a (next _ (call-in p (flowOf c) a m) .block) (next _ (behind-in p (flowOf c) a m) .block) d) refl
+      let d = leb-false mostDepth (k .depth) (sym (call-deep p (flowOf (under h) c) a m) ∙ passed .shallow) in
+      here (callTo a k) (call-good h k known a (next _ (call-in p (flowOf (under h) c) a m) .block) (next _ (behind-in p (flowOf (under h) c) a m) .block) d) refl
   turned Return m w =
-      here (returnFrom k) (return-good h k known (eqb-false (k .depth) 0 (sym (return-deep p (flowOf c) m) ∙ passed .called))) refl
+      here (returnFrom k) (return-good h k known (eqb-false (k .depth) 0 (sym (return-deep p (flowOf (under h) c) m) ∙ passed .called))) refl
   turned (Start u a) m w = starts u a m (ℕ-discrete u t)
   turned Restart m w = here (restarted k) (restart-good h k known) refl
   turned End m w = here (stopped ended k) (stop-good h k known ended (omega arith)) refl
@@ -321,7 +322,7 @@ keeps-good image bytes s g x =
     either (ltb (x .task) taskCount) _ _
     (λ i. either (eqb (length (x .levels)) inputsLength) _ _
     (λ _. either (eqb (taskAt s (x .task) .status) runs) _ _
-    (λ j. either (fits image (s .header) (x .task) (taskAt s (x .task))) _ _
+    (λ j. either (fits image (termsHeld s) (x .task) (taskAt s (x .task))) _ _
     (λ f. performed-good image bytes s g x (ltb-true _ _ i) (eqb-true _ _ j) f)
     (stays (Differs (pointOf (x .task) (taskAt s (x .task))))))
     (stays NotRunning))

@@ -8,7 +8,7 @@ use lib.Dec.{eqb}
 use borrow.Author.Tests.{eqb-true, eqb-false, leb-false}
 use Rattle.limits.specs.Limits.{mostDepth}
 use Rattle.number.proofs.Choice.{both}
-use Rattle.image.specs.declared.Header.{Header}
+use Rattle.flow.specs.Terms.{Terms}
 use Rattle.operands.specs.declared.Command.{Command}
 use Rattle.flow.specs.Flow.{flowOf}
 use Rattle.fault.specs.Fault.{faultNumber}
@@ -28,7 +28,7 @@ use Rattle.machine.proofs.Outcomes.{call-deep, return-deep}
 use Rattle.machine.proofs.StepCase.{used-carried}
 use Rattle.machine.proofs.Keeps.{no-fault}
 
-module _ (bs : List ℕ) (h : Header) (t : ℕ) (k : Task) (pass : blockFits h bs t k ≡ true) where
+module _ (bs : List ℕ) (h : Terms) (t : ℕ) (k : Task) (pass : blockFits h bs t k ≡ true) where
   abbrev c : Command
   c = commandAt bs (k .block)
 
@@ -38,9 +38,9 @@ module _ (bs : List ℕ) (h : Header) (t : ℕ) (k : Task) (pass : blockFits h b
       let d = both (eqb (blockNumber h bs (k .block)) 0) (eqb (faultNumber (faultAt h bs (pointOf t k))) 0) pass in
       passes h c (pointOf t k) (no-fault (faultAt h bs (pointOf t k)) (eqb-true _ 0 (d .1)))
 
-  room : k .depth ≤ mostDepth → (o : Outcome) → May (flowOf c) o → Deep (k .depth) o
-  room l (Call a) m = leb-false mostDepth (k .depth) (sym (call-deep (pointOf t k) (flowOf c) a m) ∙ passed .shallow)
-  room l Return m = let n = eqb-false (k .depth) 0 (sym (return-deep (pointOf t k) (flowOf c) m) ∙ passed .called) in (omega arith, l)
+  room : k .depth ≤ mostDepth → (o : Outcome) → May (flowOf h c) o → Deep (k .depth) o
+  room l (Call a) m = leb-false mostDepth (k .depth) (sym (call-deep (pointOf t k) (flowOf h c) a m) ∙ passed .shallow)
+  room l Return m = let n = eqb-false (k .depth) 0 (sym (return-deep (pointOf t k) (flowOf h c) m) ∙ passed .called) in (omega arith, l)
   room l GoOn m = tt
   room l (Stay time turns) m = tt
   room l (Jump a) m = tt
@@ -51,4 +51,4 @@ module _ (bs : List ℕ) (h : Header) (t : ℕ) (k : Task) (pass : blockFits h b
 
   pub deep : k .depth ≤ mostDepth → (g : Given) (v : Values) → Deep (k .depth) (effectOf g c v .outcome)
   unfolding flowOf
-  deep l g v = room l (effectOf g c v .outcome) (every-law g c v (used-carried (c .code) t (passed .allowed)) .outcome .flow)
+  deep l g v = room l (effectOf g c v .outcome) (every-law g c v (used-carried h (c .code) t (passed .allowed)) .outcome .flow)

@@ -43,7 +43,7 @@ values-same v w e = rw e (record {
 
 module _ (image : List ℕ) where
   -- the fresh states agree
-  first-same : SameTask (running (hd image .start)) (thread (hd image .start) (hd image .start) 0 0 [])
+  first-same : SameTask (running (hd image .header .start)) (thread (hd image .header .start) (hd image .header .start) 0 0 [])
   first-same = record { running = refl; block = λ _. refl; returns = λ _. refl; start = λ _. refl; time = λ _. refl; turns = λ _. refl }
 
   idle-same : SameTask neverStarted idle
@@ -56,7 +56,7 @@ module _ (image : List ℕ) where
     turns = λ e. absurd (omega arith);
   }
 
-  first-sound : Sound (hd image) (body image) 0 (running (hd image .start))
+  first-sound : Sound (hd image) (body image) 0 (running (hd image .header .start))
   first-sound = record {
     reach = λ _. record { path = []; walk = Walk.begin };
     home = λ _. record { path = []; walk = Walk.begin };
@@ -65,7 +65,7 @@ module _ (image : List ℕ) where
     wait = λ _. refl;
   }
 
-  fresh-agree : Agree image (fresh (hd image)) (begun image)
+  fresh-agree : Agree image (fresh (hd image .header)) (begun image)
   unfolding fresh begun freshValues
   fresh-agree = record {
     header = refl;
@@ -73,15 +73,15 @@ module _ (image : List ℕ) where
     values = refl;
   }
     where
-      sound : (t : ℕ) → t < taskCount → Sound (hd image) (body image) t (getD (running (hd image .start) ∷ neverStarted ∷ neverStarted ∷ []) t noTask)
+      sound : (t : ℕ) → t < taskCount → Sound (hd image) (body image) t (getD (running (hd image .header .start) ∷ neverStarted ∷ neverStarted ∷ []) t noTask)
       sound zero l = first-sound
       sound (suc zero) l = never-sound (hd image) (body image) 1
       sound (suc (suc zero)) l = never-sound (hd image) (body image) 2
       sound (suc (suc (suc t))) l = absurd (omega arith)
 
       same : (t : ℕ) → t < taskCount
-          → SameTask (getD (running (hd image .start) ∷ neverStarted ∷ neverStarted ∷ []) t noTask)
-          (getD (thread (hd image .start) (hd image .start) 0 0 [] ∷ idle ∷ idle ∷ []) t idle)
+          → SameTask (getD (running (hd image .header .start) ∷ neverStarted ∷ neverStarted ∷ []) t noTask)
+          (getD (thread (hd image .header .start) (hd image .header .start) 0 0 [] ∷ idle ∷ idle ∷ []) t idle)
       same zero l = first-same
       same (suc zero) l = idle-same
       same (suc (suc zero)) l = idle-same
@@ -135,5 +135,5 @@ every-run image n e xs =
       alike = alike image ok _ _ g;
       permitted = permitted image ok _ _ g;
       steps = each image ok (loaded image) (begun image) noCalls (fresh-agree image) (fresh-counts image) xs;
-      good = λ b. goods image b (loaded image) (fresh-good (hd image) (header-good image (is-done _ (ok .read)))) xs;
+      good = λ b. goods image b (loaded image) (fresh-good (hd image .header) (header-good image (is-done _ (ok .read)))) xs;
     }

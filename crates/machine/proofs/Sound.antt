@@ -11,7 +11,7 @@ use lib.ListN.{length, getD, set, length-set}
 use lib.Seq.{getD-set-same, getD-set-other}
 use borrow.Author.Tests.{eqb-true}
 use Rattle.limits.specs.Limits.{bias, mostDepth}
-use Rattle.image.specs.declared.Header.{Header}
+use Rattle.flow.specs.Terms.{Terms}
 use Rattle.point.specs.Fault.{point}
 use Rattle.walk.specs.Program.{commandAt}
 use Rattle.walk.specs.Walk.{Walk, Reaches}
@@ -20,7 +20,7 @@ use Rattle.state.specs.declared.Task.{Task}
 use Rattle.machine.specs.Effect.{isSet}
 use Rattle.machine.specs.Engine.{goTo, stayWith, callTo, returnFrom, startAnew, restarted, stopped, pointOf, isWait, waitFits}
 
-module _ (h : Header) (bs : List ℕ) where
+module _ (h : Terms) (bs : List ℕ) where
   pub record Sound (t : ℕ) (k : Task) : Type 0 where
     pub reach : k .status ≡ runs → Reaches h bs (pointOf t k)
     pub home : k .status ≡ runs → Reaches h bs (point t (k .start) 0)
@@ -70,9 +70,9 @@ module _ (h : Header) (bs : List ℕ) where
     pub stop-sound : (status : ℕ) → (status ≡ runs → ⊥) → Sound t (stopped status k)
     stop-sound status n = idle-sound t (stopped status k) (s .long) n
 
-  pub start-sound : (u a : ℕ) → Reaches h bs (point u a 0) → Sound u (startAnew (h .start) u a)
+  pub start-sound : (u a : ℕ) → Reaches h bs (point u a 0) → Sound u (startAnew (h .header .start) u a)
   start-sound u a q = record { reach = λ _. q; home = λ _. home (eqb u bias) refl; backs = λ _ i l. absurd (omega arith); long = refl; wait = λ _. refl }
     where
-      home : (b : Bool) → eqb u bias ≡ b → Reaches h bs (point u (cond b (h .start) a) 0)
+      home : (b : Bool) → eqb u bias ≡ b → Reaches h bs (point u (cond b (h .header .start) a) 0)
       home true e = rw (eqb-true u bias e) (record { path = []; walk = Walk.begin })
       home false e = q

@@ -19,7 +19,7 @@ use Rattle.machine.proofs.Laws.{timeless}
 use Rattle.machine.specs.declared.Effect.{Effect}
 use Rattle.machine.specs.declared.Outcome.{Outcome}
 use Rattle.machine.specs.declared.Outcome.the-variants.{GoOn, Stay, Jump, Call, Return, Start, Restart, End, Halt}
-use Rattle.machine.proofs.Accepted.{Accepted}
+use Rattle.machine.proofs.Accepted.{Accepted, hd}
 use Rattle.machine.proofs.Turn.{turned}
 use Rattle.machine.proofs.Notes.{noted-alike}
 use Rattle.machine.proofs.StepCase.{Agree, Ran, Case, effectHere, threadOf, step-case}
@@ -55,7 +55,7 @@ module _ (image : List ℕ) where
     abbrev c : Command
     c = commandOf image s x
 
-    done-same : Ran image s m x → (e : Effect) → May (flowOf c) (e .outcome) → timeless (c .code) (e .outcome) ≡ true
+    done-same : Ran image s m x → (e : Effect) → May (flowOf (hd image) c) (e .outcome) → timeless (c .code) (e .outcome) ≡ true
         → SameStep (performed s x k e) (does m x p e)
     unfolding performed does
     done-same r e f w = record {

@@ -10,7 +10,7 @@ use lib.ListN.{length, getD}
 use borrow.Author.Tests.{eqb-true, eqb-false, ltb-true, ltb-false, lt-ltb, le-ltb}
 use Rattle.limits.specs.Limits.{taskCount, inputsLength}
 use Rattle.image.specs.Scan.{headerOf, blocksOf}
-use Rattle.image.specs.declared.Header.{Header}
+use Rattle.flow.specs.Terms.{Terms}
 use Rattle.number.proofs.Choice.{clash}
 use Rattle.rows.specs.Rows.{rows, rowIn, rowOf, noRow}
 use Rattle.rows.specs.declared.Row.{Row as Columns}
@@ -30,7 +30,7 @@ use Rattle.state.specs.declared.State.{State}
 use Rattle.machine.specs.Given.{Inputs, level}
 use Rattle.machine.specs.Effect.{effectOf}
 use Rattle.image.proofs.Numbers.{is-same}
-use Rattle.machine.specs.Engine.{pointOf, given, performed, fits, refuse, taskStep, step}
+use Rattle.machine.specs.Engine.{pointOf, given, performed, fits, refuse, taskStep, step, termsHeld}
 use Rattle.machine.specs.Reference.{Thread, Machine, idle, does, stays, lost, tries, acts, turn}
 use Rattle.machine.specs.Alike.{returnsOf, SameTask}
 use Rattle.machine.specs.Each.{commandOf, executed}
@@ -58,14 +58,14 @@ all-carried : T (every is-carried rows)
 unfolding is-carried rows
 all-carried = tt
 
-pub used-carried : (code task : ℕ) → permitted code task ≡ true → rowOf code .carried ≡ true
+pub used-carried : (h : Terms) (code task : ℕ) → permitted h code task ≡ true → rowOf code .carried ≡ true
 unfolding rowOf is-carried
-used-carried code task a =
-    ⊎-elim (λ (n : rowIn rows code ≡ noRow). clash (sym (ap (λ (r : Columns). is (r .flow) Nothing) n) ∙ carried code task a .some)) (λ t. t)
+used-carried h code task a =
+    ⊎-elim (λ (n : rowIn rows code ≡ noRow). clash (sym (ap (λ (r : Columns). is (r .flow) Nothing) n) ∙ carried h code task a .some)) (λ t. t)
     (every-row is-carried rows all-carried code)
 
 module _ (image : List ℕ) where
-  abbrev h : Header
+  abbrev h : Terms
   h = hd image
 
   abbrev bs : List ℕ
@@ -73,7 +73,7 @@ module _ (image : List ℕ) where
 
   -- what holds of both states along a run
   pub record Agree (s : State) (m : Machine) : Type 0 where
-    pub header : s .header ≡ h
+    pub header : s .header ≡ h .header
     pub both : Both image (s .tasks) (m .threads)
     pub values : s .values ≡ m .values
 
@@ -118,20 +118,20 @@ module _ (image : List ℕ) where
     same = g .both .same t l
 
     -- 17 lets every step of a run pass
-    fits-here : fits image (s .header) t k ≡ true
+    fits-here : fits image (termsHeld s) t k ≡ true
     unfolding fits
     fits-here =
         rw (
           ok .read,
           g .header,
-          is-same h,
+          is-same (h .header),
           ok .blocks (k .block) (within image ok (pointOf t k) here .block),
           ok .fine (pointOf t k) here,
           g .both .sound t l .wait r,
         )
 
     carried-here : rowOf (c .code) .carried ≡ true
-    carried-here = used-carried (c .code) t (passing image ok (pointOf t k) here .allowed)
+    carried-here = used-carried h (c .code) t (passing image ok (pointOf t k) here .allowed)
 
     depth-here : k .depth ≡ length (p .returns)
     depth-here = sym (length-returns (k .stack) (k .depth)) ∙ ap length (same .returns r)
@@ -143,18 +143,18 @@ module _ (image : List ℕ) where
     law : Law (c .code) c (given s k x) (s .values) e
     law = every-law (given s k x) c (s .values) carried-here
 
-    in-flow : May (flowOf c) (e .outcome)
+    in-flow : May (flowOf h c) (e .outcome)
     unfolding flowOf
     in-flow = law .outcome .flow
 
-    not-lost : (o : Outcome) → May (flowOf c) o → lost o (p .returns) ≡ false
+    not-lost : (o : Outcome) → May (flowOf h c) o → lost o (p .returns) ≡ false
     not-lost GoOn f = refl
     not-lost (Stay time turns) f = refl
     not-lost (Jump a) f = refl
     not-lost (Call a) f = refl
     not-lost Return f =
         some (p .returns)
-        (λ e. eqb-false (k .depth) 0 (sym (return-deep (pointOf t k) (flowOf c) f) ∙ passing image ok (pointOf t k) here .called) (depth-here ∙ e))
+        (λ e. eqb-false (k .depth) 0 (sym (return-deep (pointOf t k) (flowOf h c) f) ∙ passing image ok (pointOf t k) here .called) (depth-here ∙ e))
       where
         some : (xs : List ℕ) → (length xs ≡ 0 → ⊥) → lost Return xs ≡ false
         some [] n = absurd (n refl)
@@ -178,7 +178,7 @@ module _ (image : List ℕ) where
     acts-is : acts image m x p ≡ does m x p e
     unfolding acts
     acts-is =
-        rw (lt-ltb (p .block) (h .count) (subst (λ (b : ℕ). b < h .count) (same .block r) (within image ok (pointOf t k) here .block)), ← same .block r, carried-here)
+        rw (lt-ltb (p .block) (h .header .count) (subst (λ (b : ℕ). b < h .header .count) (same .block r) (within image ok (pointOf t k) here .block)), ← same .block r, carried-here)
         (ap (tries m x p) effect-same ∙ tries-is)
 
     ran-here : step image s x ≡ performed s x k e → turn image m x ≡ acts image m x p → Case s m x

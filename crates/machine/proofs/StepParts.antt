@@ -182,9 +182,9 @@ module _ (image : List ℕ) (ok : Accepted image) (s : State) (m : Machine) (g :
 
   module _ (r : Ran image s m x) where
     flows : Flows (c .code) (rowOf (c .code) .flow)
-    flows = carried (c .code) t (r .passes .allowed)
+    flows = carried (hd image) (c .code) t (r .passes .allowed)
 
-    in-flow : May (flowOf c) o
+    in-flow : May (flowOf (hd image) c) o
     unfolding flowOf
     in-flow = r .law .outcome .flow
 
@@ -212,19 +212,19 @@ module _ (image : List ℕ) (ok : Accepted image) (s : State) (m : Machine) (g :
     unfolding does
     threads-are = ap (λ (q : Did). q .machine .threads) (r .reference)
 
-    calls-are : callsAfter image s x calls ≡ countF (flowOf c) t b calls
+    calls-are : callsAfter image s x calls ≡ countF (flowOf (hd image) c) t b calls
     unfolding callsAfter
-    calls-are = rw (answer-is, counts-flow c flows t b calls) (executed-count calls t b (pointOf t k) (flowOf c) o in-flow)
+    calls-are = rw (answer-is, counts-flow (hd image) c flows t b calls) (executed-count calls t b (pointOf t k) (flowOf (hd image) c) o in-flow)
 
     counted : Counts (callsAfter image s x calls) (turn image m x .machine .threads)
     counted =
         let e = g .both .also in
         let l = r .task in
-        rw (calls-are, threads-are) (follows-count calls (m .threads) t b (omega arith) (g .both .same t (r .task) .block (r .running)) n (flowOf c) o in-flow)
+        rw (calls-are, threads-are) (follows-count calls (m .threads) t b (omega arith) (g .both .same t (r .task) .block (r .running)) n (flowOf (hd image) c) o in-flow)
 
     part4 : c .code ≡ 0x53 → Behind (calls t) (taskAt (step image s x .state) t .block)
     part4 e =
-        let f = return-flow c flows e in
+        let f = return-flow (hd image) c flows e in
         let i = return-only o (subst (λ (q : Flow). May q o) f in-flow) in
         let z : eqb (k .depth) 0 ≡ false = subst (λ (q : Flow). noCall q (k .depth) ≡ false) f (r .passes .called) in
         rw (tasks-are, i, getD-set-same (s .tasks) t (returnFrom k) noTask present)
@@ -233,12 +233,12 @@ module _ (image : List ℕ) (ok : Accepted image) (s : State) (m : Machine) (g :
     part6 : (u : ℕ) → (u ≡ t → ⊥)
         → (taskAt (step image s x .state) u ≡ taskAt s u) ⊎ ((executed (step image s x .answer) ≡ true) × (starts (c .code) u ≡ true))
     part6 u d =
-        ⊎-elim (λ e. inl (rw tasks-are e)) (λ i. inr (rw (answer-is, i .1) refl, start-code c flows u (i .0) (subst (May (flowOf c)) (i .1) in-flow)))
+        ⊎-elim (λ e. inl (rw tasks-are e)) (λ i. inr (rw (answer-is, i .1) refl, start-code (hd image) c flows u (i .0) (subst (May (flowOf (hd image) c)) (i .1) in-flow)))
         (other-task (s .header .start) t k o (s .tasks) u d)
 
-    ranged : Ranged (hd image .count) c
+    ranged : Ranged (hd image .header .count) c
     unfolding commandAt
-    ranged = in-ranges (hd image) (blockAt (body image) b) (ok .blocks b (within image ok (pointOf t k) (g .both .sound t (r .task) .reach (r .running)) .block))
+    ranged = in-ranges (hd image .header) (blockAt (body image) b) (ok .blocks b (within image ok (pointOf t k) (g .both .sound t (r .task) .reach (r .running)) .block))
 
     -- the step's own task, where one record was put in its place
     stays-put : (k′ : Task) → tasksAfter (s .header .start) t k o (s .tasks) ≡ set (s .tasks) t k′ → taskAt (step image s x .state) t ≡ k′
@@ -250,11 +250,11 @@ module _ (image : List ℕ) (ok : Accepted image) (s : State) (m : Machine) (g :
 
     stopped-by : (o ≡ End) ⊎ ((j : Cause) × (o ≡ Halt j)) → Stopped image s x
     stopped-by (inl e) =
-        let q = end-code c flows t (r .passes .own) (subst (May (flowOf c)) e in-flow) in
+        let q = end-code (hd image) c flows t (r .passes .own) (subst (May (flowOf (hd image) c)) e in-flow) in
         Stopped.byItself (q .0) (q .1) (answer-is ∙ rw e refl) (stays-put (stopped ended k) (rw e refl))
     stopped-by (inr (j, e)) =
         let q = r .law .still (rw e refl) in
-        Stopped.byRefusal j (subst (Halting c (s .values) (k .time)) e (r .law .outcome .halt (hd image .count) ranged)) (answer-is ∙ rw e refl)
+        Stopped.byRefusal j (subst (Halting c (s .values) (k .time)) e (r .law .outcome .halt (hd image .header .count) ranged)) (answer-is ∙ rw e refl)
         (values-are ∙ ap (noted t (x .start)) (q .0)) (stays-put (stopped halted k) (rw e refl)) (request-is ∙ q .1)
 
     part5 : (u : ℕ) → u < taskCount → taskAt s u .status ≡ runs → (taskAt (step image s x .state) u .status ≡ runs → ⊥) → (u ≡ t) × Stopped image s x

@@ -9,7 +9,7 @@ use lib.ListN.{length, getD, set, length-set}
 use lib.Seq.{getD-set-same, getD-set-other}
 use borrow.Author.Tests.{eqb-false, leb-false}
 use Rattle.limits.specs.Limits.{taskCount, mostDepth}
-use Rattle.image.specs.declared.Header.{Header}
+use Rattle.flow.specs.Terms.{Terms}
 use Rattle.flow.specs.Flow.{flowOf}
 use Rattle.point.specs.Fault.{point}
 use Rattle.point.specs.declared.Point.{Point}
@@ -52,7 +52,7 @@ back-start p [] = refl
 back-start p (x ∷ l) = refl
 
 module _ (image : List ℕ) where
-  abbrev h : Header
+  abbrev h : Terms
   h = hd image
 
   abbrev bs : List ℕ
@@ -64,10 +64,10 @@ module _ (image : List ℕ) where
     pub also : length ps ≡ taskCount
     pub sound : (t : ℕ) → t < taskCount → Sound h bs t (getD ts t noTask)
     pub same : (t : ℕ) → t < taskCount → SameTask (getD ts t noTask) (getD ps t idle)
-    pub first : getD ps 0 idle .start ≡ h .start
+    pub first : getD ps 0 idle .start ≡ h .header .start
 
   put-both : (ts : List Task) (ps : List Thread) (t : ℕ) (k : Task) (p : Thread) → Both ts ps → t < taskCount → Sound h bs t k → SameTask k p
-      → (t ≡ 0 → p .start ≡ h .start) → Both (set ts t k) (set ps t p)
+      → (t ≡ 0 → p .start ≡ h .header .start) → Both (set ts t k) (set ps t p)
   put-both ts ps t k p b l s m f =
       let n = b .three in
       let o = b .also in
@@ -76,7 +76,7 @@ module _ (image : List ℕ) where
         also = length-set ps t p ∙ b .also;
         sound = at-set ts noTask t k (λ u x. u < taskCount → Sound h bs u x) (omega arith) (λ _. s) (λ u _ i. b .sound u i);
         same = λ u i. pair u i (ℕ-discrete u t);
-        first = at-set ps idle t p (λ u x. u ≡ 0 → x .start ≡ h .start) (omega arith) f (λ u _ e. rw e (b .first)) 0 refl;
+        first = at-set ps idle t p (λ u x. u ≡ 0 → x .start ≡ h .header .start) (omega arith) f (λ u _ e. rw e (b .first)) 0 refl;
       }
     where
       pair : (u : ℕ) → u < taskCount → Dec (u ≡ t) → SameTask (getD (set ts t k) u noTask) (getD (set ps t p) u idle)
@@ -98,13 +98,13 @@ module _ (image : List ℕ) where
     here : Reaches h bs (pointOf t k)
     here = b .sound t l .reach r
 
-    next : (q : Point) → In q (walked (pointOf t k) (flowOf c)) → Reaches h bs q
+    next : (q : Point) → In q (walked (pointOf t k) (flowOf h c)) → Reaches h bs q
     next q m = reach-next image ok (pointOf t k) q here m
 
-    started : t ≡ 0 → p .start ≡ h .start
+    started : t ≡ 0 → p .start ≡ h .header .start
     started e = rw e (b .first)
 
-    put-here : (k′ : Task) (p′ : Thread) → Sound h bs t k′ → SameTask k′ p′ → (t ≡ 0 → p′ .start ≡ h .start) → Both (set ts t k′) (set ps t p′)
+    put-here : (k′ : Task) (p′ : Thread) → Sound h bs t k′ → SameTask k′ p′ → (t ≡ 0 → p′ .start ≡ h .header .start) → Both (set ts t k′) (set ps t p′)
     put-here k′ p′ s m f = put-both ts ps t k′ p′ b l s m f
 
     went : (a a′ : ℕ) → a ≡ a′ → Reaches h bs (point t a (k .depth)) → Both (set ts t (goTo a k)) (set ps t (goes a′ p))
@@ -114,37 +114,37 @@ module _ (image : List ℕ) where
     behind = ap (λ (n : ℕ). n + 1) (b .same t l .block r)
 
     -- another task starts, or the own one does
-    starts : (u a : ℕ) → u < taskCount → May (flowOf c) (Start u a) → Dec (u ≡ t)
-        → Both (set (set ts t (goTo (k .block + 1) k)) u (startAnew (h .start) u a)) (set (set ps t (goes (p .block + 1) p)) u (anew u a ps))
+    starts : (u a : ℕ) → u < taskCount → May (flowOf h c) (Start u a) → Dec (u ≡ t)
+        → Both (set (set ts t (goTo (k .block + 1) k)) u (startAnew (h .header .start) u a)) (set (set ps t (goes (p .block + 1) p)) u (anew u a ps))
     starts u a i m (no n) =
-        put-both (set ts t (goTo (k .block + 1) k)) (set ps t (goes (p .block + 1) p)) u (startAnew (h .start) u a) (anew u a ps)
-        (went (k .block + 1) (p .block + 1) behind (next _ (start-on (pointOf t k) (flowOf c) u a m n))) i
-        (start-sound h bs u a (next _ (start-in (pointOf t k) (flowOf c) u a m)))
-        (start-same (h .start) u a ps (sym (b .first))) (λ e. rw e (b .first))
+        put-both (set ts t (goTo (k .block + 1) k)) (set ps t (goes (p .block + 1) p)) u (startAnew (h .header .start) u a) (anew u a ps)
+        (went (k .block + 1) (p .block + 1) behind (next _ (start-on (pointOf t k) (flowOf h c) u a m n))) i
+        (start-sound h bs u a (next _ (start-in (pointOf t k) (flowOf h c) u a m)))
+        (start-same (h .header .start) u a ps (sym (b .first))) (λ e. rw e (b .first))
     starts u a i m (yes e) =
-        rw (e, set-set ts t (goTo (k .block + 1) k) (startAnew (h .start) t a), set-set ps t (goes (p .block + 1) p) (anew t a ps))
-        (put-here (startAnew (h .start) t a) (anew t a ps) (start-sound h bs t a (rw e at (next _ (start-in (pointOf t k) (flowOf c) u a m))))
-        (start-same (h .start) t a ps (sym (b .first))) (λ z. rw z (b .first)))
+        rw (e, set-set ts t (goTo (k .block + 1) k) (startAnew (h .header .start) t a), set-set ps t (goes (p .block + 1) p) (anew t a ps))
+        (put-here (startAnew (h .header .start) t a) (anew t a ps) (start-sound h bs t a (rw e at (next _ (start-in (pointOf t k) (flowOf h c) u a m))))
+        (start-same (h .header .start) t a ps (sym (b .first))) (λ z. rw z (b .first)))
 
-    pub turned : (o : Outcome) → May (flowOf c) o → timeless (c .code) o ≡ true → Both (tasksAfter (h .start) t k o ts) (follows t p o ps)
+    pub turned : (o : Outcome) → May (flowOf h c) o → timeless (c .code) o ≡ true → Both (tasksAfter (h .header .start) t k o ts) (follows t p o ps)
     unfolding follows
-    turned GoOn m w = went (k .block + 1) (p .block + 1) behind (next _ (on-in (pointOf t k) (flowOf c) m))
+    turned GoOn m w = went (k .block + 1) (p .block + 1) behind (next _ (on-in (pointOf t k) (flowOf h c) m))
     turned (Stay time turns) m w =
         put-here (stayWith time turns k) (thread (p .block) (p .start) time turns (p .returns)) (stay-sound h bs t k (b .sound t l) r time turns w)
         (stay-same k p (b .same t l) r time turns) started
-    turned (Jump a) m w = went a a refl (next _ (jump-in (pointOf t k) (flowOf c) a m))
+    turned (Jump a) m w = went a a refl (next _ (jump-in (pointOf t k) (flowOf h c) a m))
     turned (Call a) m w =
-        let d = leb-false mostDepth (k .depth) (sym (call-deep (pointOf t k) (flowOf c) a m) ∙ passing image ok (pointOf t k) here .shallow) in
+        let d = leb-false mostDepth (k .depth) (sym (call-deep (pointOf t k) (flowOf h c) a m) ∙ passing image ok (pointOf t k) here .shallow) in
         let e = b .sound t l .long in
         put-here (callTo a k) (thread a (p .start) 0 0 ((p .block + 1) ∷ p .returns))
-        (call-sound h bs t k (b .sound t l) r a (next _ (call-in (pointOf t k) (flowOf c) a m)) (next _ (behind-in (pointOf t k) (flowOf c) a m)) d)
+        (call-sound h bs t k (b .sound t l) r a (next _ (call-in (pointOf t k) (flowOf h c) a m)) (next _ (behind-in (pointOf t k) (flowOf h c) a m)) d)
         (call-same k p (b .same t l) r a (omega arith)) started
     turned Return m w =
-        let n = eqb-false (k .depth) 0 (sym (return-deep (pointOf t k) (flowOf c) m) ∙ passing image ok (pointOf t k) here .called) in
+        let n = eqb-false (k .depth) 0 (sym (return-deep (pointOf t k) (flowOf h c) m) ∙ passing image ok (pointOf t k) here .called) in
         put-here (returnFrom k) (back p (p .returns)) (return-sound h bs t k (b .sound t l) r n) (return-same k p (b .same t l) r n)
         (λ e. back-start p (p .returns) ∙ started e)
     turned (Start u a) m w =
-        starts u a (within image ok (point u a 0) (next _ (start-in (pointOf t k) (flowOf c) u a m)) .task) m (ℕ-discrete u t)
+        starts u a (within image ok (point u a 0) (next _ (start-in (pointOf t k) (flowOf h c) u a m)) .task) m (ℕ-discrete u t)
     turned Restart m w =
         put-here (restarted k) (thread (p .start) (p .start) 0 0 []) (restart-sound h bs t k (b .sound t l) r) (restart-same k p (b .same t l) r) started
     turned End m w =

@@ -11,6 +11,7 @@ use Rattle.image.specs.Rows.{sameHeader}
 use Rattle.image.specs.Scan.{headerOf, blocksOf}
 use Rattle.image.specs.declared.Header.{Header}
 use Rattle.image.specs.declared.reader.HeaderRead.{HeaderRead}
+use Rattle.flow.specs.Terms.{Terms, under}
 use Rattle.fault.specs.Fault.{faultNumber}
 use Rattle.point.specs.Fault.{point}
 use Rattle.point.specs.declared.Point.{Point}
@@ -120,11 +121,15 @@ performed s x k e = record {
 
 -- ---- 17: the lent image is not the loaded one, or the block at the pointer breaks 5 to 12 or 23 at the present depth, or a wait is pending at no wait
 
+-- what the program of a state is judged under
+abbrev pub termsHeld : State → Terms
+termsHeld s = under (s .header)
+
 -- what was read of the lent image is the loaded header
 abbrev pub isLoaded : HeaderRead → Header → Bool
 isLoaded r h = done (r .outcome) && sameHeader (r .header) h
 
-abbrev pub blockFits : Header → List ℕ → ℕ → Task → Bool
+abbrev pub blockFits : Terms → List ℕ → ℕ → Task → Bool
 blockFits h bs t k = eqb (blockNumber h bs (k .block)) 0 && eqb (faultNumber (faultAt h bs (pointOf t k))) 0
 
 abbrev pub isWait : ℕ → Bool
@@ -134,10 +139,10 @@ abbrev pub waitFits : List ℕ → Task → Bool
 waitFits bs k = not (isSet (k .time)) || isWait (commandAt bs (k .block) .code)
 
 -- of an image whose header was read as r and whose blocks are bs
-abbrev pub fitsAs : HeaderRead → List ℕ → Header → ℕ → Task → Bool
-fitsAs r bs h t k = isLoaded r h && (blockFits h bs t k && waitFits bs k)
+abbrev pub fitsAs : HeaderRead → List ℕ → Terms → ℕ → Task → Bool
+fitsAs r bs h t k = isLoaded r (h .header) && (blockFits h bs t k && waitFits bs k)
 
-unfoldable pub fits : List ℕ → Header → ℕ → Task → Bool
+unfoldable pub fits : List ℕ → Terms → ℕ → Task → Bool
 fits image h t k = fitsAs (headerOf image) (blocksOf image) h t k
 
 -- the command at the task's block
@@ -148,7 +153,7 @@ carriedOut bs s x k = performed s x k (effectOf (given s k x) (commandAt bs (k .
 unfoldable pub taskStep : List ℕ → State → Inputs → Task → Out
 taskStep image s x k =
     cond (eqb (k .status) runs)
-    (cond (fits image (s .header) (x .task) k)
+    (cond (fits image (termsHeld s) (x .task) k)
     (carriedOut (blocksOf image) s x k)
     (refuse s (Differs (pointOf (x .task) k))))
     (refuse s NotRunning)

@@ -5,6 +5,7 @@ use mathlib.Core.List.{List, [], _∷_}
 use Rattle.limits.specs.Limits.{mostDepth}
 use Rattle.image.specs.Scan.{headerOf, blocksOf}
 use Rattle.fault.specs.declared.Fault.the-variants.{Fine}
+use Rattle.flow.specs.Terms.{termsOf}
 use Rattle.walk.specs.Program.{faultAt, blockNumber}
 use Rattle.state.specs.declared.Task.{Task}
 use Rattle.state.specs.declared.State.{State}
@@ -39,6 +40,6 @@ pub data SameHanded : List Out → List Did → Type 0 where
 -- part 3: a task that runs is at a block of the image that is permitted to it on that drive, at its depth, which is at most the limit
 pub record Permitted (image : List ℕ) (t : ℕ) (k : Task) : Type 0 where
   pub block : k .block < headerOf image .header .count
-  pub sound : blockNumber (headerOf image .header) (blocksOf image) (k .block) ≡ 0
-  pub fine : faultAt (headerOf image .header) (blocksOf image) (pointOf t k) ≡ Fine
+  pub sound : blockNumber (termsOf image) (blocksOf image) (k .block) ≡ 0
+  pub fine : faultAt (termsOf image) (blocksOf image) (pointOf t k) ≡ Fine
   pub depth : k .depth ≤ mostDepth

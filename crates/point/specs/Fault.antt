@@ -5,8 +5,8 @@ use mathlib.Core.Bool.{Bool, false, _||_, cond}
 use mathlib.Core.List.{List, [], _∷_}
 use lib.Dec.{eqb, leb}
 use Rattle.limits.specs.Limits.{mostDepth}
-use Rattle.image.specs.declared.Header.{Header}
 use Rattle.operands.specs.declared.Command.{Command}
+use Rattle.flow.specs.Terms.{Terms}
 use Rattle.flow.specs.Flow.{flowOf, continues}
 use Rattle.flow.specs.Tasks.{foreign, permitted}
 use Rattle.point.specs.declared.Point.{Point}
@@ -56,7 +56,7 @@ flowFault count p f =
     (cond (anyPast count (continues (p .task) (p .block) f)) PastEnd Fine))
 
 -- the first that the command c breaks at a point
-unfoldable pub faultOf : Header → Command → Point → Fault
-faultOf h c p =
+unfoldable pub faultOf : Terms → Command → Point → Fault
+faultOf t c p =
     cond (foreign (p .task) c) Foreign
-    (cond (permitted (c .code) (p .task)) (flowFault (h .count) p (flowOf c)) Forbidden)
+    (cond (permitted t (c .code) (p .task)) (flowFault (t .header .count) p (flowOf t c)) Forbidden)

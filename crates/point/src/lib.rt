@@ -6,6 +6,7 @@ use operands::Command;
 ghost use mathlib.Core.Path.{_≡_};
 ghost use mathlib.Core.Bool.{cond};
 ghost use mathlib.Core.List.{[], _∷_};
+ghost use Rattle.flow.specs.Terms.{under};
 ghost use Rattle.flow.specs.Flow.{continues};
 ghost use Rattle.point.specs.Fault.{tooDeep, noCall, anyPast, flowFault, faultOf};
 
@@ -19,16 +20,16 @@ pub struct Point {
 impl Point {
     // What a command breaks at this point of an image with this header.
     pub fn fault(self, header: Header, c: Command) -> Fault
-        ensures { λ r. ⌜ r ≡ faultOf header c self ⌝ }
+        ensures { λ r. ⌜ r ≡ faultOf (under header) c self ⌝ }
     {
         let task = self.task;
         if flow::foreign(task, c) {
             return Fault::Foreign;
         }
-        if !flow::permitted(c.code, task) {
+        if !flow::permitted(header, c.code, task) {
             return Fault::Forbidden;
         }
-        flow_fault(header.count, self, Flow::of(c))
+        flow_fault(header.count, self, Flow::of(header, c))
     }
 }
 

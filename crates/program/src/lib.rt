@@ -1,32 +1,27 @@
-// The blocks of an image as a graph of points: the points that follow a point, by their numbers in the marks. Blocks are any bytes.
+// The blocks of an image as a graph of points: what the command at a point continues with, how many points that leads to, and the k-th of them by its number
+// in the marks. Blocks are any bytes.
 use flow::Flow;
 use image::Header;
 use point::Point;
 ghost use mathlib.Core.Path.{_≡_};
 ghost use mathlib.Core.Bool.{cond};
-ghost use mathlib.Core.List.{[], _∷_};
+ghost use Prim.Native.Nat.{_<_};
+ghost use lib.ListN.{length, getD};
+ghost use Rattle.flow.specs.Terms.{under};
 ghost use Rattle.point.specs.Fault.{point};
 ghost use Rattle.walk.specs.Index.{indexOf};
-ghost use Rattle.walk.specs.Successors.{goes, successors, indices};
-ghost use Rattle.program.specs.Numbers.{numbers};
+ghost use Rattle.walk.specs.Successors.{beyond, goes, flowAt, indices};
 
-// The points that follow a point, by their numbers in the marks: at most two.
-pub enum Following {
-    Nothing,
-    One(usize),
-    Two(usize, usize),
-}
-
-// The points that follow a point.
-pub fn follow(header: Header, blocks: &[u8], p: Point) -> Following
-    ensures { λ r. ⌜ numbers r ≡ indices (successors header (now (blocks .entry)) p) ⌝ }
+// What the command at a point continues with: nothing where it breaks something.
+pub fn flow_at(header: Header, blocks: &[u8], p: Point) -> Flow
+    ensures { λ r. ⌜ r ≡ flowAt (under header) (now (blocks .entry)) p ⌝ }
 {
     let c = fetch::command_at(blocks, p.block);
     let fault = p.fault(header, c);
     if fault.number() != 0 {
-        return Following::Nothing;
+        return Flow::End;
     }
-    follow_flow(p, Flow::of(c))
+    Flow::of(header, c)
 }
 
 // The number of a point in the marks.
@@ -36,32 +31,61 @@ pub fn number(task: u8, block: u32, depth: u32) -> usize
     ((block as usize) * limits::TASKS + task as usize) * limits::DEPTHS + depth as usize
 }
 
-// The points that a flow leads to.
-fn follow_flow(p: Point, f: Flow) -> Following
-    ensures { λ r. ⌜ numbers r ≡ indices (goes p f) ⌝ }
+// How many points a flow leads to.
+pub fn count(p: Point, f: Flow) -> usize
+    ensures { λ r. ⌜ r ≡ length (goes p f) ⌝ }
 {
-    let task = p.task;
-    let depth = p.depth as u32;
-    let next = number(task, p.block as u32 + 1, depth);
     match f {
-        Flow::Next => Following::One(next),
-        Flow::Wait => Following::One(next),
-        Flow::Jump(a) => Following::One(number(task, a as u32, depth)),
-        Flow::Branch(a) => Following::Two(number(task, a as u32, depth), next),
-        Flow::Call(a) => Following::Two(number(task, a as u32, depth + 1), next),
-        Flow::Return => Following::Nothing,
-        Flow::Start(u, a) => follow_start(u == task, number(u, a as u32, 0), next),
-        Flow::Restart => Following::Nothing,
-        Flow::End => Following::Nothing,
+        Flow::Next => 1,
+        Flow::Wait => 1,
+        Flow::Jump(_) => 1,
+        Flow::Branch(_) => 2,
+        Flow::Call(_) => 2,
+        Flow::Return => 0,
+        Flow::Start(u, _) => count_started(u == p.task),
+        Flow::Restart => 0,
+        Flow::End => 0,
     }
 }
 
 // Starting its own task, a command goes on at the named block alone.
-fn follow_start(own: bool, named: usize, next: usize) -> Following
-    ensures { λ r. ⌜ numbers r ≡ cond own (named ∷ []) (named ∷ next ∷ []) ⌝ }
+fn count_started(own: bool) -> usize
+    ensures { λ r. ⌜ r ≡ cond own 1 2 ⌝ }
 {
-    if own {
-        return Following::One(named);
+    if own { 1 } else { 2 }
+}
+
+// The k-th of them, by its number in the marks: the block that the flow names, if it names one, then the next block.
+pub fn successor(p: Point, f: Flow, k: usize) -> usize
+    requires { ⌜ k < length (goes p f) ⌝ }
+    ensures { λ r. ⌜ r ≡ getD (indices (goes p f)) k 0 ⌝ }
+{
+    if k > 0 {
+        return next(p);
     }
-    Following::Two(named, next)
+    first(p, f)
+}
+
+// The first of them; the next block where there is none.
+fn first(p: Point, f: Flow) -> usize
+    ensures { λ r. ⌜ r ≡ getD (indices (goes p f)) 0 (indexOf (beyond p)) ⌝ }
+{
+    match f {
+        Flow::Next => next(p),
+        Flow::Wait => next(p),
+        Flow::Jump(a) => number(p.task, a as u32, p.depth as u32),
+        Flow::Branch(a) => number(p.task, a as u32, p.depth as u32),
+        Flow::Call(a) => number(p.task, a as u32, p.depth as u32 + 1),
+        Flow::Return => next(p),
+        Flow::Start(u, a) => number(u, a as u32, 0),
+        Flow::Restart => next(p),
+        Flow::End => next(p),
+    }
+}
+
+// The next block.
+fn next(p: Point) -> usize
+    ensures { λ r. ⌜ r ≡ indexOf (beyond p) ⌝ }
+{
+    number(p.task, p.block as u32 + 1, p.depth as u32)
 }

@@ -65,7 +65,7 @@ unfolding types.takes homes.outputsWritten homes.homeIn homes.homeOf pins.onBoar
     tasks.foreign tasks.permitted fault.flowFault fault.faultOf
     program.commandAt program.faultAt
     indexOf pointAt
-    successors.successors successors.indices successors.nextOf
+    successors.flowAt successors.successors successors.indices successors.nextOf
     least
     verdict.leastForeign verdict.leastBad verdict.verdictBy
     closureFast walksFast blocksFast readFast verdictFast

@@ -7,7 +7,7 @@ use mathlib.Core.Logic.{_⊎_, inl, inr, ⊎-elim, _↔_}
 use mathlib.Core.List.{List, [], _∷_}
 use lib.Dec.{eqb, leb}
 use borrow.Author.Tests.{leb-true, le-leb}
-use Rattle.image.specs.declared.Header.{Header}
+use Rattle.flow.specs.Terms.{Terms}
 use Rattle.number.proofs.Choice.{clash}
 use Rattle.operands.specs.declared.Command.{Command}
 use Rattle.flow.specs.Flow.{flowOf, continues}
@@ -24,7 +24,7 @@ use Rattle.walk.proofs.Moves.{waitF}
 use Rattle.walk.proofs.Steps.{Special, step-follows, follow-step, may-stay}
 
 -- a step leads to this block
-pub record Leads (h : Header) (bs : List ℕ) (path : List Point) (p : Point) (c : Command) (x : ℕ) : Type 0 where
+pub record Leads (h : Terms) (bs : List ℕ) (path : List Point) (p : Point) (c : Command) (x : ℕ) : Type 0 where
   pub to : Point
   pub step : Step h bs path p c to
   pub block : to .block ≡ x
@@ -125,33 +125,33 @@ past-any count [] x m l = absurd m
 past-any count (y ∷ xs) x (inl e) l = rw (le-leb count y (rw e at l))
 past-any count (y ∷ xs) x (inr m) l = ap (λ (t : Bool). leb count y || t) (past-any count xs x m l) ∙ or-true (leb count y)
 
-module _ (h : Header) (bs : List ℕ) (path : List Point) (p : Point) (c : Command) (allowed : permitted (c .code) (p .task) ≡ true) where
+module _ (h : Terms) (bs : List ℕ) (path : List Point) (p : Point) (c : Command) (allowed : permitted h (c .code) (p .task) ≡ true) where
   -- the blocks that 12 judges are those that steps lead to
-  judged-lead : (x : ℕ) → In x (continues (p .task) (p .block) (flowOf c)) → Leads h bs path p c x
-  judged-lead x m = go (continues-follows p (flowOf c) x m)
+  judged-lead : (x : ℕ) → In x (continues (p .task) (p .block) (flowOf h c)) → Leads h bs path p c x
+  judged-lead x m = go (continues-follows p (flowOf h c) x m)
     where
-      go : Follows p (flowOf c) x → Leads h bs path p c x
+      go : Follows p (flowOf h c) x → Leads h bs path p c x
       go f = ⊎-elim (λ k. record { to = f .at; step = follow-step h bs path p c allowed (f .at) k; block = sym (f .block) })
           (λ w. record { to = p; step = Step.stay (may-stay h bs path p c allowed ∙ w .0); block = sym (f .block ∙ ap (λ (o : Point). o .block) (w .1)) })
           (f .member)
 
-  lead-judged : (c .code ≡ 0x51 → ⊥) → (q : Point) → Step h bs path p c q → In (q .block) (continues (p .task) (p .block) (flowOf c))
-  lead-judged n q s = ⊎-elim (λ m. follows-continues p (flowOf c) q m) special (step-follows h bs path p c allowed q s)
+  lead-judged : (c .code ≡ 0x51 → ⊥) → (q : Point) → Step h bs path p c q → In (q .block) (continues (p .task) (p .block) (flowOf h c))
+  lead-judged n q s = ⊎-elim (λ m. follows-continues p (flowOf h c) q m) special (step-follows h bs path p c allowed q s)
     where
-      special : Special h bs path p c q → In (q .block) (continues (p .task) (p .block) (flowOf c))
-      special (Special.stays w e) = rw e (waits-continues p (flowOf c) (sym (may-stay h bs path p c allowed) ∙ w))
+      special : Special h bs path p c q → In (q .block) (continues (p .task) (p .block) (flowOf h c))
+      special (Special.stays w e) = rw e (waits-continues p (flowOf h c) (sym (may-stay h bs path p c allowed) ∙ w))
       special (Special.restarts a k e i) = absurd (n k)
 
   -- so 12 holds exactly where a step leads past the end
   pub record LeadsPast : Type 0 where
     pub to : Point
     pub step : Step h bs path p c to
-    pub past : h .count ≤ to .block
+    pub past : h .header .count ≤ to .block
 
-  pub past-exactly : (c .code ≡ 0x51 → ⊥) → (anyPast (h .count) (continues (p .task) (p .block) (flowOf c)) ≡ true) ↔ LeadsPast
+  pub past-exactly : (c .code ≡ 0x51 → ⊥) → (anyPast (h .header .count) (continues (p .task) (p .block) (flowOf h c)) ≡ true) ↔ LeadsPast
   past-exactly n = (
-    λ e. let k = any-past (h .count) (continues (p .task) (p .block) (flowOf c)) e in
+    λ e. let k = any-past (h .header .count) (continues (p .task) (p .block) (flowOf h c)) e in
         let l = judged-lead (k .at) (k .member) in
         record { to = l .to; step = l .step; past = rw (l .block) (k .past) },
-    λ l. past-any (h .count) (continues (p .task) (p .block) (flowOf c)) (l .to .block) (lead-judged n (l .to) (l .step)) (l .past),
+    λ l. past-any (h .header .count) (continues (p .task) (p .block) (flowOf h c)) (l .to .block) (lead-judged n (l .to) (l .step)) (l .past),
   )

@@ -7,6 +7,7 @@ use Rattle.limits.specs.Limits.{bias, plc, mathematics}
 use Rattle.image.specs.declared.Header.{Header}
 use Rattle.rows.specs.Rows.{rowOf, rowIn, rows}
 use Rattle.operands.specs.Operands.{operands}
+use Rattle.flow.specs.Terms.{under}
 use Rattle.point.specs.Fault.{point}
 use Rattle.point.specs.declared.Point.{Point}
 use Rattle.walk.specs.Program.{commandAt}
@@ -27,19 +28,19 @@ header = record { format = 1; drive = record { model = 2; b = 0; c = 0 }; start 
 abbrev pub path : List Point
 path = point 0 4 0 ∷ point 0 3 0 ∷ point 0 2 0 ∷ point 0 1 0 ∷ point 0 0 0 ∷ []
 
-pub plc-latest : startOf header program plc path ≡ Named.at 11
+pub plc-latest : startOf (under header) program plc path ≡ Named.at 11
 unfolding startOf latest commandAt operands rowOf rowIn rows
 plc-latest = refl
 
-pub mathematics-latest : startOf header program mathematics path ≡ Named.at 13
+pub mathematics-latest : startOf (under header) program mathematics path ≡ Named.at 13
 unfolding startOf latest commandAt operands rowOf rowIn rows
 mathematics-latest = refl
 
-pub bias-start : startOf header program bias path ≡ Named.at 7
+pub bias-start : startOf (under header) program bias path ≡ Named.at 7
 unfolding startOf latest commandAt operands rowOf rowIn rows
 bias-start = refl
 
 -- a task that no command of the path started has no start
-pub no-start : startOf header program plc (point 0 3 0 ∷ point 0 2 0 ∷ []) ≡ Named.none
+pub no-start : startOf (under header) program plc (point 0 3 0 ∷ point 0 2 0 ∷ []) ≡ Named.none
 unfolding startOf latest commandAt operands rowOf rowIn rows
 no-start = refl

@@ -9,7 +9,7 @@ use native.Mathlib.Omega.{arith}
 use lib.Dec.{ltb}
 use borrow.Author.Tests.{ltb-true, ltb-false, le-ltb}
 use Rattle.limits.specs.Limits.{mostBlocks, marksLength}
-use Rattle.image.specs.declared.Header.{Header}
+use Rattle.flow.specs.Terms.{Terms}
 use Rattle.point.specs.declared.Point.{Point}
 use Rattle.walk.specs.Program.{faultAt}
 use Rattle.walk.specs.Walk.{Reaches}
@@ -26,7 +26,7 @@ use Rattle.walk.proofs.Least.{Member, least-below, least-found}
 use Rattle.walk.proofs.IndexLaws.{point-back, index-back, in-order}
 use Rattle.walk.proofs.History.{inside, next-few, reached-within, reached-number, number-reached, number-inside}
 
-module _ (h : Header) (bs : List ℕ) (most : h .count ≤ mostBlocks) (begins : h .start < h .count) where
+module _ (h : Terms) (bs : List ℕ) (most : h .header .count ≤ mostBlocks) (begins : h .header .start < h .header .count) where
   -- ---- an image has one verdict
 
   same-point : (p q : Point) → Reaches h bs p → Reaches h bs q → before p q ≡ false → before q p ≡ false → p ≡ q

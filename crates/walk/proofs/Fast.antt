@@ -13,7 +13,7 @@ use borrow.Author.Tests.{eqb-false, eq-eqb, ne-eqb}
 use Rattle.limits.specs.Limits.{marksLength}
 use Rattle.outcome.specs.Outcome.{done}
 use Rattle.image.specs.Scan.{headerOf, blocksOf}
-use Rattle.image.specs.declared.Header.{Header}
+use Rattle.flow.specs.Terms.{Terms, termsIn}
 use Rattle.image.specs.declared.reader.HeaderRead.{HeaderRead}
 use Rattle.number.proofs.Choice.{clash}
 use Rattle.walk.specs.Graph.{has, closure}
@@ -40,18 +40,18 @@ closureFast next (suc f) (p ∷ todo) m seen =
     elim (bit m p) [ true ↦ closureFast next f todo m seen | false ↦ closureFast next f (next p ++ todo) (m + 2 ^ p) (p ∷ seen) ]
 
 -- the verdict by the points reached, told by their numbers
-abbrev pub verdictAmong : Header → List ℕ → List ℕ → Verdict
+abbrev pub verdictAmong : Terms → List ℕ → List ℕ → Verdict
 verdictAmong h bs is = verdictBy h bs (leastForeign h bs is) (leastBad h bs is)
 
-unfoldable pub walksFast : Header → List ℕ → Verdict
+unfoldable pub walksFast : Terms → List ℕ → Verdict
 walksFast h bs = verdictAmong h bs (closureFast (nextOf h bs) fuel (rootOf h ∷ []) 0 [])
 
-unfoldable pub blocksFast : Header → List ℕ → ℕ → ℕ → Verdict
+unfoldable pub blocksFast : Terms → List ℕ → ℕ → ℕ → Verdict
 blocksFast h bs b zero = walksFast h bs
 blocksFast h bs b (suc n) = cond (eqb (blockNumber h bs b) 0) (blocksFast h bs (b + 1) n) (verdict.Block (blockFaultAt h bs b) b)
 
 unfoldable pub readFast : HeaderRead → List ℕ → Verdict
-readFast r bs = cond (done (r .outcome)) (blocksFast (r .header) bs 0 (r .header .count)) (verdict.Image (r .outcome))
+readFast r bs = cond (done (r .outcome)) (blocksFast (termsIn r) bs 0 (r .header .count)) (verdict.Image (r .outcome))
 
 unfoldable pub verdictFast : List ℕ → ℕ → Verdict
 verdictFast image n = cond (ltb n marksLength) (verdict.MarksShort n) (readFast (headerOf image) (blocksOf image))
@@ -120,15 +120,15 @@ no-bits : Bits 0 []
 no-bits q = rw (zero-div (2 ^ q)) refl
 
 -- over any fuel: its numeral comes last
-reached-same : (h : Header) (bs : List ℕ) (f : ℕ)
+reached-same : (h : Terms) (bs : List ℕ) (f : ℕ)
     → verdictAmong h bs (closureFast (nextOf h bs) f (rootOf h ∷ []) 0 []) ≡ verdictAmong h bs (closure (nextOf h bs) f (rootOf h ∷ []) [])
 reached-same h bs f = ap (verdictAmong h bs) (closure-same (nextOf h bs) f (rootOf h ∷ []) 0 [] no-bits)
 
-walks-same : (h : Header) (bs : List ℕ) → walksFast h bs ≡ walksVerdict h bs
+walks-same : (h : Terms) (bs : List ℕ) → walksFast h bs ≡ walksVerdict h bs
 unfolding walksFast walksVerdict reached
 walks-same h bs = reached-same h bs fuel
 
-blocks-same : (h : Header) (bs : List ℕ) (b n : ℕ) → blocksFast h bs b n ≡ blocksVerdict h bs b n
+blocks-same : (h : Terms) (bs : List ℕ) (b n : ℕ) → blocksFast h bs b n ≡ blocksVerdict h bs b n
 unfolding blocksFast blocksVerdict
 blocks-same h bs b zero = walks-same h bs
 blocks-same h bs b (suc n) =
@@ -136,7 +136,7 @@ blocks-same h bs b (suc n) =
 
 read-same : (r : HeaderRead) (bs : List ℕ) → readFast r bs ≡ readVerdict r bs
 unfolding readFast readVerdict
-read-same r bs = ap (λ (v : Verdict). cond (done (r .outcome)) v (verdict.Image (r .outcome))) (blocks-same (r .header) bs 0 (r .header .count))
+read-same r bs = ap (λ (v : Verdict). cond (done (r .outcome)) v (verdict.Image (r .outcome))) (blocks-same (termsIn r) bs 0 (r .header .count))
 
 pub fast-is : (image : List ℕ) (n : ℕ) → verdictFast image n ≡ verdictOf image n
 unfolding verdictFast verdictOf

@@ -10,7 +10,7 @@ use lib.Dec.{eqb}
 use lib.ListN.{length}
 use borrow.Author.Tests.{eqb-true}
 use Rattle.limits.specs.Limits.{bias, plc, mathematics, mostBlocks, marksLength}
-use Rattle.image.specs.declared.Header.{Header}
+use Rattle.flow.specs.Terms.{Terms}
 use Rattle.operands.specs.declared.Command.{Command}
 use Rattle.flow.specs.Flow.{flowOf}
 use Rattle.point.specs.Fault.{point}
@@ -19,7 +19,7 @@ use Rattle.fault.specs.declared.Fault.the-variants.{Fine}
 use Rattle.walk.specs.Program.{commandAt, faultAt}
 use Rattle.walk.specs.Walk.{Named, starts, latest, startOf, Walk, Reaches}
 use Rattle.walk.specs.Index.{Inside, indexOf, pointAt}
-use Rattle.walk.specs.Successors.{goes, successors, indices, nextOf}
+use Rattle.walk.specs.Successors.{goes, flowAt, successors, indices, nextOf}
 use Rattle.walk.specs.Graph.{In, Reach}
 use Rattle.walk.specs.Verdict.{rootOf}
 use Rattle.walk.proofs.IndexLaws.{point-back, below-marks}
@@ -46,12 +46,12 @@ indexed [] i m = absurd m
 indexed (x ∷ ps) i (inl e) = record { at = x; member = inl refl; number = e }
 indexed (x ∷ ps) i (inr m) = let k = indexed ps i m in record { at = k .at; member = inr (k .member); number = k .number }
 
-indices-few : (ps : List Point) → length (indices ps) ≡ length ps
+pub indices-long : (ps : List Point) → length (indices ps) ≡ length ps
 unfolding indices
-indices-few [] = refl
-indices-few (x ∷ ps) = ap suc (indices-few ps)
+indices-long [] = refl
+indices-long (x ∷ ps) = ap suc (indices-long ps)
 
-module _ (h : Header) (bs : List ℕ) (most : h .count ≤ mostBlocks) (begins : h .start < h .count) where
+module _ (h : Terms) (bs : List ℕ) (most : h .header .count ≤ mostBlocks) (begins : h .header .start < h .header .count) where
   abbrev Reached : Point → Type 0
   Reached p = Reach (nextOf h bs) (rootOf h) (indexOf p)
 
@@ -60,9 +60,9 @@ module _ (h : Header) (bs : List ℕ) (most : h .count ≤ mostBlocks) (begins :
 
   pub next-few : (i : ℕ) → length (nextOf h bs i) ≤ 2
   unfolding nextOf
-  next-few i = rw (indices-few (successors h bs (pointAt i))) (successors-few h bs (pointAt i))
+  next-few i = rw (indices-long (successors h bs (pointAt i))) (successors-few h bs (pointAt i))
 
-  first-within : Within h (point bias (h .start) 0)
+  first-within : Within h (point bias (h .header .start) 0)
   first-within = record { task = omega arith; block = begins; depth = omega arith }
 
   -- a point that follows a point reached is reached
@@ -71,8 +71,8 @@ module _ (h : Header) (bs : List ℕ) (most : h .count ≤ mostBlocks) (begins :
   reached-next p q w r m =
       Reach.step (indexOf p) (indexOf q) r (rw (point-back p (inside p w)) (index-in (successors h bs p) q m))
 
-  goes-on : (p q : Point) → faultAt h bs p ≡ Fine → In q (goes p (flowOf (commandAt bs (p .block)))) → In q (successors h bs p)
-  unfolding successors
+  goes-on : (p q : Point) → faultAt h bs p ≡ Fine → In q (goes p (flowOf h (commandAt bs (p .block)))) → In q (successors h bs p)
+  unfolding successors flowAt
   goes-on p q e m = rw e m
 
   -- ---- a walk's points are reached
@@ -141,9 +141,9 @@ module _ (h : Header) (bs : List ℕ) (most : h .count ≤ mostBlocks) (begins :
       second false i e = third (eqb task mathematics) refl e
 
       first : (t : Bool) → eqb task bias ≡ t
-          → cond t (Named.at (h .start)) (cond (eqb task plc) (latest bs 0x54 path) (cond (eqb task mathematics) (latest bs 0x90 path) Named.none)) ≡ Named.at a
+          → cond t (Named.at (h .header .start)) (cond (eqb task plc) (latest bs 0x54 path) (cond (eqb task mathematics) (latest bs 0x90 path) Named.none)) ≡ Named.at a
           → Reached (point task a 0) × Within h (point task a 0)
-      first true i e = let w : h .start ≡ a = cc in rw (eqb-true task bias i, ← w) (Reach.begin, first-within)
+      first true i e = let w : h .header .start ≡ a = cc in rw (eqb-true task bias i, ← w) (Reach.begin, first-within)
       first false i e = second (eqb task plc) refl e
 
   -- what holds all along a walk
@@ -166,7 +166,7 @@ module _ (h : Header) (bs : List ℕ) (most : h .count ≤ mostBlocks) (begins :
           all : All Sound (p ∷ path)
           all = (record { within = k .within; reach = k .reach; fine = fine }, k .passed)
 
-          along : In q (goes p (flowOf c)) ⊎ Special h bs (p ∷ path) p c q → Kept (p ∷ path) q
+          along : In q (goes p (flowOf h c)) ⊎ Special h bs (p ∷ path) p c q → Kept (p ∷ path) q
           along (inl m) =
               let f = goes-on p q fine m in
               record { within = successors-within h bs p q (k .within) f; reach = reached-next p q (k .within) (k .reach) f; passed = all }
@@ -186,14 +186,14 @@ module _ (h : Header) (bs : List ℕ) (most : h .count ≤ mostBlocks) (begins :
 
   -- one step more: the number is that of a successor, and the successor is reached by a step of the walk
   arrives-next : (i j : ℕ) → Arrives j → In i (nextOf h bs j) → Arrives i
-  unfolding nextOf successors faultAt
+  unfolding nextOf successors flowAt faultAt
   arrives-next i j a m =
       let p = a .at in
       let c = commandAt bs (p .block) in
       let back : pointAt j ≡ p = ap pointAt (a .number) ∙ point-back p (inside p (a .within)) in
       let k = indexed (successors h bs p) i (rw back at m) in
       let q = k .at in
-      let f = follows (faultAt h bs p) (goes p (flowOf c)) q (k .member) in
+      let f = follows (faultAt h bs p) (flowOf h c) p q (k .member) in
       let s = follow-step h bs (p ∷ a .walks .path) p c (passes h c p (f .0) .allowed) q (f .1) in
       record {
         at = q;
@@ -204,7 +204,7 @@ module _ (h : Header) (bs : List ℕ) (most : h .count ≤ mostBlocks) (begins :
 
   pub arrives : (i : ℕ) → Reach (nextOf h bs) (rootOf h) i → Arrives i
   arrives i Reach.begin =
-      record { at = point bias (h .start) 0; within = first-within; number = refl; walks = record { path = []; walk = Walk.begin } }
+      record { at = point bias (h .header .start) 0; within = first-within; number = refl; walks = record { path = []; walk = Walk.begin } }
   arrives i (Reach.step j k r m) = arrives-next i j (arrives j r) m
 
   -- ---- both

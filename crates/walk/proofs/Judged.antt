@@ -12,7 +12,7 @@ use borrow.Author.Count.{below-more}
 use Rattle.limits.specs.Limits.{mostBlocks, marksLength}
 use Rattle.outcome.specs.Outcome.{done}
 use Rattle.image.specs.Scan.{headerOf, blocksOf}
-use Rattle.image.specs.declared.Header.{Header}
+use Rattle.flow.specs.Terms.{Terms, termsOf}
 use Rattle.outcome.specs.declared.Outcome.{Outcome}
 use Rattle.outcome.specs.declared.Outcome.the-variants.{Done, EndsEarly, NotShortest, OutOfRange, LeftOver, NoRoom}
 use Rattle.number.proofs.Choice.{clash, by}
@@ -33,22 +33,22 @@ is-done (LeftOver p) e = clash (sym e)
 is-done (NoRoom p) e = clash (sym e)
 
 module _ (image : List ℕ) (n : ℕ) where
-  abbrev h : Header
-  h = headerOf image .header
+  abbrev h : Terms
+  h = termsOf image
 
   abbrev bs : List ℕ
   bs = blocksOf image
 
   module _ (read : done (headerOf image .outcome) ≡ true) where
-    most : h .count ≤ mostBlocks
+    most : h .header .count ≤ mostBlocks
     most = header-good image (is-done _ read) .count .1
 
-    begins : h .start < h .count
+    begins : h .header .start < h .header .count
     begins = header-good image (is-done _ read) .start
 
     module _ (room : marksLength ≤ n) where
       -- the blocks before b pass; k are left
-      blocks-judged : (k b : ℕ) → b + k ≡ h .count → ((a : ℕ) → a < b → BlockPasses h bs a) → Judges image n (blocksVerdict h bs b k)
+      blocks-judged : (k b : ℕ) → b + k ≡ h .header .count → ((a : ℕ) → a < b → BlockPasses h bs a) → Judges image n (blocksVerdict h bs b k)
       unfolding blocksVerdict
       blocks-judged zero b e all =
           Judges.walks room read (λ a l. all a (omega arith)) (walksVerdict h bs) (verdict-says h bs most begins)
@@ -66,8 +66,8 @@ module _ (image : List ℕ) (n : ℕ) where
   verdict-judges = first (ltb n marksLength) refl
     where
       second : marksLength ≤ n → (t : Bool) → done (headerOf image .outcome) ≡ t
-          → Judges image n (cond t (blocksVerdict h bs 0 (h .count)) (verdict.Image (headerOf image .outcome)))
-      second room true e = blocks-judged e room (h .count) 0 (omega arith) (λ a l. absurd (omega arith))
+          → Judges image n (cond t (blocksVerdict h bs 0 (h .header .count)) (verdict.Image (headerOf image .outcome)))
+      second room true e = blocks-judged e room (h .header .count) 0 (omega arith) (λ a l. absurd (omega arith))
       second room false e = Judges.header room e
 
       first : (t : Bool) → ltb n marksLength ≡ t → Judges image n (cond t (verdict.MarksShort n) (readVerdict (headerOf image) bs))

@@ -16,6 +16,7 @@ use Rattle.rows.specs.declared.FlowKind.the-variants as kind
 use Rattle.rows.specs.declared.Row.{Row}
 use Rattle.rows.proofs.Laws.{every, every-row, same, same-is}
 use Rattle.rows.proofs.FlowKinds.{is, isOneOf}
+use Rattle.flow.specs.Terms.{Terms}
 use Rattle.flow.specs.Flow.{flowBy}
 use Rattle.flow.specs.Tasks.{boxes, permitted}
 use Rattle.point.specs.Fault.{point}
@@ -103,9 +104,9 @@ no-boxes (suc zero) = refl
 no-boxes (suc (suc zero)) = refl
 no-boxes (suc (suc (suc task))) = refl
 
-pub carried : (code task : ℕ) → permitted code task ≡ true → Flows code (rowOf code .flow)
+pub carried : (h : Terms) (code task : ℕ) → permitted h code task ≡ true → Flows code (rowOf code .flow)
 unfolding permitted rowOf
-carried code task e =
+carried h code task e =
     ⊎-elim (λ (n : rowIn rows code ≡ noRow). clash (sym e ∙ ap (λ (r : Row). getD (boxes (r .tasks)) task false) n ∙ no-boxes task)) (λ a. flows-of code (rowIn rows code) a)
     (every-row agrees rows all-agree code)
 

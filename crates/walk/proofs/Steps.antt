@@ -7,7 +7,7 @@ use mathlib.Core.Logic.{_⊎_, inl, inr, ⊎-elim}
 use mathlib.Core.List.{List}
 use lib.Dec.{eqb}
 use borrow.Author.Tests.{eqb-true, eqb-false, eq-eqb}
-use Rattle.image.specs.declared.Header.{Header}
+use Rattle.flow.specs.Terms.{Terms}
 use Rattle.rows.specs.Rows.{rowOf}
 use Rattle.operands.specs.declared.Command.{Command}
 use Rattle.flow.specs.Flow.{flowOf}
@@ -22,15 +22,15 @@ use Rattle.walk.proofs.Choice.{test}
 use Rattle.walk.proofs.Moves.{Flows, carried, onBy, startsBy, callF, waitF, Flowing, flowing, Move, moved, moves}
 
 -- where a step leads that is no move
-pub data Special (h : Header) (bs : List ℕ) (path : List Point) (p : Point) (c : Command) (q : Point) : Type 0 where
+pub data Special (h : Terms) (bs : List ℕ) (path : List Point) (p : Point) (c : Command) (q : Point) : Type 0 where
   stays : waits (c .code) ≡ true → q ≡ p → Special h bs path p c q
   restarts : (a : ℕ) → c .code ≡ 0x51 → startOf h bs (p .task) path ≡ Named.at a → q ≡ point (p .task) a 0 → Special h bs path p c q
 
-module _ (h : Header) (bs : List ℕ) (path : List Point) (p : Point) (c : Command) (allowed : permitted (c .code) (p .task) ≡ true) where
+module _ (h : Terms) (bs : List ℕ) (path : List Point) (p : Point) (c : Command) (allowed : permitted h (c .code) (p .task) ≡ true) where
   codes : Flows (c .code) (rowOf (c .code) .flow)
-  codes = carried (c .code) (p .task) allowed
+  codes = carried h (c .code) (p .task) allowed
 
-  flow : Flowing (rowOf (c .code) .flow) (c .word) (flowOf c)
+  flow : Flowing (rowOf (c .code) .flow) (c .word) (flowOf h c)
   unfolding flowOf
   flow = flowing (c .x) (c .word) (rowOf (c .code) .flow) (codes .some)
 
@@ -41,10 +41,10 @@ module _ (h : Header) (bs : List ℕ) (path : List Point) (p : Point) (c : Comma
   on t =
       rw (codes .ends, codes .calls, codes .returns, codes .goes-to, codes .begins-bias, codes .begins-plc, codes .begins-mathematics)
 
-  called : c .code ≡ 0x52 → callF (flowOf c) ≡ true
+  called : c .code ≡ 0x52 → callF (flowOf h c) ≡ true
   called e = sym (flow .call) ∙ sym (codes .calls) ∙ eq-eqb _ _ e
 
-  step-move : (q : Point) → Step h bs path p c q → Move (flowOf c) (c .word) p q ⊎ Special h bs path p c q
+  step-move : (q : Point) → Step h bs path p c q → Move (flowOf h c) (c .word) p q ⊎ Special h bs path p c q
   step-move _ (Step.next e) = inl (Move.on (sym (flow .on (p .task)) ∙ sym (on (p .task)) ∙ e))
   step-move _ (Step.stay e) = inr (Special.stays e refl)
   step-move _ (Step.jump e) = inl (Move.jump (sym (flow .jump) ∙ sym (codes .jumping) ∙ e))
@@ -54,7 +54,7 @@ module _ (h : Header) (bs : List ℕ) (path : List Point) (p : Point) (c : Comma
   step-move _ (Step.own e) = inl (Move.start (p .task) (sym (flow .start (p .task)) ∙ sym (begins (p .task)) ∙ e))
   step-move _ (Step.restart a e x s) = inr (Special.restarts a e s refl)
 
-  move-step : (q : Point) → Move (flowOf c) (c .word) p q → Step h bs path p c q
+  move-step : (q : Point) → Move (flowOf h c) (c .word) p q → Step h bs path p c q
   move-step _ (Move.on e) = Step.next (on (p .task) ∙ flow .on (p .task) ∙ e)
   move-step _ (Move.jump e) = Step.jump (codes .jumping ∙ flow .jump ∙ e)
   move-step _ (Move.call e) = Step.call (eqb-true _ _ (codes .calls ∙ flow .call ∙ e))
@@ -68,16 +68,16 @@ module _ (h : Header) (bs : List ℕ) (path : List Point) (p : Point) (c : Comma
       own i = rw i (Step.own (rw i at there))
 
   -- a step leads to a point that follows, stays, or returns to a start
-  pub step-follows : (q : Point) → Step h bs path p c q → In q (goes p (flowOf c)) ⊎ Special h bs path p c q
-  step-follows q s = ⊎-elim (λ m. inl (moved (c .word) p (flowOf c) (flow .names) q m)) (λ k. inr k) (step-move q s)
+  pub step-follows : (q : Point) → Step h bs path p c q → In q (goes p (flowOf h c)) ⊎ Special h bs path p c q
+  step-follows q s = ⊎-elim (λ m. inl (moved (c .word) p (flowOf h c) (flow .names) q m)) (λ k. inr k) (step-move q s)
 
-  pub follow-step : (q : Point) → In q (goes p (flowOf c)) → Step h bs path p c q
-  follow-step q m = move-step q (moves (c .word) p (flowOf c) (flow .names) q m)
+  pub follow-step : (q : Point) → In q (goes p (flowOf h c)) → Step h bs path p c q
+  follow-step q m = move-step q (moves (c .word) p (flowOf h c) (flow .names) q m)
 
   -- the point that a start names follows
-  pub start-follows : (u : ℕ) → starts (c .code) u ≡ true → In (point u (c .word) 0) (goes p (flowOf c))
-  start-follows u e = moved (c .word) p (flowOf c) (flow .names) _ (Move.start u (sym (flow .start u) ∙ sym (begins u) ∙ e))
+  pub start-follows : (u : ℕ) → starts (c .code) u ≡ true → In (point u (c .word) 0) (goes p (flowOf h c))
+  start-follows u e = moved (c .word) p (flowOf h c) (flow .names) _ (Move.start u (sym (flow .start u) ∙ sym (begins u) ∙ e))
 
   -- a command may stay exactly when its flow is a wait
-  pub may-stay : waits (c .code) ≡ waitF (flowOf c)
+  pub may-stay : waits (c .code) ≡ waitF (flowOf h c)
   may-stay = codes .staying ∙ flow .stay

@@ -10,7 +10,7 @@ use lib.ListN.{length}
 use lib.Dec.{eqb, leb}
 use borrow.Author.Tests.{leb-false}
 use Rattle.limits.specs.Limits.{taskCount, mostDepth}
-use Rattle.image.specs.declared.Header.{Header}
+use Rattle.flow.specs.Terms.{Terms}
 use Rattle.number.proofs.Choice.{clash}
 use Rattle.rows.specs.Rows.{rowOf}
 use Rattle.rows.specs.declared.FlowKind.{FlowKind}
@@ -26,7 +26,7 @@ use Rattle.fault.specs.declared.Fault.{Fault}
 use Rattle.fault.specs.declared.Fault.the-variants.{Fine, Foreign, Forbidden, TooDeep, NoCall, PastEnd}
 use Rattle.walk.specs.Program.{commandAt, faultAt}
 use Rattle.walk.specs.Graph.{In}
-use Rattle.walk.specs.Successors.{goes, unless, successors}
+use Rattle.walk.specs.Successors.{goes, unless, flowAt, successors}
 use Rattle.walk.proofs.Choice.{neither}
 
 -- whether a fault is none
@@ -50,27 +50,27 @@ not-second true f g k e = (refl, e)
 not-second false f g k e = clash (sym (ap kind e) ∙ k)
 
 -- what is known of a command at a point that breaks nothing
-pub record Passes (h : Header) (c : Command) (p : Point) : Type 0 where
+pub record Passes (h : Terms) (c : Command) (p : Point) : Type 0 where
   pub own : foreign (p .task) c ≡ false
-  pub allowed : permitted (c .code) (p .task) ≡ true
-  pub shallow : tooDeep (flowOf c) (p .depth) ≡ false
-  pub called : noCall (flowOf c) (p .depth) ≡ false
-  pub ahead : anyPast (h .count) (continues (p .task) (p .block) (flowOf c)) ≡ false
+  pub allowed : permitted h (c .code) (p .task) ≡ true
+  pub shallow : tooDeep (flowOf h c) (p .depth) ≡ false
+  pub called : noCall (flowOf h c) (p .depth) ≡ false
+  pub ahead : anyPast (h .header .count) (continues (p .task) (p .block) (flowOf h c)) ≡ false
 
-pub passes : (h : Header) (c : Command) (p : Point) → faultOf h c p ≡ Fine → Passes h c p
+pub passes : (h : Terms) (c : Command) (p : Point) → faultOf h c p ≡ Fine → Passes h c p
 unfolding faultOf flowFault kind
 passes h c p e =
     let a = not-first (foreign (p .task) c) Foreign _ refl e in
-    let b = not-second (permitted (c .code) (p .task)) _ Forbidden refl (a .1) in
-    let d = not-first (tooDeep (flowOf c) (p .depth)) TooDeep _ refl (b .1) in
-    let f = not-first (noCall (flowOf c) (p .depth)) NoCall _ refl (d .1) in
-    let g = not-first (anyPast (h .count) (continues (p .task) (p .block) (flowOf c))) PastEnd Fine refl (f .1) in
+    let b = not-second (permitted h (c .code) (p .task)) _ Forbidden refl (a .1) in
+    let d = not-first (tooDeep (flowOf h c) (p .depth)) TooDeep _ refl (b .1) in
+    let f = not-first (noCall (flowOf h c) (p .depth)) NoCall _ refl (d .1) in
+    let g = not-first (anyPast (h .header .count) (continues (p .task) (p .block) (flowOf h c))) PastEnd Fine refl (f .1) in
     record { own = a .0; allowed = b .0; shallow = d .0; called = f .0; ahead = g .0 }
 
 -- a point of a task, a block and a depth of the image
-pub record Within (h : Header) (p : Point) : Type 0 where
+pub record Within (h : Terms) (p : Point) : Type 0 where
   pub task : p .task < taskCount
-  pub block : p .block < h .count
+  pub block : p .block < h .header .count
   pub depth : p .depth ≤ mostDepth
 
 -- a start names one of the three tasks
@@ -102,9 +102,9 @@ small flowKind.Ending x word = ends (eqb x 0)
     ends true = tt
     ends false = tt
 
-small-flow : (c : Command) → Small (flowOf c)
+small-flow : (h : Terms) (c : Command) → Small (flowOf h c)
 unfolding flowOf
-small-flow c = small (rowOf (c .code) .flow) (c .x) (c .word)
+small-flow h c = small (rowOf (c .code) .flow) (c .x) (c .word)
 
 abbrev All : (Point → Type 0) → List Point → Type 0
 All P [] = Unit {0}
@@ -118,8 +118,8 @@ all-in P (p ∷ ps) a q m = ⊎-elim (λ i. rw i (a .0)) (λ n. all-in P ps (a .
 near : (count b : ℕ) (rest : Bool) → (leb count b || rest) ≡ false → (b < count) × (rest ≡ false)
 near count b rest e = let n = neither (leb count b) rest e in (leb-false count b (n .0), n .1)
 
-goes-within : (h : Header) (p : Point) → Within h p → (f : Flow) → Small f → tooDeep f (p .depth) ≡ false
-    → anyPast (h .count) (continues (p .task) (p .block) f) ≡ false → All (Within h) (goes p f)
+goes-within : (h : Terms) (p : Point) → Within h p → (f : Flow) → Small f → tooDeep f (p .depth) ≡ false
+    → anyPast (h .header .count) (continues (p .task) (p .block) f) ≡ false → All (Within h) (goes p f)
 goes-within h p w Next s d e = (record { task = w .task; block = near _ _ _ e .0; depth = w .depth }, tt)
 goes-within h p w Wait s d e = (record { task = w .task; block = near _ _ _ e .0; depth = w .depth }, tt)
 goes-within h p w (Jump a) s d e = (record { task = w .task; block = near _ _ _ e .0; depth = w .depth }, tt)
@@ -133,7 +133,7 @@ goes-within h p w (Call a) s d e =
 goes-within h p w Return s d e = tt
 goes-within h p w (Start u a) s d e = choose (eqb u (p .task)) e
   where
-    choose : (t : Bool) → anyPast (h .count) (cond t (a ∷ []) (a ∷ (p .block + 1) ∷ [])) ≡ false
+    choose : (t : Bool) → anyPast (h .header .count) (cond t (a ∷ []) (a ∷ (p .block + 1) ∷ [])) ≡ false
         → All (Within h) (cond t (point u a 0 ∷ []) (point u a 0 ∷ point (p .task) (p .block + 1) (p .depth) ∷ []))
     choose true k = (record { task = s; block = near _ _ _ k .0; depth = omega arith }, tt)
     choose false k =
@@ -143,22 +143,21 @@ goes-within h p w Restart s d e = tt
 goes-within h p w End s d e = tt
 
 -- what follows a point follows from its flow, and the point breaks nothing
-pub follows : (f : Fault) (ps : List Point) (q : Point) → In q (unless f ps) → (f ≡ Fine) × In q ps
-follows Fine ps q m = (refl, m)
-follows Foreign ps q m = absurd m
-follows Forbidden ps q m = absurd m
-follows TooDeep ps q m = absurd m
-follows NoCall ps q m = absurd m
-follows PastEnd ps q m = absurd m
+pub follows : (f : Fault) (g : Flow) (p q : Point) → In q (goes p (unless f g)) → (f ≡ Fine) × In q (goes p g)
+follows Fine g p q m = (refl, m)
+follows Foreign g p q m = absurd m
+follows Forbidden g p q m = absurd m
+follows TooDeep g p q m = absurd m
+follows NoCall g p q m = absurd m
+follows PastEnd g p q m = absurd m
 
-pub successors-within : (h : Header) (bs : List ℕ) (p q : Point) → Within h p → In q (successors h bs p) → Within h q
-unfolding successors faultAt
+pub successors-within : (h : Terms) (bs : List ℕ) (p q : Point) → Within h p → In q (successors h bs p) → Within h q
+unfolding successors flowAt faultAt
 successors-within h bs p q w m =
     let c = commandAt bs (p .block) in
-    let g = goes p (flowOf c) in
-    let f = follows (faultAt h bs p) g q m in
+    let f = follows (faultAt h bs p) (flowOf h c) p q m in
     let k = passes h c p (f .0) in
-    all-in (Within h) g (goes-within h p w (flowOf c) (small-flow c) (k .shallow) (k .ahead)) q (f .1)
+    all-in (Within h) (goes p (flowOf h c)) (goes-within h p w (flowOf h c) (small-flow h c) (k .shallow) (k .ahead)) q (f .1)
 
 goes-few : (p : Point) (f : Flow) → length (goes p f) ≤ 2
 goes-few p Next = omega arith
@@ -175,14 +174,6 @@ goes-few p (Start u a) = choose (eqb u (p .task))
 goes-few p Restart = omega arith
 goes-few p End = omega arith
 
-unless-few : (f : Fault) (ps : List Point) → length ps ≤ 2 → length (unless f ps) ≤ 2
-unless-few Fine ps h = h
-unless-few Foreign ps h = omega arith
-unless-few Forbidden ps h = omega arith
-unless-few TooDeep ps h = omega arith
-unless-few NoCall ps h = omega arith
-unless-few PastEnd ps h = omega arith
-
-pub successors-few : (h : Header) (bs : List ℕ) (p : Point) → length (successors h bs p) ≤ 2
+pub successors-few : (h : Terms) (bs : List ℕ) (p : Point) → length (successors h bs p) ≤ 2
 unfolding successors
-successors-few h bs p = unless-few (faultAt h bs p) _ (goes-few p (flowOf (commandAt bs (p .block))))
+successors-few h bs p = goes-few p (flowAt h bs p)

@@ -3,7 +3,7 @@ use Prim.Native.Nat.{ℕ, _+_, _*_}
 use mathlib.Core.List.{List, [], _∷_}
 use lib.ListN.{getD}
 use Rattle.limits.specs.Limits.{blockLength}
-use Rattle.image.specs.declared.Header.{Header}
+use Rattle.flow.specs.Terms.{Terms}
 use Rattle.operands.specs.Operands.{operands}
 use Rattle.command.specs.Judged.{blockFault, blockFaultNumber}
 use Rattle.command.specs.declared.BlockFault.{BlockFault}
@@ -26,13 +26,13 @@ unfoldable pub commandAt : List ℕ → ℕ → Command
 commandAt bs b = operands (blockAt bs b)
 
 -- what is wrong with block b by itself
-abbrev pub blockFaultAt : Header → List ℕ → ℕ → BlockFault
-blockFaultAt h bs b = blockFault h (blockAt bs b)
+abbrev pub blockFaultAt : Terms → List ℕ → ℕ → BlockFault
+blockFaultAt h bs b = blockFault (h .header) (blockAt bs b)
 
 -- its number: 5 to 8 or 23, 0 for none
-abbrev pub blockNumber : Header → List ℕ → ℕ → ℕ
+abbrev pub blockNumber : Terms → List ℕ → ℕ → ℕ
 blockNumber h bs b = blockFaultNumber (blockFaultAt h bs b)
 
 -- what the command at a point breaks there
-unfoldable pub faultAt : Header → List ℕ → Point → Fault
+unfoldable pub faultAt : Terms → List ℕ → Point → Fault
 faultAt h bs p = faultOf h (commandAt bs (p .block)) p

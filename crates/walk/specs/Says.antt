@@ -7,7 +7,7 @@ use mathlib.Core.List.{List}
 use Rattle.limits.specs.Limits.{marksLength}
 use Rattle.outcome.specs.Outcome.{done}
 use Rattle.image.specs.Scan.{headerOf, blocksOf}
-use Rattle.image.specs.declared.Header.{Header}
+use Rattle.flow.specs.Terms.{Terms, termsOf}
 use Rattle.point.specs.declared.Point.{Point}
 use Rattle.fault.specs.Fault.{isForeign, isBad}
 use Rattle.walk.specs.Program.{blockFaultAt, blockNumber, faultAt}
@@ -17,18 +17,18 @@ use Rattle.walk.specs.declared.Verdict.{Verdict}
 use Rattle.walk.specs.declared.Verdict.the-variants as verdict
 
 -- some walk reaches a 51 of another task's mode there
-abbrev pub ForeignAt : Header → List ℕ → Point → Type 0
+abbrev pub ForeignAt : Terms → List ℕ → Point → Type 0
 ForeignAt h bs p = Reaches h bs p × (isForeign (faultAt h bs p) ≡ true)
 
 -- some walk reaches a point there that is bad by 9 to 12
-abbrev pub BadAt : Header → List ℕ → Point → Type 0
+abbrev pub BadAt : Terms → List ℕ → Point → Type 0
 BadAt h bs p = Reaches h bs p × (isBad (faultAt h bs p) ≡ true)
 
 -- no walk reaches a foreign 51
-abbrev pub NoForeign : Header → List ℕ → Type 0
+abbrev pub NoForeign : Terms → List ℕ → Type 0
 NoForeign h bs = (p : Point) → ForeignAt h bs p → ⊥
 
-pub data Says (h : Header) (bs : List ℕ) : Verdict → Type 0 where
+pub data Says (h : Terms) (bs : List ℕ) : Verdict → Type 0 where
   -- accepted: no walk reaches anything wrong
   accepted : NoForeign h bs → ((p : Point) → BadAt h bs p → ⊥) → Says h bs verdict.Accepted
   -- 7: a walk reaches a foreign 51 at this block, and none at a block before it
@@ -39,16 +39,16 @@ pub data Says (h : Header) (bs : List ℕ) : Verdict → Type 0 where
 -- ---- the verdict on an image with marks of n bytes
 
 -- block b by itself passes 5 to 8 and 23
-abbrev pub BlockPasses : Header → List ℕ → ℕ → Type 0
+abbrev pub BlockPasses : Terms → List ℕ → ℕ → Type 0
 BlockPasses h bs b = blockNumber h bs b ≡ 0
 
 -- what a verdict says of an image: 13, then the header and the length, then the first block that is refused, then the walks
 pub data Judges (image : List ℕ) (n : ℕ) : Verdict → Type 0 where
   marks : n < marksLength → Judges image n (verdict.MarksShort n)
   header : marksLength ≤ n → done (headerOf image .outcome) ≡ false → Judges image n (verdict.Image (headerOf image .outcome))
-  block : marksLength ≤ n → done (headerOf image .outcome) ≡ true → (b : ℕ) → b < headerOf image .header .count
-      → ((a : ℕ) → a < b → BlockPasses (headerOf image .header) (blocksOf image) a) → (BlockPasses (headerOf image .header) (blocksOf image) b → ⊥)
-      → Judges image n (verdict.Block (blockFaultAt (headerOf image .header) (blocksOf image) b) b)
+  block : marksLength ≤ n → done (headerOf image .outcome) ≡ true → (b : ℕ) → b < termsOf image .header .count
+      → ((a : ℕ) → a < b → BlockPasses (termsOf image) (blocksOf image) a) → (BlockPasses (termsOf image) (blocksOf image) b → ⊥)
+      → Judges image n (verdict.Block (blockFaultAt (termsOf image) (blocksOf image) b) b)
   walks : marksLength ≤ n → done (headerOf image .outcome) ≡ true
-      → ((b : ℕ) → b < headerOf image .header .count → BlockPasses (headerOf image .header) (blocksOf image) b)
-      → (v : Verdict) → Says (headerOf image .header) (blocksOf image) v → Judges image n v
+      → ((b : ℕ) → b < termsOf image .header .count → BlockPasses (termsOf image) (blocksOf image) b)
+      → (v : Verdict) → Says (termsOf image) (blocksOf image) v → Judges image n v

@@ -4,7 +4,7 @@ use Prim.Native.Nat.{ℕ, _+_}
 use mathlib.Core.Bool.{cond}
 use mathlib.Core.List.{List, [], _∷_}
 use lib.Dec.{eqb}
-use Rattle.image.specs.declared.Header.{Header}
+use Rattle.flow.specs.Terms.{Terms}
 use Rattle.flow.specs.Flow.{flowOf}
 use Rattle.point.specs.Fault.{point}
 use Rattle.point.specs.declared.Point.{Point}
@@ -15,33 +15,42 @@ use Rattle.fault.specs.declared.Fault.the-variants.{Fine, Foreign, Forbidden, T
 use Rattle.walk.specs.Program.{commandAt, faultAt}
 use Rattle.walk.specs.Index.{indexOf, pointAt}
 
+-- the next block of the task, at the same depth
+abbrev pub beyond : Point → Point
+beyond p = point (p .task) (p .block + 1) (p .depth)
+
+-- the points that a flow leads to: at the block that it names, then at the next block
 abbrev pub goes : Point → Flow → List Point
-goes p Next = point (p .task) (p .block + 1) (p .depth) ∷ []
-goes p Wait = point (p .task) (p .block + 1) (p .depth) ∷ []
+goes p Next = beyond p ∷ []
+goes p Wait = beyond p ∷ []
 goes p (Jump a) = point (p .task) a (p .depth) ∷ []
-goes p (Branch a) = point (p .task) a (p .depth) ∷ point (p .task) (p .block + 1) (p .depth) ∷ []
-goes p (Call a) = point (p .task) a (p .depth + 1) ∷ point (p .task) (p .block + 1) (p .depth) ∷ []
+goes p (Branch a) = point (p .task) a (p .depth) ∷ beyond p ∷ []
+goes p (Call a) = point (p .task) a (p .depth + 1) ∷ beyond p ∷ []
 goes p Return = []
-goes p (Start u a) = cond (eqb u (p .task)) (point u a 0 ∷ []) (point u a 0 ∷ point (p .task) (p .block + 1) (p .depth) ∷ [])
+goes p (Start u a) = cond (eqb u (p .task)) (point u a 0 ∷ []) (point u a 0 ∷ beyond p ∷ [])
 goes p Restart = []
 goes p End = []
 
--- nothing follows a point that breaks something
-abbrev pub unless : Fault → List Point → List Point
-unless Fine ps = ps
-unless Foreign ps = []
-unless Forbidden ps = []
-unless TooDeep ps = []
-unless NoCall ps = []
-unless PastEnd ps = []
+-- a command that breaks something continues with nothing
+abbrev pub unless : Fault → Flow → Flow
+unless Fine f = f
+unless Foreign f = End
+unless Forbidden f = End
+unless TooDeep f = End
+unless NoCall f = End
+unless PastEnd f = End
 
-unfoldable pub successors : Header → List ℕ → Point → List Point
-successors h bs p = unless (faultAt h bs p) (goes p (flowOf (commandAt bs (p .block))))
+-- what the command at a point continues with there
+unfoldable pub flowAt : Terms → List ℕ → Point → Flow
+flowAt h bs p = unless (faultAt h bs p) (flowOf h (commandAt bs (p .block)))
+
+unfoldable pub successors : Terms → List ℕ → Point → List Point
+successors h bs p = goes p (flowAt h bs p)
 
 unfoldable pub indices : List Point → List ℕ
 indices [] = []
 indices (p ∷ ps) = indexOf p ∷ indices ps
 
 -- by number
-unfoldable pub nextOf : Header → List ℕ → ℕ → List ℕ
+unfoldable pub nextOf : Terms → List ℕ → ℕ → List ℕ
 nextOf h bs i = indices (successors h bs (pointAt i))

@@ -7,7 +7,7 @@ use lib.Dec.{eqb, ltb}
 use Rattle.limits.specs.Limits.{bias, mostBlocks, marksLength}
 use Rattle.outcome.specs.Outcome.{numberOf, placeOf, done}
 use Rattle.image.specs.Scan.{headerOf, blocksOf}
-use Rattle.image.specs.declared.Header.{Header}
+use Rattle.flow.specs.Terms.{Terms, termsIn}
 use Rattle.image.specs.declared.reader.HeaderRead.{HeaderRead}
 use Rattle.command.specs.Judged.{blockFaultNumber}
 use Rattle.fault.specs.Fault.{isForeign, isBad, faultNumber}
@@ -23,8 +23,8 @@ use Rattle.walk.specs.declared.Verdict.the-variants as verdict
 -- ---- the walks
 
 -- the first point's number
-abbrev pub rootOf : Header → ℕ
-rootOf h = indexOf (point bias (h .start) 0)
+abbrev pub rootOf : Terms → ℕ
+rootOf h = indexOf (point bias (h .header .start) 0)
 
 -- the most points that follow one
 abbrev pub mostFollowing : ℕ
@@ -34,35 +34,35 @@ mostFollowing = 2
 abbrev pub fuel : ℕ
 fuel = (mostFollowing + 1) * marksLength + 1
 
-unfoldable pub reached : Header → List ℕ → List ℕ
+unfoldable pub reached : Terms → List ℕ → List ℕ
 reached h bs = closure (nextOf h bs) fuel (rootOf h ∷ []) []
 
-unfoldable pub leastForeign : Header → List ℕ → List ℕ → ℕ
+unfoldable pub leastForeign : Terms → List ℕ → List ℕ → ℕ
 leastForeign h bs is = least (λ i. isForeign (faultAt h bs (pointAt i))) (λ i. pointAt i .block) mostBlocks is
 
-unfoldable pub leastBad : Header → List ℕ → List ℕ → ℕ
+unfoldable pub leastBad : Terms → List ℕ → List ℕ → ℕ
 leastBad h bs is = least (λ i. isBad (faultAt h bs (pointAt i))) (λ i. i) marksLength is
 
 -- by the least foreign block, or else the least bad point; a number past all blocks, or all points, is none
-unfoldable pub verdictBy : Header → List ℕ → ℕ → ℕ → Verdict
+unfoldable pub verdictBy : Terms → List ℕ → ℕ → ℕ → Verdict
 verdictBy h bs foreign bad =
     cond (ltb foreign mostBlocks) (verdict.Foreign foreign)
     (cond (ltb bad marksLength) (verdict.Bad (faultAt h bs (pointAt bad)) (pointAt bad)) verdict.Accepted)
 
-unfoldable pub walksVerdict : Header → List ℕ → Verdict
+unfoldable pub walksVerdict : Terms → List ℕ → Verdict
 walksVerdict h bs = verdictBy h bs (leastForeign h bs (reached h bs)) (leastBad h bs (reached h bs))
 
 -- ---- the blocks
 
 -- n blocks judged upwards from block b, then the walks
-unfoldable pub blocksVerdict : Header → List ℕ → ℕ → ℕ → Verdict
+unfoldable pub blocksVerdict : Terms → List ℕ → ℕ → ℕ → Verdict
 blocksVerdict h bs b zero = walksVerdict h bs
 blocksVerdict h bs b (suc n) = cond (eqb (blockNumber h bs b) 0) (blocksVerdict h bs (b + 1) n) (verdict.Block (blockFaultAt h bs b) b)
 
 -- ---- the image
 
 unfoldable pub readVerdict : HeaderRead → List ℕ → Verdict
-readVerdict r bs = cond (done (r .outcome)) (blocksVerdict (r .header) bs 0 (r .header .count)) (verdict.Image (r .outcome))
+readVerdict r bs = cond (done (r .outcome)) (blocksVerdict (termsIn r) bs 0 (r .header .count)) (verdict.Image (r .outcome))
 
 -- the verdict on an image, with marks of n bytes
 unfoldable pub verdictOf : List ℕ → ℕ → Verdict

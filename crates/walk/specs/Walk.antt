@@ -7,7 +7,7 @@ use mathlib.Core.Bool.{Bool, true, false, _&&_, _||_, not, cond}
 use mathlib.Core.List.{List, [], _∷_}
 use lib.Dec.{eqb}
 use Rattle.limits.specs.Limits.{bias, plc, mathematics}
-use Rattle.image.specs.declared.Header.{Header}
+use Rattle.flow.specs.Terms.{Terms}
 use Rattle.operands.specs.declared.Command.{Command}
 use Rattle.point.specs.Fault.{point}
 use Rattle.point.specs.declared.Point.{Point}
@@ -49,16 +49,16 @@ latest bs code [] = none
 latest bs code (p ∷ path) = cond (eqb (commandAt bs (p .block) .code) code) (at (commandAt bs (p .block) .word)) (latest bs code path)
 
 -- where a task starts: BIAS at the program start, the PLC at its latest 54's block, mathematics at its latest 90's
-unfoldable pub startOf : Header → List ℕ → ℕ → List Point → Named
+unfoldable pub startOf : Terms → List ℕ → ℕ → List Point → Named
 startOf h bs task path =
-    cond (eqb task bias) (at (h .start))
+    cond (eqb task bias) (at (h .header .start))
     (cond (eqb task plc) (latest bs 0x54 path)
     (cond (eqb task mathematics) (latest bs 0x90 path) none))
 
 -- ---- steps and walks
 
 -- one step from the point p, where the command c is, of a walk that has passed `path`, p included
-pub data Step (h : Header) (bs : List ℕ) (path : List Point) (p : Point) (c : Command) : Point → Type 0 where
+pub data Step (h : Terms) (bs : List ℕ) (path : List Point) (p : Point) (c : Command) : Point → Type 0 where
   next : goesOn (c .code) (p .task) ≡ true → Step h bs path p c (point (p .task) (p .block + 1) (p .depth))
   stay : stays (c .code) ≡ true → Step h bs path p c p
   jump : jumps (c .code) ≡ true → Step h bs path p c (point (p .task) (c .word) (p .depth))
@@ -74,12 +74,12 @@ pub data Step (h : Header) (bs : List ℕ) (path : List Point) (p : Point) (c : 
 
 -- a walk that has passed `path` and is now at a point. BIAS begins it at the program start, inside no call; it goes on only where nothing is broken:
 -- neither from a bad point nor from a foreign 51
-pub data Walk (h : Header) (bs : List ℕ) : List Point → Point → Type 0 where
-  begin : Walk h bs [] (point bias (h .start) 0)
+pub data Walk (h : Terms) (bs : List ℕ) : List Point → Point → Type 0 where
+  begin : Walk h bs [] (point bias (h .header .start) 0)
   onward : {path : List Point} {p : Point} (q : Point) → Walk h bs path p → faultAt h bs p ≡ Fine
       → Step h bs (p ∷ path) p (commandAt bs (p .block)) q → Walk h bs (p ∷ path) q
 
 -- some walk ends there
-pub record Reaches (h : Header) (bs : List ℕ) (p : Point) : Type 0 where
+pub record Reaches (h : Terms) (bs : List ℕ) (p : Point) : Type 0 where
   pub path : List Point
   pub walk : Walk h bs path p

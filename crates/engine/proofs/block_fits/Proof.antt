@@ -6,6 +6,7 @@ use lib.Dec.{eqb}
 use denote.Ref.{now}
 use Rattle.command.specs.Judged.{blockFaultNumber}
 use Rattle.fault.specs.Fault.{faultNumber}
+use Rattle.flow.specs.Terms.{under}
 use Rattle.walk.specs.Program.{faultAt}
 use Rattle.engine.proofs.block_fits.Statement.{statement}
 use Rattle.engine.proofs.block_fits.Tie as tie
@@ -22,4 +23,4 @@ block-fits-spec =
     (λ c.
     let a = c .before .before .before .before .before .before .args in
     ap₂ (λ (m n : ℕ). eqb m 0 && eqb n 0) (c .before .number .ensures ∙ ap blockFaultNumber (c .before .before .block-fault-at .ensures))
-    (c .number2 .ensures ∙ ap faultNumber (c .before .before .before .fault-at .ensures ∙ ap (faultAt (a .header) (now (a .blocks))) (c .before .before .before .before .point-of .ensures)))))
+    (c .number2 .ensures ∙ ap faultNumber (c .before .before .before .fault-at .ensures ∙ ap (faultAt (under (a .header)) (now (a .blocks))) (c .before .before .before .before .point-of .ensures)))))

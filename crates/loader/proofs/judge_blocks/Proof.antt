@@ -4,6 +4,7 @@ use denote.Ref.{now}
 use Rattle.loader.proofs.Upwards.{first-refused-is, none-refused-is}
 use borrow.Author.Needs.{needs}
 use Rattle.command.specs.declared.BlockFault.{BlockFault}
+use Rattle.flow.specs.Terms.{under}
 use Rattle.walk.specs.declared.Verdict.the-variants.{Block}
 use Rattle.loader.proofs.judge_blocks.Statement.{statement}
 use Rattle.loader.proofs.judge_blocks.Tie as tie
@@ -20,7 +21,7 @@ cast-t7 c = search needs
 returns : tie.Need-returns
 returns c =
     let s = c .before .before .before .before .before .before in (
-      ap (λ (f : BlockFault). Block f (c .before .before .before .first-refused .result)) (c .block-fault-at .ensures) ∙ first-refused-is (s .args .header) (now (s .args .blocks)) _ (c .before .before .before .first-refused .ensures) (c .before .if1 .taken),
+      ap (λ (f : BlockFault). Block f (c .before .before .before .first-refused .result)) (c .block-fault-at .ensures) ∙ first-refused-is (under (s .args .header)) (now (s .args .blocks)) _ (c .before .before .before .first-refused .ensures) (c .before .if1 .taken),
       record { long = refl; rest = λ k i. refl },
     )
 
@@ -34,7 +35,7 @@ returns-2 : tie.Need-returns-2
 returns-2 c =
     let s = c .before .before .before .before .before .before .before .before .before in
     let r = c .before .before .judge-walks .ensures in
-    (r .0 ∙ none-refused-is (s .args .header) (now (s .args .blocks)) _ (c .before .before .before .before .before .before .first-refused .ensures) (c .before .before .before .before .if1 .left), r .1)
+    (r .0 ∙ none-refused-is (under (s .args .header)) (now (s .args .blocks)) _ (c .before .before .before .before .before .before .first-refused .ensures) (c .before .before .before .before .if1 .left), r .1)
 
 pub judge-blocks-spec : {M : Type 1} → statement M
 judge-blocks-spec =

@@ -1,4 +1,5 @@
 -- `least_foreign` meets its contract: found is the least of the marked points before i at each turn. Assumes nothing.
+use Rattle.flow.specs.Terms.{under}
 use Prim.Native.Nat.{_-_, _≤_}
 use mathlib.Core.Path.{_≡_, _∙_}
 use mathlib.Core.Logic.{⊎-elim}
@@ -13,7 +14,7 @@ use Rattle.loader.proofs.search.least_foreign.Statement.{statement}
 use Rattle.loader.proofs.search.least_foreign.Tie as tie
 
 abbrev Inv-loop : tie.InvT-loop
-Inv-loop header blocks marks found₀ i₀ found i = (i ≤ marksLength) × LeastSo marks (foreignAt header blocks) blockOf mostBlocks i found
+Inv-loop header blocks marks found₀ i₀ found i = (i ≤ marksLength) × LeastSo marks (foreignAt (under header) blocks) blockOf mostBlocks i found
 
 abbrev μ-loop : tie.MeasureT-loop
 μ-loop header blocks marks found₀ i₀ found i = marksLength - i
@@ -41,7 +42,7 @@ loop-again c =
     let v = c .before .before .before .loop in
     let a = c .before .before .before .before .before .before .args in (
       omega arith,
-      ⊎-elim (λ w. rw (w .2 ∙ w .1 .ensures) (lowered-next (a .header) (now (a .blocks)) _ (v .i) (v .found) (v .inv .1) (w .0 .taken)))
+      ⊎-elim (λ w. rw (w .2 ∙ w .1 .ensures) (lowered-next (under (a .header)) (now (a .blocks)) _ (v .i) (v .found) (v .inv .1) (w .0 .taken)))
           (λ w. rw (w .1) (least-kept _ _ _ _ (v .i) (v .found) (v .inv .1) (λ m t. m (w .0 .left)))) (c .if1 .came),
     )
 
@@ -50,7 +51,7 @@ returns c =
     let v = c .before .loop in
     let s = c .before .before .before .before in
     let e : v .i ≡ marksLength = omega arith in
-    foreign-is (s .args .header) (now (s .args .blocks)) (s .pre .0) (now (s .args .marks)) (s .pre .1) (v .found) (rw e at (v .inv .1))
+    foreign-is (under (s .args .header)) (now (s .args .blocks)) (s .pre .0) (now (s .args .marks)) (s .pre .1) (v .found) (rw e at (v .inv .1))
 
 pub least-foreign-spec : {M : Type 1} → statement M
 least-foreign-spec =

@@ -2,6 +2,7 @@
 use mathlib.Core.Path.{sym, ap, _∙_}
 use borrow.Author.Tests.{not-true, not-false}
 use denote.Ref.{now}
+use Rattle.flow.specs.Terms.{under}
 use Rattle.walk.specs.Program.{faultAt}
 use Rattle.fault.specs.Fault.{isForeign}
 use Rattle.loader.specs.Search.{lowered}
@@ -30,12 +31,12 @@ returns c = rw (sym (c .before .is-foreign .ensures ∙ ap isForeign (c .before 
 returns-2 : tie.Need-returns-2
 returns-2 c =
     let a = c .before .before .before .before .before .before .before .args in
-    lower-less (a .header) (now (a .blocks)) (a .i) (a .found) _ _ (c .before .before .before .before .before .point-at .ensures) (c .before .before .before .fault-at .ensures) (sym (c .before .before .is-foreign .ensures) ∙ not-false _ (c .before .if1 .left)) (c .if2 .taken)
+    lower-less (under (a .header)) (now (a .blocks)) (a .i) (a .found) _ _ (c .before .before .before .before .before .point-at .ensures) (c .before .before .before .fault-at .ensures) (sym (c .before .before .is-foreign .ensures) ∙ not-false _ (c .before .if1 .left)) (c .if2 .taken)
 
 returns-3 : tie.Need-returns-3
 returns-3 c =
     let a = c .before .before .before .before .before .before .before .args in
-    lower-not (a .header) (now (a .blocks)) (a .i) (a .found) _ _ (c .before .before .before .before .before .point-at .ensures) (c .before .before .before .fault-at .ensures) (sym (c .before .before .is-foreign .ensures) ∙ not-false _ (c .before .if1 .left)) (c .if2 .left)
+    lower-not (under (a .header)) (now (a .blocks)) (a .i) (a .found) _ _ (c .before .before .before .before .before .point-at .ensures) (c .before .before .before .fault-at .ensures) (sym (c .before .before .is-foreign .ensures) ∙ not-false _ (c .before .if1 .left)) (c .if2 .left)
 
 pub lower-spec : {M : Type 1} → statement M
 lower-spec =

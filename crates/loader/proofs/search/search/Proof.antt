@@ -1,5 +1,6 @@
 -- `search` meets its contract: the marks begin with the first point alone, are walked to the end, and the least is told. Assumes nothing.
 use denote.Ref.{now}
+use Rattle.flow.specs.Terms.{under}
 use Rattle.walk.specs.Verdict.{rootOf}
 use Rattle.walk.proofs.History.{number-inside}
 use Rattle.loader.proofs.Laws.{begun, all-dirty}
@@ -14,7 +15,7 @@ root-requires c κs = search needs
 clear-requires : tie.Need-clear-requires
 clear-requires c κs =
     let s = c .before .before .before .before in
-    let h = s .args .header in
+    let h = under (s .args .header) in
     let i = number-inside h (now (s .args .blocks)) (s .pre .0 .most) (s .pre .0 .begins) (rootOf h) Reach.begin in
     (s .pre .1, rw (c .root .ensures) i)
 

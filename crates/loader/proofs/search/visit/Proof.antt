@@ -1,134 +1,78 @@
--- `visit` meets its contract: the points that follow are touched, one after the other, and the point is done. Assumes nothing.
-use mathlib.Core.Path.{refl, sym, ap, _∙_}
-use mathlib.Core.Logic.{inl, inr}
-use native.Mathlib.Omega.{arith}
-use lib.ListN.{length-set}
-use denote.Ref.{now}
-use Rattle.walk.specs.Successors.{nextOf}
-use Rattle.walk.specs.Verdict.{rootOf}
-use Rattle.walk.proofs.History.{number-inside}
-use Rattle.program.specs.Numbers.{numbers}
-use Rattle.loader.specs.Search.{touched, touchedAll}
-use Rattle.loader.proofs.Laws.{visit-is, touch-inside}
+-- `visit` meets its contract: the points that follow are touched, one after the other, and the point is done. The loop's invariant: k of them are touched.
+-- Assumes nothing.
 use borrow.Author.Needs.{needs}
-use Rattle.loader.proofs.Laws.{follow-next}
+use Prim.Native.Nat.{ℕ, _-_, _≤_, _<_}
+use mathlib.Core.Path.{_≡_, refl, sym, ap, _∙_}
+use mathlib.Core.List.{List}
+use native.Mathlib.Omega.{arith}
+use lib.ListN.{length, length-set, take}
+use lib.Seq.{take-length}
+use denote.Ref.{now}
+use Rattle.flow.specs.Terms.{under}
+use Rattle.walk.specs.Successors.{goes, indices, nextOf}
+use Rattle.walk.specs.Verdict.{rootOf}
+use Rattle.walk.proofs.History.{number-inside, indices-long}
+use Rattle.loader.specs.Search.{board, touched, touchedAll}
+use Rattle.loader.proofs.Laws.{visit-is, touch-inside, touched-more, next-is, kth-in}
 use Rattle.loader.proofs.search.visit.Statement.{statement}
 use Rattle.loader.proofs.search.visit.Tie as tie
 
-point-at-requires : tie.Need-point-at-requires
-point-at-requires c κs = search needs
+abbrev Inv-loop : tie.InvT-loop
+Inv-loop blocks marks₀ dirty₀ p at flow count cursor₀ k₀ marks dirty cursor k =
+    (board marks dirty cursor ≡ touchedAll (take k (indices (goes at flow))) (board marks₀ dirty₀ p)) × (k ≤ count) × (length marks ≡ length marks₀)
 
-follow-requires : tie.Need-follow-requires
-follow-requires c κs = search needs
-
-enum-told : tie.Need-enum-told
-enum-told c = search needs
-
-slice-write-marks : tie.Need-slice-write-marks
-slice-write-marks c = search needs
-
-enum-known-a : tie.Need-enum-known-a
-enum-known-a c = search needs
-
-touch-requires : tie.Need-touch-requires
-touch-requires c κs =
-    let s = c .before .before .before .before .before .before .before .before .before in
-    let h = s .args .header in
-    let bs = now (s .args .blocks) in
-    let a = c .before .before .before .a .given in
-    let i = touch-inside (nextOf h bs) (rootOf h) (number-inside h bs (s .pre .0 .most) (s .pre .0 .begins)) _ _ (s .pre .1 .0) (s .pre .1 .1 .1) _
-    (sym (ap numbers (a .1)) ∙ follow-next h bs (s .args .p) _ (c .before .before .before .before .before .follow .result) (c .before .before .before .before .before .before .point-at .ensures) (c .before .before .before .before .before .follow .ensures)) (a .0 .0) (inl refl) in
-    (omega (arith, s .pre .1 .0 .long), i)
-
-slice-write-marks-2 : tie.Need-slice-write-marks-2
-slice-write-marks-2 c = search needs
-
-enum-known-a-2 : tie.Need-enum-known-a-2
-enum-known-a-2 c = search needs
-
-touch-requires-2 : tie.Need-touch-requires-2
-touch-requires-2 c κs =
-    let s = c .before .before .before .before .before .before .before .before .before in
-    let h = s .args .header in
-    let bs = now (s .args .blocks) in
-    let a = c .before .before .before .a2 .given in
-    let i = touch-inside (nextOf h bs) (rootOf h) (number-inside h bs (s .pre .0 .most) (s .pre .0 .begins)) _ _ (s .pre .1 .0) (s .pre .1 .1 .1) _
-    (sym (ap numbers (a .1)) ∙ follow-next h bs (s .args .p) _ (c .before .before .before .before .before .follow .result) (c .before .before .before .before .before .before .point-at .ensures) (c .before .before .before .before .before .follow .ensures)) (a .0 .0) (inl refl) in
-    (omega (arith, s .pre .1 .0 .long), i)
-
-touch-requires-3 : tie.Need-touch-requires-3
-touch-requires-3 c κs =
-    let s = c .before .before .before .before .before .before .before .before .before .before .before .before .before .before in
-    let h = s .args .header in
-    let bs = now (s .args .blocks) in
-    let a = c .before .before .before .before .before .before .before .before .a2 .given in
-    let i = touch-inside (nextOf h bs) (rootOf h) (number-inside h bs (s .pre .0 .most) (s .pre .0 .begins)) _ _ (s .pre .1 .0) (s .pre .1 .1 .1) _
-    (sym (ap numbers (a .1)) ∙ follow-next h bs (s .args .p) _ (c .before .before .before .before .before .before .before .before .before .before .follow .result) (c .before .before .before .before .before .before .before .before .before .before .before .point-at .ensures) (c .before .before .before .before .before .before .before .before .before .before .follow .ensures)) (a .0 .1 .0) (inr (inl refl)) in
-    (omega (arith, s .pre .1 .0 .long, c .before .before .before .before .touch2 .kept .0), i)
-
-slice-write-marks-3 : tie.Need-slice-write-marks-3
-slice-write-marks-3 c = search needs
-
-same-length : tie.Need-same-length
-same-length c = search needs
-
-returns : tie.Need-returns
-unfolding touchedAll
-returns c =
-    let s = c .before .before .before .before .before .before in
-    let h = s .args .header in
-    let bs = now (s .args .blocks) in
-    let to = sym (ap numbers (c .enum-told .given .1)) in
-    visit-is (nextOf h bs) (s .args .p) _ _ _
-    (to ∙ follow-next h bs (s .args .p) _ (c .before .before .follow .result) (c .before .before .before .point-at .ensures) (c .before .before .follow .ensures))
-    refl
-
-same-length-2 : tie.Need-same-length-2
-same-length-2 c = search needs
-
-returns-2 : tie.Need-returns-2
-unfolding touchedAll
-returns-2 c =
-    let s = c .before .before .before .before .before .before .before .before .before .before .before .before in
-    let h = s .args .header in
-    let bs = now (s .args .blocks) in
-    let to = sym (ap numbers (c .before .before .before .before .before .before .a .given .1)) in
-    visit-is (nextOf h bs) (s .args .p) _ _ _
-    (to ∙ follow-next h bs (s .args .p) _ (c .before .before .before .before .before .before .before .before .follow .result) (c .before .before .before .before .before .before .before .before .before .point-at .ensures) (c .before .before .before .before .before .before .before .before .follow .ensures))
-    (c .before .before .touch .ensures)
-
-same-length-3 : tie.Need-same-length-3
-same-length-3 c = simp length-set (omega (arith, c .before .before .touch3 .kept .0, c .before .before .before .before .before .before .before .touch2 .kept .0))
-
-returns-3 : tie.Need-returns-3
-unfolding touchedAll
-returns-3 c =
-    let s = c .before .before .before .before .before .before .before .before .before .before .before .before .before .before .before .before .before in
-    let h = s .args .header in
-    let bs = now (s .args .blocks) in
-    let to = sym (ap numbers (c .before .before .before .before .before .before .before .before .before .before .before .a2 .given .1)) in
-    visit-is (nextOf h bs) (s .args .p) _ _ _
-    (to ∙ follow-next h bs (s .args .p) _ (c .before .before .before .before .before .before .before .before .before .before .before .before .before .follow .result) (c .before .before .before .before .before .before .before .before .before .before .before .before .before .before .point-at .ensures) (c .before .before .before .before .before .before .before .before .before .before .before .before .before .follow .ensures))
-    (c .before .before .touch3 .ensures ∙ ap (touched _) (c .before .before .before .before .before .before .before .touch2 .ensures))
+abbrev μ-loop : tie.MeasureT-loop
+μ-loop blocks marks₀ dirty₀ p at flow count cursor₀ k₀ marks dirty cursor k = count - k
 
 pub visit-spec : {M : Type 1} → statement M
+unfolding touchedAll
 visit-spec =
     tie.close
     (tie.spec
-    point-at-requires
-    follow-requires
-    enum-told
-    slice-write-marks
-    enum-known-a
-    touch-requires
-    slice-write-marks-2
-    enum-known-a-2
-    touch-requires-2
-    touch-requires-3
-    slice-write-marks-3
-    same-length
-    returns
-    same-length-2
-    returns-2
-    same-length-3
-    returns-3)
+    Inv-loop
+    μ-loop
+    (λ c κs. search needs)
+    (λ c κs. search needs)
+    (λ c κs. search needs)
+    (λ c. (refl, omega arith, refl))
+    (λ c κs. let n = c .before .before .before .before .count .ensures in let l = c .before .before .loop-test in omega arith)
+    (λ c κs.
+    let s = c .before .before .before .before .before .before .before .before .before .before in
+    let h = under (s .args .header) in
+    let bs = now (s .args .blocks) in
+    let at = c .before .before .before .before .before .before .before .point-at in
+    let flow = c .before .before .before .before .before .before .flow-at in
+    let qs = indices (goes (at .result) (flow .result)) in
+    let k = c .before .before .before .before .loop .k in
+    let l : k < length qs = let n = c .before .before .before .before .before .count .ensures in let m = c .before .before .before .loop-test in omega (arith, indices-long (goes (at .result) (flow .result))) in
+    let inside = number-inside h bs (s .pre .0 .most) (s .pre .0 .begins) in
+    let next = next-is h bs (s .args .p) (at .result) (flow .result) (at .ensures) (flow .ensures) in
+    let i = touch-inside (nextOf h bs) (rootOf h) inside _ _ (s .pre .1 .0) (s .pre .1 .1 .1) qs next _ (rw (c .successor .ensures) (kth-in qs k l)) in
+    (omega (arith, s .pre .1 .0 .long, c .before .before .before .before .loop .inv .2), i))
+    (λ c. search needs)
+    (λ c. search needs)
+    (λ c.
+    let flow = c .before .before .before .before .before .before .before .before .before .flow-at .result in
+    let qs = indices (goes (c .before .before .before .before .before .before .before .before .before .before .point-at .result) flow) in
+    let v = c .before .before .before .before .before .before .before .loop in
+    let n = c .before .before .before .before .before .before .before .before .count .ensures in
+    let m = c .before .before .before .before .before .before .loop-test in
+    let l : v .k < length qs = omega (arith, indices-long (goes (c .before .before .before .before .before .before .before .before .before .before .point-at .result) flow)) in
+    let touch = c .before .before .touch in
+    (touch .ensures ∙ (λ ι. touched (c .before .before .before .successor .ensures ι) (v .inv .0 ι)) ∙ sym (touched-more qs (v .k) l _), omega arith, touch .kept .0 ∙ v .inv .2))
+    (λ c. let s = c .before .before .before .before .before .before .before in omega (arith, s .pre .1 .0 .long, s .pre .1 .1 .0, c .before .loop .inv .2))
+    (λ c. simp length-set (c .before .loop .inv .2))
+    (λ c.
+    let s = c .before .before .before .before .before .before .before in
+    let h = under (s .args .header) in
+    let bs = now (s .args .blocks) in
+    let at = c .before .before .before .before .point-at in
+    let flow = c .before .before .before .flow-at in
+    let qs = indices (goes (at .result) (flow .result)) in
+    let v = c .before .loop in
+    let n = c .before .before .count .ensures in
+    let m = c .loop-test in
+    let all : v .k ≡ length qs = let l = v .inv .1 in omega (arith, indices-long (goes (at .result) (flow .result))) in
+    let b₀ = board (now (s .args .marks)) (now (s .args .dirty)) (s .args .p) in
+    visit-is (nextOf h bs) (s .args .p) qs b₀ _ (next-is h bs (s .args .p) (at .result) (flow .result) (at .ensures) (flow .ensures))
+    (v .inv .0 ∙ ap (λ (xs : List ℕ). touchedAll xs b₀) (ap (λ (i : ℕ). take i qs) all ∙ take-length qs))))

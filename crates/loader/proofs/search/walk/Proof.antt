@@ -4,6 +4,7 @@ use mathlib.Core.Path.{_≡_}
 use native.Mathlib.Omega.{arith}
 use denote.Ref.{now}
 use Rattle.limits.specs.Limits.{marksLength}
+use Rattle.flow.specs.Terms.{under}
 use Rattle.walk.specs.Successors.{nextOf}
 use Rattle.walk.specs.Verdict.{rootOf}
 use Rattle.walk.proofs.History.{number-inside}
@@ -13,7 +14,7 @@ use Rattle.loader.proofs.search.walk.Statement.{statement}
 use Rattle.loader.proofs.search.walk.Tie as tie
 
 abbrev Inv-loop : tie.InvT-loop
-Inv-loop header blocks marks₀ dirty₀ cursor₀ marks dirty cursor = Going (nextOf header blocks) (rootOf header) marks cursor × (cursor ≤ marksLength) × Paged marks dirty cursor
+Inv-loop header blocks marks₀ dirty₀ cursor₀ marks dirty cursor = Going (nextOf (under header) blocks) (rootOf (under header)) marks cursor × (cursor ≤ marksLength) × Paged marks dirty cursor
 
 abbrev μ-loop : tie.MeasureT-loop
 μ-loop header blocks marks₀ dirty₀ cursor₀ marks dirty cursor = (marksLength + 1) * undone marks + (marksLength - cursor)
@@ -63,7 +64,7 @@ loop-less-3 : tie.Need-loop-less-3 Inv-loop μ-loop
 loop-less-3 c =
     let s = c .before .before .before .before .before .before .before .before .before .before .before .before .before in
     let v = c .before .before .before .before .before .before .before .before .before .before .loop in
-    let i = number-inside (s .args .header) (now (s .args .blocks)) (s .pre .0 .most) (s .pre .0 .begins) in
+    let i = number-inside (under (s .args .header)) (now (s .args .blocks)) (s .pre .0 .most) (s .pre .0 .begins) in
     let k = visit-keeps _ _ i (v .marks) (v .dirty) (v .cursor) (v .inv .0) (c .before .before .before .before .before .if3 .taken) (v .inv .2) _ (c .before .before .visit .ensures) in
     omega (arith, k .less, k .low)
 
@@ -71,7 +72,7 @@ loop-again-3 : tie.Need-loop-again-3 Inv-loop μ-loop
 loop-again-3 c =
     let s = c .before .before .before .before .before .before .before .before .before .before .before .before .before in
     let v = c .before .before .before .before .before .before .before .before .before .before .loop in
-    let i = number-inside (s .args .header) (now (s .args .blocks)) (s .pre .0 .most) (s .pre .0 .begins) in
+    let i = number-inside (under (s .args .header)) (now (s .args .blocks)) (s .pre .0 .most) (s .pre .0 .begins) in
     let k = visit-keeps _ _ i (v .marks) (v .dirty) (v .cursor) (v .inv .0) (c .before .before .before .before .before .if3 .taken) (v .inv .2) _ (c .before .before .visit .ensures) in
     (k .going, omega (arith, k .low, v .inv .1), k .paged)
 
@@ -106,7 +107,7 @@ returns c =
     let l = c .before .loop in
     let s = c .before .before .before .before in
     let e : l .cursor ≡ marksLength = omega arith in
-    (searched (s .args .header) (now (s .args .blocks)) (s .pre .0) (l .marks) (rw e at (l .inv .0)), swept (l .marks) _ (rw e at (l .inv .2)))
+    (searched (under (s .args .header)) (now (s .args .blocks)) (s .pre .0) (l .marks) (rw e at (l .inv .0)), swept (l .marks) _ (rw e at (l .inv .2)))
 
 pub walk-spec : {M : Type 1} → statement M
 walk-spec =
