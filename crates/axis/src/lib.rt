@@ -8,13 +8,14 @@ use machine::Moment;
 use machine::Outcome;
 use machine::Request;
 use operands::Command;
+use state::FIRST_AXIS;
 use state::Values;
 ghost use mathlib.Core.Path.{_≡_};
 ghost use mathlib.Core.Bool.{true, cond};
 ghost use mathlib.Core.List.{[]};
 ghost use lib.IntN.{pos};
 ghost use Rattle.limits.specs.Limits.{mostSpeed, mostRamp};
-ghost use Rattle.state.specs.State.{withAxis, withMark, withPosition, withSpeed, withAcceleration, withDeceleration};
+ghost use Rattle.state.specs.State.{firstAxis, axisOf, withAxis, withMark, withPosition, withSpeed, withAcceleration, withDeceleration};
 ghost use Rattle.machine.specs.Given.{givenAt};
 ghost use Rattle.machine.specs.Effect.{effect, sets, flows, halts, assigns, variable, within, natural, started, axisRows, deedIn};
 ghost use Rattle.machine.specs.declared.Cause.the-variants.{BadContent};
@@ -55,7 +56,7 @@ fn started(m: Moment, v: Values) -> bool
     ensures { λ r. ⌜ r ≡ started (givenAt m []) v ⌝ }
 {
     let notes = v.notes;
-    (v.mark != 0) | ((m.start != 0) & (notes.level == 0))
+    (v.motion.mark != 0) | ((m.start != 0) & (notes.level == 0))
 }
 
 // A move starts, and clears the start mark, or its task stays.
@@ -70,33 +71,33 @@ fn moves(m: Moment, request: Request, v: Values) -> Effect
 
 // 00: a move to the stored position.
 fn move_to(m: Moment, v: Values) -> Effect
-    ensures { λ r. ⌜ r ≡ cond (started (givenAt m []) v) (effect (withMark 0 v) (request.MoveTo (v .axis)) GoOn) (flows v (Stay 0 0)) ⌝ }
+    ensures { λ r. ⌜ r ≡ cond (started (givenAt m []) v) (effect (withMark 0 v) (request.MoveTo (axisOf firstAxis v)) GoOn) (flows v (Stay 0 0)) ⌝ }
 {
-    let axis = v.axis;
+    let axis = v.axis(FIRST_AXIS);
     moves(m, Request::MoveTo(axis), v)
 }
 
 // 01: a move by the stored position.
 fn move_by(m: Moment, v: Values) -> Effect
-    ensures { λ r. ⌜ r ≡ cond (started (givenAt m []) v) (effect (withMark 0 v) (request.MoveBy (v .axis)) GoOn) (flows v (Stay 0 0)) ⌝ }
+    ensures { λ r. ⌜ r ≡ cond (started (givenAt m []) v) (effect (withMark 0 v) (request.MoveBy (axisOf firstAxis v)) GoOn) (flows v (Stay 0 0)) ⌝ }
 {
-    let axis = v.axis;
+    let axis = v.axis(FIRST_AXIS);
     moves(m, Request::MoveBy(axis), v)
 }
 
 // 03: endless, forward.
 fn forward(m: Moment, v: Values) -> Effect
-    ensures { λ r. ⌜ r ≡ cond (started (givenAt m []) v) (effect (withMark 0 v) (request.Forward (v .axis)) GoOn) (flows v (Stay 0 0)) ⌝ }
+    ensures { λ r. ⌜ r ≡ cond (started (givenAt m []) v) (effect (withMark 0 v) (request.Forward (axisOf firstAxis v)) GoOn) (flows v (Stay 0 0)) ⌝ }
 {
-    let axis = v.axis;
+    let axis = v.axis(FIRST_AXIS);
     moves(m, Request::Forward(axis), v)
 }
 
 // 04: endless, backward.
 fn backward(m: Moment, v: Values) -> Effect
-    ensures { λ r. ⌜ r ≡ cond (started (givenAt m []) v) (effect (withMark 0 v) (request.Backward (v .axis)) GoOn) (flows v (Stay 0 0)) ⌝ }
+    ensures { λ r. ⌜ r ≡ cond (started (givenAt m []) v) (effect (withMark 0 v) (request.Backward (axisOf firstAxis v)) GoOn) (flows v (Stay 0 0)) ⌝ }
 {
-    let axis = v.axis;
+    let axis = v.axis(FIRST_AXIS);
     moves(m, Request::Backward(axis), v)
 }
 
@@ -109,9 +110,9 @@ fn set_mark(v: Values) -> Effect
 
 // 0F: a stop of mode x, with the stored deceleration.
 fn stop(c: Command, v: Values) -> Effect
-    ensures { λ r. ⌜ r ≡ effect v (request.Stop (c .x) (v .axis .deceleration)) GoOn ⌝ }
+    ensures { λ r. ⌜ r ≡ effect v (request.Stop (c .x) (axisOf firstAxis v .deceleration)) GoOn ⌝ }
 {
-    let axis = v.axis;
+    let axis = v.axis(FIRST_AXIS);
     effect::asks(v, Request::Stop(c.x, axis.deceleration))
 }
 
@@ -124,73 +125,73 @@ fn stop_by(c: Command, v: Values) -> Effect
 
 // 20: position = value.
 fn set_position(c: Command, v: Values) -> Effect
-    ensures { λ r. ⌜ r ≡ sets (withAxis (withPosition (c .value) (v .axis)) v) ⌝ }
+    ensures { λ r. ⌜ r ≡ sets (withAxis firstAxis (withPosition (c .value) (axisOf firstAxis v)) v) ⌝ }
 {
-    let axis = v.axis;
-    effect::sets(v.with_axis(axis.with_position(c.value)))
+    let axis = v.axis(FIRST_AXIS);
+    effect::sets(v.with_axis(FIRST_AXIS, axis.with_position(c.value)))
 }
 
 // 21: speed = word.
 fn set_speed(c: Command, v: Values) -> Effect
-    ensures { λ r. ⌜ r ≡ sets (withAxis (withSpeed (c .word) (v .axis)) v) ⌝ }
+    ensures { λ r. ⌜ r ≡ sets (withAxis firstAxis (withSpeed (c .word) (axisOf firstAxis v)) v) ⌝ }
 {
-    let axis = v.axis;
-    effect::sets(v.with_axis(axis.with_speed(c.word)))
+    let axis = v.axis(FIRST_AXIS);
+    effect::sets(v.with_axis(FIRST_AXIS, axis.with_speed(c.word)))
 }
 
 // 22: acceleration = word.
 fn set_acceleration(c: Command, v: Values) -> Effect
-    ensures { λ r. ⌜ r ≡ sets (withAxis (withAcceleration (c .word) (v .axis)) v) ⌝ }
+    ensures { λ r. ⌜ r ≡ sets (withAxis firstAxis (withAcceleration (c .word) (axisOf firstAxis v)) v) ⌝ }
 {
-    let axis = v.axis;
-    effect::sets(v.with_axis(axis.with_acceleration(c.word)))
+    let axis = v.axis(FIRST_AXIS);
+    effect::sets(v.with_axis(FIRST_AXIS, axis.with_acceleration(c.word)))
 }
 
 // 23: deceleration = word.
 fn set_deceleration(c: Command, v: Values) -> Effect
-    ensures { λ r. ⌜ r ≡ sets (withAxis (withDeceleration (c .word) (v .axis)) v) ⌝ }
+    ensures { λ r. ⌜ r ≡ sets (withAxis firstAxis (withDeceleration (c .word) (axisOf firstAxis v)) v) ⌝ }
 {
-    let axis = v.axis;
-    effect::sets(v.with_axis(axis.with_deceleration(c.word)))
+    let axis = v.axis(FIRST_AXIS);
+    effect::sets(v.with_axis(FIRST_AXIS, axis.with_deceleration(c.word)))
 }
 
 // 30: position = variable x.
 fn load_position(c: Command, v: Values) -> Effect
-    ensures { λ r. ⌜ r ≡ sets (withAxis (withPosition (variable v (c .x)) (v .axis)) v) ⌝ }
+    ensures { λ r. ⌜ r ≡ sets (withAxis firstAxis (withPosition (variable v (c .x)) (axisOf firstAxis v)) v) ⌝ }
 {
-    let axis = v.axis;
-    effect::sets(v.with_axis(axis.with_position(effect::variable(v, c.x))))
+    let axis = v.axis(FIRST_AXIS);
+    effect::sets(v.with_axis(FIRST_AXIS, axis.with_position(effect::variable(v, c.x))))
 }
 
 // 40: variable x = position.
 fn store_position(c: Command, v: Values) -> Effect
-    ensures { λ r. ⌜ r ≡ assigns c (v .axis .position) v ⌝ }
+    ensures { λ r. ⌜ r ≡ assigns c (axisOf firstAxis v .position) v ⌝ }
 {
-    let axis = v.axis;
+    let axis = v.axis(FIRST_AXIS);
     effect::assigns(c, axis.position, v)
 }
 
 // 41: variable x = speed.
 fn store_speed(c: Command, v: Values) -> Effect
-    ensures { λ r. ⌜ r ≡ assigns c (pos (v .axis .speed)) v ⌝ }
+    ensures { λ r. ⌜ r ≡ assigns c (pos (axisOf firstAxis v .speed)) v ⌝ }
 {
-    let axis = v.axis;
+    let axis = v.axis(FIRST_AXIS);
     effect::assigns(c, axis.speed as i32, v)
 }
 
 // 42: variable x = acceleration.
 fn store_acceleration(c: Command, v: Values) -> Effect
-    ensures { λ r. ⌜ r ≡ assigns c (pos (v .axis .acceleration)) v ⌝ }
+    ensures { λ r. ⌜ r ≡ assigns c (pos (axisOf firstAxis v .acceleration)) v ⌝ }
 {
-    let axis = v.axis;
+    let axis = v.axis(FIRST_AXIS);
     effect::assigns(c, axis.acceleration as i32, v)
 }
 
 // 43: variable x = deceleration.
 fn store_deceleration(c: Command, v: Values) -> Effect
-    ensures { λ r. ⌜ r ≡ assigns c (pos (v .axis .deceleration)) v ⌝ }
+    ensures { λ r. ⌜ r ≡ assigns c (pos (axisOf firstAxis v .deceleration)) v ⌝ }
 {
-    let axis = v.axis;
+    let axis = v.axis(FIRST_AXIS);
     effect::assigns(c, axis.deceleration as i32, v)
 }
 
@@ -211,36 +212,45 @@ fn natural(most: u16, content: i32) -> u16
 
 // 31: speed = variable x.
 fn load_speed(c: Command, v: Values) -> Effect
-    ensures { λ r. ⌜ r ≡ cond (within 1 mostSpeed (variable v (c .x))) (sets (withAxis (withSpeed (natural (variable v (c .x))) (v .axis)) v)) (halts BadContent v) ⌝ }
+    ensures { λ r. ⌜ r ≡ cond (within 1 mostSpeed (variable v (c .x)))
+        (sets (withAxis firstAxis (withSpeed (natural (variable v (c .x))) (axisOf firstAxis v)) v)) (halts BadContent v) ⌝ }
 {
     let content = effect::variable(v, c.x);
     if within(MOST_SPEED, content) {
-        let axis = v.axis;
-        return effect::sets(v.with_axis(axis.with_speed(natural(MOST_SPEED, content))));
+        let axis = v.axis(FIRST_AXIS);
+        return effect::sets(v.with_axis(FIRST_AXIS, axis.with_speed(natural(MOST_SPEED, content))));
     }
     effect::halts(Cause::BadContent, v)
 }
 
 // 32: acceleration = variable x.
 fn load_acceleration(c: Command, v: Values) -> Effect
-    ensures { λ r. ⌜ r ≡ cond (within 1 mostRamp (variable v (c .x))) (sets (withAxis (withAcceleration (natural (variable v (c .x))) (v .axis)) v)) (halts BadContent v) ⌝ }
+    ensures { λ r. ⌜ r ≡ cond (within 1 mostRamp (variable v (c .x)))
+        (sets (withAxis firstAxis (withAcceleration (natural (variable v (c .x))) (axisOf firstAxis v)) v)) (halts BadContent v) ⌝ }
 {
     let content = effect::variable(v, c.x);
     if within(MOST_RAMP, content) {
-        let axis = v.axis;
-        return effect::sets(v.with_axis(axis.with_acceleration(natural(MOST_RAMP, content))));
+        let axis = v.axis(FIRST_AXIS);
+        return effect::sets(v.with_axis(
+            FIRST_AXIS,
+            axis.with_acceleration(natural(MOST_RAMP, content)),
+        ));
     }
     effect::halts(Cause::BadContent, v)
 }
 
 // 33: deceleration = variable x.
 fn load_deceleration(c: Command, v: Values) -> Effect
-    ensures { λ r. ⌜ r ≡ cond (within 1 mostRamp (variable v (c .x))) (sets (withAxis (withDeceleration (natural (variable v (c .x))) (v .axis)) v)) (halts BadContent v) ⌝ }
+    ensures { λ r. ⌜ r ≡ cond (within 1 mostRamp (variable v (c .x)))
+        (sets (withAxis firstAxis (withDeceleration (natural (variable v (c .x))) (axisOf firstAxis v)) v)) (halts BadContent v) ⌝ }
 {
     let content = effect::variable(v, c.x);
     if within(MOST_RAMP, content) {
-        let axis = v.axis;
-        return effect::sets(v.with_axis(axis.with_deceleration(natural(MOST_RAMP, content))));
+        let axis = v.axis(FIRST_AXIS);
+        return effect::sets(v.with_axis(
+            FIRST_AXIS,
+            axis.with_deceleration(natural(MOST_RAMP, content)),
+        ));
     }
     effect::halts(Cause::BadContent, v)
 }

@@ -5,6 +5,7 @@ use image::reader;
 use limits::CELLS;
 use limits::STACK_LENGTH;
 use limits::STATE_LENGTH;
+use state::Motion;
 use state::State;
 use state::Task;
 use state::Values;
@@ -13,7 +14,7 @@ ghost use lib.Dec.{eqb};
 ghost use lib.ListN.{length};
 ghost use Rattle.limits.specs.Limits.{mostDepth, cells, stateLength};
 ghost use Rattle.layout.specs.Layout.{unusedLength};
-ghost use Rattle.layout.specs.Test.{allOf, levelIs, entryIs, waitIs, taskIs, valuesAre, stateIs, unusedZero, frameIs, isState};
+ghost use Rattle.layout.specs.Test.{allOf, levelIs, entryIs, waitIs, taskIs, motionIs, valuesAre, stateIs, unusedZero, frameIs, isState};
 
 const UNUSED_AT: usize = layout::UNUSED_AT as usize;
 
@@ -68,17 +69,22 @@ pub fn state_is(s: State) -> bool
             & (task_is(header, bias) & (task_is(header, plc) & task_is(header, mathematics))))
 }
 
-// Flags and outputs 0 or 1, parameters in their ranges, start mark and preceding start level 0 or 1.
+// Cells, motion and notes: flags and outputs 0 or 1, and the preceding start level.
 fn values_are(v: Values) -> bool
     ensures { λ r. ⌜ r ≡ valuesAre v ⌝ }
 {
-    levels_are(&v.flags)
-        & (levels_are(&v.outputs)
-            & (limits::up_to(limits::MOST_SPEED, v.axis.speed)
-                & (limits::up_to(limits::MOST_RAMP, v.axis.acceleration)
-                    & (limits::up_to(limits::MOST_RAMP, v.axis.deceleration)
-                        & ((v.mark <= limits::MOST_LEVEL)
-                            & (v.notes.level <= limits::MOST_LEVEL))))))
+    (levels_are(&v.cells.flags) & levels_are(&v.cells.outputs))
+        & (motion_is(v.motion) & (v.notes.level <= limits::MOST_LEVEL))
+}
+
+// Parameters in their ranges, start mark 0 or 1.
+fn motion_is(m: Motion) -> bool
+    ensures { λ r. ⌜ r ≡ motionIs m ⌝ }
+{
+    limits::up_to(limits::MOST_SPEED, m.axis.speed)
+        & (limits::up_to(limits::MOST_RAMP, m.axis.acceleration)
+            & (limits::up_to(limits::MOST_RAMP, m.axis.deceleration)
+                & (m.mark <= limits::MOST_LEVEL)))
 }
 
 fn levels_are(levels: &[u8; CELLS]) -> bool

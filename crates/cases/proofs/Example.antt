@@ -44,7 +44,7 @@ record Computed : Type 0 where
   verdict : verdictFast image marksLength ≡ Accepted
   answers : answersOf (outs image (loaded image) steps) ≡ answers
   places : placesOf (stateAfter image (loaded image) steps .tasks) ≡ places
-  flag : getD (stateAfter image (loaded image) steps .values .flags) 1 0 ≡ 1
+  flag : getD (stateAfter image (loaded image) steps .values .cells .flags) 1 0 ≡ 1
 
 computed : Computed
 unfolding

@@ -50,7 +50,7 @@ pub fn halts(cause: Cause, values: Values) -> Effect
 pub fn variable(values: Values, x: u8) -> i32
     ensures { λ r. ⌜ r ≡ variable values x ⌝ }
 {
-    let variables = values.variables;
+    let variables = values.cells.variables;
     variables[x as usize]
 }
 
@@ -58,7 +58,7 @@ pub fn variable(values: Values, x: u8) -> i32
 pub fn flag(values: Values, x: u8) -> u8
     ensures { λ r. ⌜ r ≡ flag values x ⌝ }
 {
-    let flags = values.flags;
+    let flags = values.cells.flags;
     flags[x as usize]
 }
 
@@ -66,7 +66,7 @@ pub fn flag(values: Values, x: u8) -> u8
 pub fn output(values: Values, x: u8) -> u8
     ensures { λ r. ⌜ r ≡ output values x ⌝ }
 {
-    let outputs = values.outputs;
+    let outputs = values.cells.outputs;
     outputs[x as usize]
 }
 

@@ -14,15 +14,15 @@ use Rattle.layout.specs.Codecs.{layoutNumber, layoutWidths, headerWidths
 use Rattle.layout.specs.Layout.{lengths, sections, encoded}
 use Rattle.layout.proofs.Codecs.{variables-long, task-long}
 
-module _ (s : State) (flags : length (s .values .flags) ≡ cells) (outputs : length (s .values .outputs) ≡ cells) where
+module _ (s : State) (flags : length (s .values .cells .flags) ≡ cells) (outputs : length (s .values .cells .outputs) ≡ cells) where
   -- each section has its length
   pub long : lens (sections s) ≡ lengths
   long =
       let v = s .values in
-      let variables = variables-long (v .variables) in
+      let variables = variables-long (v .cells .variables) in
       let layout = record-long layoutWidths (layoutNumber ∷ []) refl in
       let header = record-long headerWidths (numbersOf (s .header)) refl in
-      let motion = record-long motionWidths (motionRecord (v .axis) (v .mark)) refl in
+      let motion = record-long motionWidths (motionRecord (v .motion)) refl in
       let notes = record-long notesWidths (v .notes .level ∷ []) refl in
       let starts = record-long startWidths (taskAt s plc .start ∷ taskAt s mathematics .start ∷ []) refl in
       let t0 = task-long (taskAt s bias) in

@@ -26,14 +26,14 @@ use Rattle.places.proofs.Tables.{table-is, length-table, getD-table}
 use Rattle.sections.specs.Records.{recordBytes, recordIn}
 use Rattle.sections.proofs.Sections.{lens, length-joined, section, moved, end, part, together, at-first}
 use Rattle.sections.proofs.Records.{FitWidths, record-back, record-has}
-use Rattle.state.specs.Good.{GoodAxis}
+use Rattle.state.specs.Good.{GoodMotion, GoodNotes}
 use Rattle.state.specs.State.{taskAt}
 use Rattle.state.specs.declared.State.{State}
 use Rattle.state.specs.declared.Task.{Task}
-use Rattle.state.specs.declared.Axis.{Axis}
+use Rattle.state.specs.declared.Motion.{Motion}
 use Rattle.state.specs.declared.Notes.{Notes}
 use Rattle.layout.specs.Codecs.{variablesLength, variableBytes, variablesIn, levelsLength, levelsIn, headerWidths, headerBytes, headerIn}
-use Rattle.layout.specs.Codecs.{motionWidths, motionRecord, motionBytes, axisFrom, axisIn, markIn, notesWidths, notesBytes, notesIn, startWidths, startBytes, startsIn}
+use Rattle.layout.specs.Codecs.{motionWidths, motionRecord, motionBytes, motionFrom, motionIn, notesWidths, notesBytes, notesIn, startWidths, startBytes, startsIn}
 use Rattle.layout.specs.Codecs.{stackBytes, stackIn, taskLengths, taskLength, taskPart, taskParts, taskBytes, taskIn}
 use Rattle.layout.proofs.Bounds.{TaskFits}
 
@@ -90,25 +90,27 @@ header-back l at h g x = ap headerFrom (record-back headerWidths (numbersOf h) l
 
 -- ---- motion
 
-module _ (l : List ℕ) (at : ℕ) (a : Axis) (mark : ℕ) (g : GoodAxis a) (m : mark ≤ mostLevel) (x : Has l at (motionBytes a mark)) where
-  motion-back : recordIn motionWidths l at ≡ motionRecord a mark
-  motion-back =
-      let p = word-fits w32 (a .position) .fits in
-      let s = g .speed .bounded in
-      let c = g .acceleration .bounded in
-      let d = g .deceleration .bounded in
-      record-back motionWidths (motionRecord a mark) l at (p, (omega arith, (omega arith, (omega arith, (omega arith, refl))))) x
+motion-fits : (m : Motion) → GoodMotion m → FitWidths motionWidths (motionRecord m)
+motion-fits m g =
+    let p = word-fits w32 (m .axis .position) .fits in
+    let s = g .axis .speed .bounded in
+    let c = g .axis .acceleration .bounded in
+    let d = g .axis .deceleration .bounded in
+    let k = g .mark in
+    (p, (omega arith, (omega arith, (omega arith, (omega arith, refl)))))
 
-  pub axis-back : axisIn l at ≡ a
-  unfolding wrap
-  axis-back =
-      ap axisFrom motion-back
-      ∙ λ ι. record { position = wrap-same w32 (a .position) (g .position) ι; speed = a .speed; acceleration = a .acceleration; deceleration = a .deceleration }
+pub motion-back : (l : List ℕ) (at : ℕ) (m : Motion) → GoodMotion m → Has l at (motionBytes m) → motionIn l at ≡ m
+unfolding wrap
+motion-back l at m g x =
+    let a = m .axis in
+    ap motionFrom (record-back motionWidths (motionRecord m) l at (motion-fits m g) x)
+    ∙ λ ι.
+    record {
+      axis = record { position = wrap-same w32 (a .position) (g .axis .position) ι; speed = a .speed; acceleration = a .acceleration; deceleration = a .deceleration };
+      mark = m .mark;
+    }
 
-  pub mark-back : markIn l at ≡ mark
-  mark-back = ap (λ (ns : List ℕ). getD ns 4 0) motion-back
-
-pub motion-has : (b : List ℕ) (at : ℕ) → Bytes b → Has b at (motionBytes (axisIn b at) (markIn b at))
+pub motion-has : (b : List ℕ) (at : ℕ) → Bytes b → Has b at (motionBytes (motionIn b at))
 motion-has b at bytes =
     subst (λ (p : ℕ). Has b at (recordBytes motionWidths (p ∷ n 1 ∷ n 2 ∷ n 3 ∷ n 4 ∷ []))) (sym same) (record-has motionWidths b at bytes)
   where
@@ -122,8 +124,10 @@ motion-has b at bytes =
 
 -- ---- notes
 
-pub notes-back : (l : List ℕ) (at : ℕ) (n : Notes) → n .level ≤ mostLevel → Has l at (notesBytes n) → notesIn l at ≡ n
-notes-back l at n h x = ap (λ (ns : List ℕ). record { level = getD ns 0 0 }) (record-back notesWidths (n .level ∷ []) l at (omega arith, refl) x)
+pub notes-back : (l : List ℕ) (at : ℕ) (n : Notes) → GoodNotes n → Has l at (notesBytes n) → notesIn l at ≡ n
+notes-back l at n g x =
+    let h = g .level in
+    ap (λ (ns : List ℕ). record { level = getD ns 0 0 }) (record-back notesWidths (n .level ∷ []) l at (omega arith, refl) x)
 
 -- ---- the start blocks
 

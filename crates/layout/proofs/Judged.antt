@@ -18,13 +18,15 @@ use Rattle.image.specs.Rows.{accepts}
 use Rattle.image.specs.declared.Header.{Header}
 use Rattle.image.proofs.Rows.{accepted-good, good-accepted}
 use Rattle.number.proofs.Choice.{by, both}
-use Rattle.state.specs.Good.{GoodWait, GoodTask, InRange, GoodValues, Good}
+use Rattle.state.specs.Good.{GoodWait, GoodTask, InRange, GoodCells, GoodMotion, GoodValues, Good}
 use Rattle.state.specs.State.{halted, taskAt}
 use Rattle.state.specs.Wait.{due}
 use Rattle.state.specs.declared.Task.{Task}
+use Rattle.state.specs.declared.Cells.{Cells}
+use Rattle.state.specs.declared.Motion.{Motion}
 use Rattle.state.specs.declared.Values.{Values}
 use Rattle.state.specs.declared.State.{State}
-use Rattle.layout.specs.Test.{allOf, waitIs, entryIs, taskIs, levelIs, valuesAre, stateIs}
+use Rattle.layout.specs.Test.{allOf, waitIs, entryIs, taskIs, levelIs, cellsAre, motionIs, notesAre, valuesAre, stateIs}
 
 -- one of two tests was passed
 one : (a b : Bool) → (a || b) ≡ true → (a ≡ true) ⊎ (b ≡ true)
@@ -143,55 +145,72 @@ judged-levels l long e i =
     by i cells (λ c. leb-true (getD l i 0) mostLevel (all-true levelIs l cells e i c))
     (λ c. let z = List·getD-eq-default l 0 {n = i} (omega arith) in omega arith)
 
+cells-judged : (c : Cells) → GoodCells c → cellsAre c ≡ true
+cells-judged c g = rw (levels-judged (c .flags) (g .flag), levels-judged (c .outputs) (g .output))
+
+motion-judged : (m : Motion) → GoodMotion m → motionIs m ≡ true
+motion-judged m g =
+    rw (
+      range-judged mostSpeed (m .axis .speed) (g .axis .speed),
+      range-judged mostRamp (m .axis .acceleration) (g .axis .acceleration),
+      range-judged mostRamp (m .axis .deceleration) (g .axis .deceleration),
+      le-leb (m .mark) mostLevel (g .mark),
+    )
+
 values-judged : (v : Values) → GoodValues v → valuesAre v ≡ true
 values-judged v g =
-    rw (
-      levels-judged (v .flags) (g .flag),
-      levels-judged (v .outputs) (g .output),
-      range-judged mostSpeed (v .axis .speed) (g .axis .speed),
-      range-judged mostRamp (v .axis .acceleration) (g .axis .acceleration),
-      range-judged mostRamp (v .axis .deceleration) (g .axis .deceleration),
-      le-leb (v .mark) mostLevel (g .mark),
-      le-leb (v .notes .level) mostLevel (g .level),
-    )
+    rw (cells-judged (v .cells) (g .cells), motion-judged (v .motion) (g .motion), le-leb (v .notes .level) mostLevel (g .notes .level))
 
 -- ---- the state
 
 -- what no test says of a state and the buffer's shape does: lengths, numbers that fit, BIAS's start
 pub record Shaped (s : State) : Type 0 where
-  pub variables : length (s .values .variables) ≡ cells
-  pub signed : (i : ℕ) → SFits w32 (getD (s .values .variables) i (pos 0))
-  pub flags : length (s .values .flags) ≡ cells
-  pub outputs : length (s .values .outputs) ≡ cells
-  pub position : SFits w32 (s .values .axis .position)
+  pub variables : length (s .values .cells .variables) ≡ cells
+  pub signed : (i : ℕ) → SFits w32 (getD (s .values .cells .variables) i (pos 0))
+  pub flags : length (s .values .cells .flags) ≡ cells
+  pub outputs : length (s .values .cells .outputs) ≡ cells
+  pub position : SFits w32 (s .values .motion .axis .position)
   pub three : length (s .tasks) ≡ taskCount
   pub stack : (t : ℕ) → t < taskCount → length (taskAt s t .stack) ≡ mostDepth
   pub first : taskAt s bias .start ≡ s .header .start
 
-judged-values : (v : Values) → length (v .variables) ≡ cells → ((i : ℕ) → SFits w32 (getD (v .variables) i (pos 0))) → length (v .flags) ≡ cells
-    → length (v .outputs) ≡ cells → SFits w32 (v .axis .position) → valuesAre v ≡ true → GoodValues v
-judged-values v variables signed flags outputs position e =
-    let r1 = both (allOf levelIs (v .flags) cells) _ e in
-    let r2 = both (allOf levelIs (v .outputs) cells) _ (r1 .1) in
-    let r3 = both (upTo mostSpeed (v .axis .speed)) _ (r2 .1) in
-    let r4 = both (upTo mostRamp (v .axis .acceleration)) _ (r3 .1) in
-    let r5 = both (upTo mostRamp (v .axis .deceleration)) _ (r4 .1) in
-    let r6 = both (leb (v .mark) mostLevel) (leb (v .notes .level) mostLevel) (r5 .1) in
+judged-cells : (s : State) → Shaped s → cellsAre (s .values .cells) ≡ true → GoodCells (s .values .cells)
+judged-cells s x e =
+    let c = s .values .cells in
+    let r = both (allOf levelIs (c .flags) cells) (allOf levelIs (c .outputs) cells) e in
     record {
-      variables = variables;
-      signed = signed;
-      flags = flags;
-      flag = judged-levels (v .flags) flags (r1 .0);
-      outputs = outputs;
-      output = judged-levels (v .outputs) outputs (r2 .0);
+      variables = x .variables;
+      signed = x .signed;
+      flags = x .flags;
+      flag = judged-levels (c .flags) (x .flags) (r .0);
+      outputs = x .outputs;
+      output = judged-levels (c .outputs) (x .outputs) (r .1);
+    }
+
+judged-motion : (m : Motion) → SFits w32 (m .axis .position) → motionIs m ≡ true → GoodMotion m
+judged-motion m position e =
+    let r1 = both (upTo mostSpeed (m .axis .speed)) _ e in
+    let r2 = both (upTo mostRamp (m .axis .acceleration)) _ (r1 .1) in
+    let r3 = both (upTo mostRamp (m .axis .deceleration)) (leb (m .mark) mostLevel) (r2 .1) in
+    record {
       axis = record {
         position = position;
-        speed = judged-range mostSpeed (v .axis .speed) (r3 .0);
-        acceleration = judged-range mostRamp (v .axis .acceleration) (r4 .0);
-        deceleration = judged-range mostRamp (v .axis .deceleration) (r5 .0);
+        speed = judged-range mostSpeed (m .axis .speed) (r1 .0);
+        acceleration = judged-range mostRamp (m .axis .acceleration) (r2 .0);
+        deceleration = judged-range mostRamp (m .axis .deceleration) (r3 .0);
       };
-      mark = leb-true (v .mark) mostLevel (r6 .0);
-      level = leb-true (v .notes .level) mostLevel (r6 .1);
+      mark = leb-true (m .mark) mostLevel (r3 .1);
+    }
+
+judged-values : (s : State) → Shaped s → valuesAre (s .values) ≡ true → GoodValues (s .values)
+judged-values s x e =
+    let v = s .values in
+    let r1 = both (cellsAre (v .cells)) _ e in
+    let r2 = both (motionIs (v .motion)) (notesAre (v .notes)) (r1 .1) in
+    record {
+      cells = judged-cells s x (r1 .0);
+      motion = judged-motion (v .motion) (x .position) (r2 .0);
+      notes = record { level = leb-true (v .notes .level) mostLevel (r2 .1) };
     }
 
 pub good-judged : (s : State) → Good s → stateIs s ≡ true
@@ -215,7 +234,7 @@ judged-good s x e =
     let task : (t : ℕ) → t < taskCount → GoodTask (s .header) (taskAt s t) = each (r3 .0) (r4 .0) (r4 .1) in
     record {
       header = accepted-good (s .header) (r1 .0);
-      values = judged-values (s .values) (x .variables) (x .signed) (x .flags) (x .outputs) (x .position) (r2 .0);
+      values = judged-values s x (r2 .0);
       three = x .three;
       task = task;
       first = x .first;

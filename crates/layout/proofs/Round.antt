@@ -30,13 +30,13 @@ use Rattle.layout.specs.Layout.{lengths, sections, variablesAt, flagsAt,
 use Rattle.layout.specs.Layout.{encoded, decoded}
 use Rattle.layout.specs.Test.{stateIs, layoutIs, unusedZero, frameIs, isState}
 use Rattle.layout.proofs.Bounds.{TaskFits, task-fits}
-use Rattle.layout.proofs.Codecs.{variables-back, variables-has, levels-long, levels-back, levels-has, header-back, axis-back, mark-back, motion-has}
+use Rattle.layout.proofs.Codecs.{variables-back, variables-has, levels-long, levels-back, levels-has, header-back, motion-back, motion-has}
 use Rattle.layout.proofs.Codecs.{notes-back, starts-back, task-back, task-has}
 use Rattle.layout.proofs.Buffer.{long, encoded-long}
 use Rattle.layout.proofs.Judged.{Shaped, good-judged, judged-good}
 
 pub encoded-length : (s : State) → Good s → length (encoded s) ≡ stateLength
-encoded-length s g = encoded-long s (g .values .flags) (g .values .outputs)
+encoded-length s g = encoded-long s (g .values .cells .flags) (g .values .cells .outputs)
 
 -- ---- a state written and read
 
@@ -68,25 +68,25 @@ module _ (s : State) (g : Good s) where
   -- section k of its buffer
   section-at : (k : ℕ) → k < length (sections s) → Has (encoded s) (0 + offset lengths k) (getD (sections s) k [])
   unfolding encoded
-  section-at k lt = section-of stateLength lengths (sections s) (long s (g .values .flags) (g .values .outputs)) (omega arith) k lt
+  section-at k lt = section-of stateLength lengths (sections s) (long s (g .values .cells .flags) (g .values .cells .outputs)) (omega arith) k lt
 
   -- what is behind them
   encoded-zero : (k : ℕ) → unusedAt ≤ k → k < stateLength → getD (encoded s) k 0 ≡ 0
   unfolding encoded
-  encoded-zero k low high = unused-of stateLength lengths (sections s) (long s (g .values .flags) (g .values .outputs)) (omega arith) k low high
+  encoded-zero k low high = unused-of stateLength lengths (sections s) (long s (g .values .cells .flags) (g .values .cells .outputs)) (omega arith) k low high
 
   pub decode-encode : decoded (encoded s) ≡ s
   unfolding decoded
   decode-encode =
       let l : List ℕ = encoded s in
-      let v = g .values in
-      let variables = variables-back l variablesAt (s .values .variables) (v .variables) (v .signed) (section-at 0 (omega arith)) in
-      let flags = levels-back l flagsAt (s .values .flags) (v .flags) (section-at 1 (omega arith)) in
-      let outputs = levels-back l outputsAt (s .values .outputs) (v .outputs) (section-at 2 (omega arith)) in
+      let v = s .values in
+      let c = g .values .cells in
+      let variables = variables-back l variablesAt (v .cells .variables) (c .variables) (c .signed) (section-at 0 (omega arith)) in
+      let flags = levels-back l flagsAt (v .cells .flags) (c .flags) (section-at 1 (omega arith)) in
+      let outputs = levels-back l outputsAt (v .cells .outputs) (c .outputs) (section-at 2 (omega arith)) in
       let header = header-back l headerAt (s .header) (g .header) (section-at 4 (omega arith)) in
-      let axis = axis-back l motionAt (s .values .axis) (s .values .mark) (v .axis) (v .mark) (section-at 5 (omega arith)) in
-      let mark = mark-back l motionAt (s .values .axis) (s .values .mark) (v .axis) (v .mark) (section-at 5 (omega arith)) in
-      let notes = notes-back l notesAt (s .values .notes) (v .level) (section-at 6 (omega arith)) in
+      let motion = motion-back l motionAt (v .motion) (g .values .motion) (section-at 5 (omega arith)) in
+      let notes = notes-back l notesAt (v .notes) (g .values .notes) (section-at 6 (omega arith)) in
       let starts = starts-back l startsAt s (fits plc (omega arith) .start) (fits mathematics (omega arith) .start) (section-at 7 (omega arith)) in
       let first : (k : ℕ) → getD (startsIn l startsAt) k 0 ≡ getD (taskAt s plc .start ∷ taskAt s mathematics .start ∷ []) k 0 = λ k. ap (λ (ns : List ℕ). getD ns k 0) starts in
       let t0 = task-back l (taskPlace bias) (taskAt s bias) (headerIn l headerAt .start) (ap (λ h. h .start) header ∙ sym (g .first)) (fits bias (omega arith)) (section-at 8 (omega arith)) in
@@ -95,7 +95,11 @@ module _ (s : State) (g : Good s) where
       let tasks = (λ ι. t0 ι ∷ t1 ι ∷ t2 ι ∷ []) ∙ sym (three (s .tasks) noTask (g .three)) in
       λ ι.
       record {
-        values = record { variables = variables ι; flags = flags ι; outputs = outputs ι; axis = axis ι; mark = mark ι; notes = notes ι };
+        values = record {
+          cells = record { variables = variables ι; flags = flags ι; outputs = outputs ι };
+          motion = motion ι;
+          notes = notes ι;
+        };
         header = header ι;
         tasks = tasks ι;
       }

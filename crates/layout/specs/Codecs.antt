@@ -16,6 +16,7 @@ use Rattle.sections.specs.Records.{recordBytes, recordIn}
 use Rattle.state.specs.State.{taskAt}
 use Rattle.state.specs.declared.Task.{Task}
 use Rattle.state.specs.declared.Axis.{Axis}
+use Rattle.state.specs.declared.Motion.{Motion}
 use Rattle.state.specs.declared.Notes.{Notes}
 use Rattle.state.specs.declared.State.{State}
 
@@ -66,20 +67,20 @@ headerIn s at = headerFrom (recordIn headerWidths s at)
 abbrev pub motionWidths : List ℕ
 motionWidths = 4 ∷ 2 ∷ 2 ∷ 2 ∷ 1 ∷ []
 
-abbrev pub motionRecord : Axis → ℕ → List ℕ
-motionRecord a mark = word w32 (a .position) ∷ a .speed ∷ a .acceleration ∷ a .deceleration ∷ mark ∷ []
+abbrev pub motionRecord : Motion → List ℕ
+motionRecord m = word w32 (m .axis .position) ∷ m .axis .speed ∷ m .axis .acceleration ∷ m .axis .deceleration ∷ m .mark ∷ []
 
-abbrev pub motionBytes : Axis → ℕ → List ℕ
-motionBytes a mark = recordBytes motionWidths (motionRecord a mark)
+abbrev pub motionBytes : Motion → List ℕ
+motionBytes m = recordBytes motionWidths (motionRecord m)
 
 abbrev pub axisFrom : List ℕ → Axis
 axisFrom ns = record { position = toZ w32 (getD ns 0 0); speed = getD ns 1 0; acceleration = getD ns 2 0; deceleration = getD ns 3 0 }
 
-abbrev pub axisIn : List ℕ → ℕ → Axis
-axisIn s at = axisFrom (recordIn motionWidths s at)
+abbrev pub motionFrom : List ℕ → Motion
+motionFrom ns = record { axis = axisFrom ns; mark = getD ns 4 0 }
 
-abbrev pub markIn : List ℕ → ℕ → ℕ
-markIn s at = getD (recordIn motionWidths s at) 4 0
+abbrev pub motionIn : List ℕ → ℕ → Motion
+motionIn s at = motionFrom (recordIn motionWidths s at)
 
 -- ---- the notes of the preceding BIAS step: the start input's level
 

@@ -6,10 +6,11 @@ use lib.ListN.{getD}
 use Rattle.limits.specs.Limits.{bias, plc, mathematics, stateLength}
 use Rattle.sections.specs.Sections.{total, offset, filled}
 use Rattle.state.specs.State.{taskAt}
+use Rattle.state.specs.declared.Cells.{Cells}
 use Rattle.state.specs.declared.Values.{Values}
 use Rattle.state.specs.declared.State.{State}
 use Rattle.layout.specs.Codecs.{variablesLength, variableBytes, variablesIn, levelsLength, levelsIn, layoutWidths, layoutBytes}
-use Rattle.layout.specs.Codecs.{headerWidths, headerBytes, headerIn, motionWidths, motionBytes, axisIn, markIn, notesWidths, notesBytes, notesIn}
+use Rattle.layout.specs.Codecs.{headerWidths, headerBytes, headerIn, motionWidths, motionBytes, motionIn, notesWidths, notesBytes, notesIn}
 use Rattle.layout.specs.Codecs.{startWidths, startBytes, startsIn, taskLength, taskBytes, taskIn}
 
 abbrev pub lengths : List ℕ
@@ -29,12 +30,12 @@ lengths =
 
 abbrev pub sections : State → List (List ℕ)
 sections s =
-    variableBytes (s .values .variables)
-    ∷ s .values .flags
-    ∷ s .values .outputs
+    variableBytes (s .values .cells .variables)
+    ∷ s .values .cells .flags
+    ∷ s .values .cells .outputs
     ∷ layoutBytes
     ∷ headerBytes (s .header)
-    ∷ motionBytes (s .values .axis) (s .values .mark)
+    ∷ motionBytes (s .values .motion)
     ∷ notesBytes (s .values .notes)
     ∷ startBytes s
     ∷ taskBytes (taskAt s bias)
@@ -88,15 +89,11 @@ encoded s = filled stateLength lengths (sections s)
 
 -- ---- the state of a buffer
 
+abbrev pub cellsIn : List ℕ → Cells
+cellsIn b = record { variables = variablesIn b variablesAt; flags = levelsIn b flagsAt; outputs = levelsIn b outputsAt }
+
 abbrev pub valuesIn : List ℕ → Values
-valuesIn b = record {
-  variables = variablesIn b variablesAt;
-  flags = levelsIn b flagsAt;
-  outputs = levelsIn b outputsAt;
-  axis = axisIn b motionAt;
-  mark = markIn b motionAt;
-  notes = notesIn b notesAt;
-}
+valuesIn b = record { cells = cellsIn b; motion = motionIn b motionAt; notes = notesIn b notesAt }
 
 unfoldable pub decoded : List ℕ → State
 decoded b = record {

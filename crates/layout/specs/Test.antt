@@ -11,6 +11,9 @@ use Rattle.image.specs.declared.Header.{Header}
 use Rattle.state.specs.State.{halted, taskAt}
 use Rattle.state.specs.Wait.{due}
 use Rattle.state.specs.declared.Task.{Task}
+use Rattle.state.specs.declared.Cells.{Cells}
+use Rattle.state.specs.declared.Motion.{Motion}
+use Rattle.state.specs.declared.Notes.{Notes}
 use Rattle.state.specs.declared.Values.{Values}
 use Rattle.state.specs.declared.State.{State}
 use Rattle.places.specs.Places.{numberAt}
@@ -38,10 +41,18 @@ taskIs h k =
 abbrev pub levelIs : ℕ → ℕ → Bool
 levelIs i x = leb x mostLevel
 
+abbrev pub cellsAre : Cells → Bool
+cellsAre c = allOf levelIs (c .flags) cells && allOf levelIs (c .outputs) cells
+
+abbrev pub motionIs : Motion → Bool
+motionIs m =
+    upTo mostSpeed (m .axis .speed) && (upTo mostRamp (m .axis .acceleration) && (upTo mostRamp (m .axis .deceleration) && leb (m .mark) mostLevel))
+
+abbrev pub notesAre : Notes → Bool
+notesAre n = leb (n .level) mostLevel
+
 abbrev pub valuesAre : Values → Bool
-valuesAre v =
-    allOf levelIs (v .flags) cells && (allOf levelIs (v .outputs) cells && (upTo mostSpeed (v .axis .speed) && (upTo mostRamp (v .axis .acceleration)
-    && (upTo mostRamp (v .axis .deceleration) && (leb (v .mark) mostLevel && leb (v .notes .level) mostLevel)))))
+valuesAre v = cellsAre (v .cells) && (motionIs (v .motion) && notesAre (v .notes))
 
 unfoldable pub stateIs : State → Bool
 stateIs s =

@@ -46,11 +46,11 @@ motions-are (SameHanded.more a m h) = λ ι. m ι ∷ motions-are h ι
 
 pub values-are : (v w : Values) → SameValues v w → v ≡ w
 values-are v w e = λ ι. record {
-  variables = e .variables ι;
-  flags = e .flags ι;
-  outputs = e .outputs ι;
-  axis = record { position = e .position ι; speed = e .speed ι; acceleration = e .acceleration ι; deceleration = e .deceleration ι };
-  mark = e .mark ι;
+  cells = record { variables = e .variables ι; flags = e .flags ι; outputs = e .outputs ι };
+  motion = record {
+    axis = record { position = e .position ι; speed = e .speed ι; acceleration = e .acceleration ι; deceleration = e .deceleration ι };
+    mark = e .mark ι;
+  };
   notes = record { level = e .level ι };
 }
 

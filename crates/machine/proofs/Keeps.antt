@@ -27,6 +27,7 @@ use Rattle.walk.specs.Successors.{goes as walked, flowAt, successors}
 use Rattle.walk.proofs.Within.{Within, Passes, passes, successors-within}
 use Rattle.state.specs.State.{runs, ended, halted, noTask, taskAt, withNotes}
 use Rattle.state.specs.Good.{GoodWait, GoodTask, GoodValues, Good}
+use Rattle.state.proofs.Setters.{notes-good}
 use Rattle.state.specs.declared.Task.{Task}
 use Rattle.state.specs.declared.Values.{Values}
 use Rattle.state.specs.declared.State.{State}
@@ -44,7 +45,7 @@ use Rattle.machine.specs.declared.Answer.the-variants.{NoTask, Inputs as
 use Rattle.machine.specs.declared.Effect.{Effect}
 use Rattle.machine.specs.declared.Outcome.{Outcome}
 use Rattle.machine.specs.declared.Outcome.the-variants.{GoOn, Stay, Jump, Call, Return, Start, Restart, End, Halt}
-use Rattle.machine.proofs.Setters.{level-level, notes-good}
+use Rattle.machine.proofs.InRange.{level-level}
 use Rattle.machine.proofs.Laws.{Law, Staying, Fit}
 use Rattle.machine.proofs.RowLaw.{every-law}
 use Rattle.machine.proofs.Fits.{BlockBytes, fit}

@@ -21,7 +21,7 @@ use Rattle.rows.specs.Rows.{rowOf}
 use Rattle.operands.specs.declared.Command.{Command}
 use Rattle.command.specs.Judged.{inRange}
 use Rattle.flow.specs.Flow.{flowBy}
-use Rattle.state.specs.State.{withAxis, withMark}
+use Rattle.state.specs.State.{firstAxis, axisOf, withAxis, withMark}
 use Rattle.state.specs.Wait.{due}
 use Rattle.state.specs.Good.{GoodWait, GoodAxis, GoodValues, InRange}
 use Rattle.state.specs.declared.Axis.{Axis}
@@ -39,7 +39,8 @@ use Rattle.machine.specs.declared.Request.the-variants.{None}
 use Rattle.machine.specs.declared.Outcome.{Outcome}
 use Rattle.machine.specs.declared.Outcome.the-variants.{GoOn, Stay, Jump, Call, Return, Start, Restart, End, Halt}
 use Rattle.machine.proofs.Waits.{begins, goes-on}
-use Rattle.machine.proofs.Setters.{variable-good, axis-good, mark-good, natural-in}
+use Rattle.state.proofs.Setters.{variable-good, good-axis, axis-good, mark-good}
+use Rattle.machine.proofs.InRange.{natural-in}
 
 -- ---- what is shown
 
@@ -186,6 +187,12 @@ module _ (k : ℕ) (c : Command) (g : Given) (v : Values) where
   pub sets-law : (w : Values) → In GoOn → ((count : ℕ) → Fit count c → GoodValues v → GoodValues w) → Law k c g v (sets w)
   sets-law w further h = record { outcome = simply GoOn refl further; values = h; still = λ i. clash (sym i) }
 
+  -- the axis changes
+  pub axis-law : (put : Axis → Axis) → In GoOn → ((count : ℕ) → Fit count c → GoodValues v → GoodAxis (put (axisOf firstAxis v)))
+      → Law k c g v (sets (withAxis firstAxis (put (axisOf firstAxis v)) v))
+  axis-law put further h =
+      let a = put (axisOf firstAxis v) in sets-law (withAxis firstAxis a v) further (λ count f d. axis-good v d firstAxis a (h count f d))
+
   pub assigns-law : (z : ℤ) → In GoOn → ((count : ℕ) → Fit count c → GoodValues v → SFits w32 z) → Law k c g v (assigns c z v)
   assigns-law z further h = record { outcome = simply GoOn refl further; values = λ count f d. variable-good v d (c .x) z (h count f d); still = λ i. clash (sym i) }
 
@@ -194,8 +201,8 @@ module _ (k : ℕ) (c : Command) (g : Given) (v : Values) where
 
   pub moves-law : (kind : Axis → Request) → In GoOn → In (Stay 0 0) → Law k c g v (moves kind g c v)
   moves-law kind further again =
-      either-effect (started g v) (effect (withMark 0 v) (kind (v .axis)) GoOn) (flows v (Stay 0 0))
-      (λ _. effect-law (withMark 0 v) (kind (v .axis)) further (λ _ _ d. mark-good v d 0 (omega arith)))
+      either-effect (started g v) (effect (withMark 0 v) (kind (axisOf firstAxis v)) GoOn) (flows v (Stay 0 0))
+      (λ _. effect-law (withMark 0 v) (kind (axisOf firstAxis v)) further (λ _ _ d. mark-good v d 0 (omega arith)))
       (λ _. flows-law (Stay 0 0) (stays-on again))
 
   -- on, or the same again
@@ -218,9 +225,9 @@ module _ (k : ℕ) (c : Command) (g : Given) (v : Values) where
       → Law k c g v (parameter most put g c v)
   parameter-law most put further stops keep reason =
       let z = variable v (c .x) in
-      let w = withAxis (put (natural z) (v .axis)) v in
-      either-effect (within 1 most z) (sets w) (halts BadContent v)
-      (λ e. sets-law w further (λ _ _ d. axis-good v d (put (natural z) (v .axis)) (keep (v .axis) (d .axis) (natural z) (natural-in most z e))))
+      let a = axisOf firstAxis v in
+      either-effect (within 1 most z) (sets (withAxis firstAxis (put (natural z) a) v)) (halts BadContent v)
+      (λ e. axis-law (put (natural z)) further (λ _ _ d. keep a (good-axis v d firstAxis) (natural z) (natural-in most z e)))
       (λ e. halts-law BadContent stops (λ _ _. reason e))
 
   -- a quotient fits, and there is none by zero alone

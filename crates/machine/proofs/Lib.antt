@@ -1,6 +1,6 @@
 pub mod Every
 pub mod Rows
-pub mod Setters
+pub mod InRange
 pub mod Waits
 pub mod Slope
 pub mod Laws

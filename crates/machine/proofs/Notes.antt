@@ -18,11 +18,8 @@ notes-same : (t start : ℕ) (v : Values) → noted t start v ≡ keeps t start 
 notes-same t start v = go (eqb t bias)
   where
     go : (b : Bool) → cond b (withNotes (record { level = level start }) v) v ≡ record {
-      variables = v .variables;
-      flags = v .flags;
-      outputs = v .outputs;
-      axis = v .axis;
-      mark = v .mark;
+      cells = v .cells;
+      motion = v .motion;
       notes = cond b (record { level = level start }) (v .notes);
     }
     go true = refl

@@ -16,7 +16,8 @@ use Rattle.number.proofs.Choice.{clash, both}
 use Rattle.rows.specs.Rows.{rows, rowIn, rowOf}
 use Rattle.operands.specs.declared.Command.{Command}
 use Rattle.command.specs.Judged.{inRange}
-use Rattle.state.specs.State.{withFlag, withOutput, withAxis, withMark, withPosition, withSpeed, withAcceleration, withDeceleration}
+use Rattle.state.specs.State.{withFlag, withOutput, firstAxis, axisOf, withMark, withPosition, withSpeed, withAcceleration, withDeceleration}
+use Rattle.state.proofs.Setters.{flag-good, output-good, good-axis, mark-good, position-good, speed-good, acceleration-good, deceleration-good}
 use Rattle.state.specs.declared.Values.{Values}
 use Rattle.machine.specs.Given.{Given, inputAt}
 use Rattle.machine.specs.Effect.{Deed, row, effectOf, compares, flag, output, bit, isSet, variable, within, natural, waits, timeOf, flagNumber}
@@ -27,9 +28,10 @@ use Rattle.machine.specs.declared.Request.the-variants.{MoveTo, MoveBy, 
 use Rattle.machine.specs.declared.Outcome.the-variants.{Jump, Call, Return, Start, Restart, End}
 use Rattle.machine.proofs.Every.{All, end, _&_}
 use Rattle.machine.proofs.Rows.{Of, effect-of}
-use Rattle.machine.proofs.Setters.{bit-level, level-level, up-to, small-fits, flag-good, output-good, axis-good, mark-good, position-good, speed-good, acceleration-good, deceleration-good}
+use Rattle.machine.proofs.InRange.{bit-level, level-level, up-to, small-fits}
 use Rattle.machine.proofs.Waits.{rounded}
-use Rattle.machine.proofs.Laws.{Ranged, Lawful, Law, simply, either, flows-law, effect-law, sets-law, assigns-law, jump-law, moves-law, stays-law, waits-lawful, parameter-law, divides-law, waits-variable-law}
+use Rattle.machine.proofs.Laws.{Ranged, Lawful, Law, simply, either, flows-law, effect-law, sets-law, axis-law, assigns-law, jump-law, moves-law}
+use Rattle.machine.proofs.Laws.{stays-law, waits-lawful, parameter-law, divides-law, waits-variable-law}
 
 -- what is shown of a deed, at a command of its code
 abbrev pub Always : Command → Deed → Type 0
@@ -74,18 +76,25 @@ rows-keep =
     at 0x0E _ (λ c e g v. sets-law 0x0E c g v (withMark 1 v) May.on (λ _ _ d. mark-good v d 1 (omega arith))) &
     at 0x0F _ (λ c e g v. effect-law 0x0F c g v v _ May.on (λ _ _ d. d)) &
     at 0x1F _ (λ c e g v. effect-law 0x1F c g v v _ May.on (λ _ _ d. d)) &
-    at 0x20 _ (λ c e g v. sets-law 0x20 c g v (withAxis (withPosition (c .value) (v .axis)) v) May.on (λ _ f d. axis-good v d (withPosition (c .value) (v .axis)) (position-good (v .axis) (d .axis) (c .value) (f .value)))) &
-    at 0x21 _ (λ c e g v. sets-law 0x21 c g v (withAxis (withSpeed (c .word) (v .axis)) v) May.on (λ n f d. axis-good v d (withSpeed (c .word) (v .axis)) (speed-good (v .axis) (d .axis) (c .word) (up-to mostSpeed (c .word) (ranges-at 0x21 n c e (f .ranges)))))) &
-    at 0x22 _ (λ c e g v. sets-law 0x22 c g v (withAxis (withAcceleration (c .word) (v .axis)) v) May.on (λ n f d. axis-good v d (withAcceleration (c .word) (v .axis)) (acceleration-good (v .axis) (d .axis) (c .word) (up-to mostRamp (c .word) (ranges-at 0x22 n c e (f .ranges)))))) &
-    at 0x23 _ (λ c e g v. sets-law 0x23 c g v (withAxis (withDeceleration (c .word) (v .axis)) v) May.on (λ n f d. axis-good v d (withDeceleration (c .word) (v .axis)) (deceleration-good (v .axis) (d .axis) (c .word) (up-to mostRamp (c .word) (ranges-at 0x23 n c e (f .ranges)))))) &
-    at 0x30 _ (λ c e g v. sets-law 0x30 c g v (withAxis (withPosition (variable v (c .x)) (v .axis)) v) May.on (λ _ _ d. axis-good v d (withPosition (variable v (c .x)) (v .axis)) (position-good (v .axis) (d .axis) (variable v (c .x)) (d .signed (c .x))))) &
+    at 0x20 _ (λ c e g v. axis-law 0x20 c g v (withPosition (c .value)) May.on (λ _ f d. position-good _ (good-axis v d firstAxis) (c .value) (f .value))) &
+    at 0x21 _ (λ c e g v. axis-law 0x21 c g v (withSpeed (c .word)) May.on
+    (λ n f d. speed-good _ (good-axis v d firstAxis) (c .word) (up-to mostSpeed (c .word) (ranges-at 0x21 n c e (f .ranges))))) &
+    at 0x22 _ (λ c e g v. axis-law 0x22 c g v (withAcceleration (c .word)) May.on
+    (λ n f d. acceleration-good _ (good-axis v d firstAxis) (c .word) (up-to mostRamp (c .word) (ranges-at 0x22 n c e (f .ranges))))) &
+    at 0x23 _ (λ c e g v. axis-law 0x23 c g v (withDeceleration (c .word)) May.on
+    (λ n f d. deceleration-good _ (good-axis v d firstAxis) (c .word) (up-to mostRamp (c .word) (ranges-at 0x23 n c e (f .ranges))))) &
+    at 0x30 _ (λ c e g v. axis-law 0x30 c g v (withPosition (variable v (c .x))) May.on
+    (λ _ _ d. position-good _ (good-axis v d firstAxis) (variable v (c .x)) (d .cells .signed (c .x)))) &
     at 0x31 _ (λ c e g v. parameter-law 0x31 c g v mostSpeed withSpeed May.on May.halt speed-good (Reason.speed e)) &
     at 0x32 _ (λ c e g v. parameter-law 0x32 c g v mostRamp withAcceleration May.on May.halt acceleration-good (Reason.acceleration e)) &
     at 0x33 _ (λ c e g v. parameter-law 0x33 c g v mostRamp withDeceleration May.on May.halt deceleration-good (Reason.deceleration e)) &
-    at 0x40 _ (λ c e g v. assigns-law 0x40 c g v (v .axis .position) May.on (λ _ _ d. d .axis .position)) &
-    at 0x41 _ (λ c e g v. assigns-law 0x41 c g v (pos (v .axis .speed)) May.on (λ _ _ d. small-fits mostSpeed (v .axis .speed) (omega arith) (d .axis .speed))) &
-    at 0x42 _ (λ c e g v. assigns-law 0x42 c g v (pos (v .axis .acceleration)) May.on (λ _ _ d. small-fits mostRamp (v .axis .acceleration) (omega arith) (d .axis .acceleration))) &
-    at 0x43 _ (λ c e g v. assigns-law 0x43 c g v (pos (v .axis .deceleration)) May.on (λ _ _ d. small-fits mostRamp (v .axis .deceleration) (omega arith) (d .axis .deceleration))) &
+    at 0x40 _ (λ c e g v. assigns-law 0x40 c g v (axisOf firstAxis v .position) May.on (λ _ _ d. good-axis v d firstAxis .position)) &
+    at 0x41 _ (λ c e g v. assigns-law 0x41 c g v (pos (axisOf firstAxis v .speed)) May.on
+    (λ _ _ d. small-fits mostSpeed _ (omega arith) (good-axis v d firstAxis .speed))) &
+    at 0x42 _ (λ c e g v. assigns-law 0x42 c g v (pos (axisOf firstAxis v .acceleration)) May.on
+    (λ _ _ d. small-fits mostRamp _ (omega arith) (good-axis v d firstAxis .acceleration))) &
+    at 0x43 _ (λ c e g v. assigns-law 0x43 c g v (pos (axisOf firstAxis v .deceleration)) May.on
+    (λ _ _ d. small-fits mostRamp _ (omega arith) (good-axis v d firstAxis .deceleration))) &
     at 0x50 _ (λ c e g v. sets-law 0x50 c g v v May.on (λ _ _ d. d)) &
     at 0x51 _ (λ c e g v. flows-law 0x51 c g v (cond (eqb (c .x) 0) Restart End) (ends c g v)) &
     at 0x52 _ (λ c e g v. flows-law 0x52 c g v (Call (c .word)) (simply 0x52 c g v (Call (c .word)) refl May.call)) &
@@ -98,9 +107,11 @@ rows-keep =
     at 0x5A _ (λ c e g v. waits-variable-law 0x5A c g v refl May.over (λ _ _. May.stay) May.refuse (Reason.waiting e) (λ _. short (g .model) (variable v (c .x)))) &
     at 0x60 _ (λ c e g v. sets-law 0x60 c g v (withFlag (c .x) (c .y) v) May.on (λ n f d. flag-good v d (c .x) (c .y) (leb-true (c .y) mostLevel (ranges-at 0x60 n c e (f .ranges))))) &
     at 0x61 _ (λ c e g v. jump-law 0x61 c g v (compares (c .y) (flag v (c .x)) (c .z)) (c .word) May.branch May.pass) &
-    at 0x62 _ (λ c e g v. sets-law 0x62 c g v (withFlag (c .x) (flag v (c .y)) v) May.on (λ _ _ d. flag-good v d (c .x) (flag v (c .y)) (d .flag (c .y)))) &
+    at 0x62 _ (λ c e g v. sets-law 0x62 c g v (withFlag (c .x) (flag v (c .y)) v) May.on
+    (λ _ _ d. flag-good v d (c .x) (flag v (c .y)) (d .cells .flag (c .y)))) &
     at 0x63 _ (λ c e g v. sets-law 0x63 c g v (withFlag (c .x) (inputAt g (c .y)) v) May.on (λ _ _ d. flag-good v d (c .x) (inputAt g (c .y)) (level-level (getD (g .levels) (c .y) 0)))) &
-    at 0x64 _ (λ c e g v. sets-law 0x64 c g v (withFlag (c .x) (output v (c .y)) v) May.on (λ _ _ d. flag-good v d (c .x) (output v (c .y)) (d .output (c .y)))) &
+    at 0x64 _ (λ c e g v. sets-law 0x64 c g v (withFlag (c .x) (output v (c .y)) v) May.on
+    (λ _ _ d. flag-good v d (c .x) (output v (c .y)) (d .cells .output (c .y)))) &
     at 0x65 _ (λ c e g v. sets-law 0x65 c g v (withFlag (c .x) (bit (isSet (flag v (c .y)) && isSet (flag v (c .z)))) v) May.on (λ _ _ d. flag-good v d (c .x) (bit (isSet (flag v (c .y)) && isSet (flag v (c .z)))) (bit-level (isSet (flag v (c .y)) && isSet (flag v (c .z)))))) &
     at 0x66 _ (λ c e g v. sets-law 0x66 c g v (withFlag (c .x) (bit (isSet (flag v (c .y)) || isSet (flag v (c .z)))) v) May.on (λ _ _ d. flag-good v d (c .x) (bit (isSet (flag v (c .y)) || isSet (flag v (c .z)))) (bit-level (isSet (flag v (c .y)) || isSet (flag v (c .z)))))) &
     at 0x67 _ (λ c e g v. sets-law 0x67 c g v (withFlag (c .x) (bit (not (eqb (flag v (c .y)) (flag v (c .z))))) v) May.on (λ _ _ d. flag-good v d (c .x) (bit (not (eqb (flag v (c .y)) (flag v (c .z))))) (bit-level (not (eqb (flag v (c .y)) (flag v (c .z))))))) &
@@ -109,15 +120,17 @@ rows-keep =
     at 0x70 _ (λ c e g v. jump-law 0x70 c g v (compares (c .y) (inputAt g (c .x)) (c .z)) (c .word) May.branch May.pass) &
     at 0x71 _ (λ c e g v. jump-law 0x71 c g v (compares (c .y) (output v (c .x)) (c .z)) (c .word) May.branch May.pass) &
     at 0x72 _ (λ c e g v. sets-law 0x72 c g v (withOutput (c .x) (c .y) v) May.on (λ n f d. output-good v d (c .x) (c .y) (leb-true (c .y) mostLevel (ranges-at 0x72 n c e (f .ranges))))) &
-    at 0x73 _ (λ c e g v. sets-law 0x73 c g v (withOutput (c .x) (flag v (c .y)) v) May.on (λ _ _ d. output-good v d (c .x) (flag v (c .y)) (d .flag (c .y)))) &
+    at 0x73 _ (λ c e g v. sets-law 0x73 c g v (withOutput (c .x) (flag v (c .y)) v) May.on
+    (λ _ _ d. output-good v d (c .x) (flag v (c .y)) (d .cells .flag (c .y)))) &
     at 0x80 _ (λ c e g v. assigns-law 0x80 c g v (c .value) May.on (λ _ f _. f .value)) &
     at 0x81 _ (λ c e g v. jump-law 0x81 c g v (holds (c .y) (variable v (c .x)) (c .value)) (c .word) May.branch May.pass) &
     at 0x82 _ (λ c e g v. assigns-law 0x82 c g v (wrap w32 (variable v (c .y) +ℤ c .value)) May.on (λ _ _ _. wrap-fits w32 (variable v (c .y) +ℤ c .value))) &
     at 0x83 _ (λ c e g v. assigns-law 0x83 c g v (wrap w32 (variable v (c .y) -ℤ c .value)) May.on (λ _ _ _. wrap-fits w32 (variable v (c .y) -ℤ c .value))) &
     at 0x84 _ (λ c e g v. assigns-law 0x84 c g v (wrap w32 (variable v (c .y) *ℤ c .value)) May.on (λ _ _ _. wrap-fits w32 (variable v (c .y) *ℤ c .value))) &
     at 0x85 _ (λ c e g v. divides-law 0x85 c g v (variable v (c .y)) (c .value) May.on May.halt (λ z n f. absurd (not-zero (c .value) (ranges-at 0x85 n c e f) z))) &
-    at 0x86 _ (λ c e g v. assigns-law 0x86 c g v (wrap w32 (pos (flagNumber (v .flags) (c .y) (c .z)))) May.on (λ _ _ _. wrap-fits w32 (pos (flagNumber (v .flags) (c .y) (c .z))))) &
-    at 0x88 _ (λ c e g v. assigns-law 0x88 c g v (variable v (c .y)) May.on (λ _ _ d. d .signed (c .y))) &
+    at 0x86 _ (λ c e g v. assigns-law 0x86 c g v (wrap w32 (pos (flagNumber (v .cells .flags) (c .y) (c .z)))) May.on
+    (λ _ _ _. wrap-fits w32 (pos (flagNumber (v .cells .flags) (c .y) (c .z))))) &
+    at 0x88 _ (λ c e g v. assigns-law 0x88 c g v (variable v (c .y)) May.on (λ _ _ d. d .cells .signed (c .y))) &
     at 0x89 _ (λ c e g v. jump-law 0x89 c g v (holds (c .y) (variable v (c .x)) (variable v (c .z))) (c .word) May.branch May.pass) &
     at 0x8A _ (λ c e g v. assigns-law 0x8A c g v (wrap w32 (variable v (c .y) +ℤ variable v (c .z))) May.on (λ _ _ _. wrap-fits w32 (variable v (c .y) +ℤ variable v (c .z)))) &
     at 0x8B _ (λ c e g v. assigns-law 0x8B c g v (wrap w32 (variable v (c .y) -ℤ variable v (c .z))) May.on (λ _ _ _. wrap-fits w32 (variable v (c .y) -ℤ variable v (c .z)))) &

@@ -36,7 +36,7 @@ use Rattle.machine.specs.declared.Outcome.{Outcome}
 use Rattle.machine.specs.declared.Outcome.the-variants.{GoOn, Stay, Jump, Call, Return, Start, Restart, End, Halt}
 use Rattle.machine.proofs.Laws.{Halting, Ranged}
 use Rattle.machine.proofs.Fits.{in-ranges}
-use Rattle.machine.proofs.Setters.{kept-set}
+use Rattle.state.proofs.Setters.{kept-set}
 use Rattle.machine.proofs.Accepted.{Accepted, hd, body, within}
 use Rattle.machine.proofs.Same.{returns-return}
 use Rattle.machine.proofs.Turn.{at-set}

@@ -5,7 +5,7 @@ use mathlib.Core.List.{List, [], _∷_}
 use lib.Dec.{eqb}
 use lib.ListN.{getD}
 use Rattle.limits.specs.Limits.{taskCount}
-use Rattle.state.specs.State.{runs, taskAt}
+use Rattle.state.specs.State.{runs, taskAt, firstAxis, axisOf}
 use Rattle.state.specs.declared.Task.{Task}
 use Rattle.state.specs.declared.Values.{Values}
 use Rattle.state.specs.declared.State.{State}
@@ -26,14 +26,14 @@ pub record SameTask (k : Task) (p : Thread) : Type 0 where
   pub turns : k .status ≡ runs → k .turns ≡ p .turns
 
 pub record SameValues (v w : Values) : Type 0 where
-  pub variables : v .variables ≡ w .variables
-  pub flags : v .flags ≡ w .flags
-  pub outputs : v .outputs ≡ w .outputs
-  pub position : v .axis .position ≡ w .axis .position
-  pub speed : v .axis .speed ≡ w .axis .speed
-  pub acceleration : v .axis .acceleration ≡ w .axis .acceleration
-  pub deceleration : v .axis .deceleration ≡ w .axis .deceleration
-  pub mark : v .mark ≡ w .mark
+  pub variables : v .cells .variables ≡ w .cells .variables
+  pub flags : v .cells .flags ≡ w .cells .flags
+  pub outputs : v .cells .outputs ≡ w .cells .outputs
+  pub position : axisOf firstAxis v .position ≡ axisOf firstAxis w .position
+  pub speed : axisOf firstAxis v .speed ≡ axisOf firstAxis w .speed
+  pub acceleration : axisOf firstAxis v .acceleration ≡ axisOf firstAxis w .acceleration
+  pub deceleration : axisOf firstAxis v .deceleration ≡ axisOf firstAxis w .deceleration
+  pub mark : v .motion .mark ≡ w .motion .mark
   pub level : v .notes .level ≡ w .notes .level
 
 pub record Alike (s : State) (m : Machine) : Type 0 where

@@ -16,7 +16,8 @@ use Rattle.arith.specs.declared.Quotient.{Quotient}
 use Rattle.arith.specs.declared.Quotient.the-variants.{Value, ByZero}
 use Rattle.drive.specs.Types.{type637Plus}
 use Rattle.operands.specs.declared.Command.{Command}
-use Rattle.state.specs.State.{withVariable, withFlag, withOutput, withAxis, withMark, withPosition, withSpeed, withAcceleration, withDeceleration}
+use Rattle.state.specs.State.{withVariable, withFlag, withOutput, firstAxis, axisOf, withAxis, withMark}
+use Rattle.state.specs.State.{withPosition, withSpeed, withAcceleration, withDeceleration}
 use Rattle.state.specs.Wait.{due}
 use Rattle.state.specs.declared.Axis.{Axis}
 use Rattle.state.specs.declared.Values.{Values}
@@ -57,13 +58,13 @@ Deed = Given → Command → Values → Effect
 -- ---- reading
 
 abbrev pub variable : Values → ℕ → ℤ
-variable v x = getD (v .variables) x (pos 0)
+variable v x = getD (v .cells .variables) x (pos 0)
 
 abbrev pub flag : Values → ℕ → ℕ
-flag v x = getD (v .flags) x 0
+flag v x = getD (v .cells .flags) x 0
 
 abbrev pub output : Values → ℕ → ℕ
-output v x = getD (v .outputs) x 0
+output v x = getD (v .cells .outputs) x 0
 
 abbrev pub bit : Bool → ℕ
 bit true = 1
@@ -88,10 +89,10 @@ compares condition a b = cond (eqb condition 0) (eqb a b) (not (eqb a b))
 
 -- a move is carried out when the start mark stands, which it clears, or at a rising slope of the start input: high now, low at the preceding BIAS step
 abbrev pub started : Given → Values → Bool
-started g v = isSet (v .mark) || (isSet (g .start) && eqb (v .notes .level) 0)
+started g v = isSet (v .motion .mark) || (isSet (g .start) && eqb (v .notes .level) 0)
 
 abbrev pub moves : (Axis → Request) → Deed
-moves kind g c v = cond (started g v) (effect (withMark 0 v) (kind (v .axis)) GoOn) (flows v (Stay 0 0))
+moves kind g c v = cond (started g v) (effect (withMark 0 v) (kind (axisOf firstAxis v)) GoOn) (flows v (Stay 0 0))
 
 -- a wait of T ms: at the first step T is taken with k = 0, at each later one k grows by one
 abbrev pub waits : ℕ → Given → Outcome
@@ -103,7 +104,7 @@ waits time g =
 -- a parameter from a variable: 20 unless it is in range
 abbrev pub parameter : ℕ → (ℕ → Axis → Axis) → Deed
 parameter most put g c v =
-    cond (within 1 most (variable v (c .x))) (sets (withAxis (put (natural (variable v (c .x))) (v .axis)) v)) (halts BadContent v)
+    cond (within 1 most (variable v (c .x))) (sets (withAxis firstAxis (put (natural (variable v (c .x))) (axisOf firstAxis v)) v)) (halts BadContent v)
 
 -- a variable is set
 abbrev pub assigns : Command → ℤ → Values → Effect
@@ -146,20 +147,20 @@ axisRows =
     row 0x03 (moves Forward) ∷  -- p. 34
     row 0x04 (moves Backward) ∷  -- p. 35
     row 0x0E (λ g c v. sets (withMark 1 v)) ∷  -- p. 49
-    row 0x0F (λ g c v. effect v (Stop (c .x) (v .axis .deceleration)) GoOn) ∷  -- p. 50
+    row 0x0F (λ g c v. effect v (Stop (c .x) (axisOf firstAxis v .deceleration)) GoOn) ∷  -- p. 50
     row 0x1F (λ g c v. effect v (Stop (c .x) (c .word)) GoOn) ∷  -- p. 65
-    row 0x20 (λ g c v. sets (withAxis (withPosition (c .value) (v .axis)) v)) ∷  -- p. 66
-    row 0x21 (λ g c v. sets (withAxis (withSpeed (c .word) (v .axis)) v)) ∷  -- p. 67
-    row 0x22 (λ g c v. sets (withAxis (withAcceleration (c .word) (v .axis)) v)) ∷  -- p. 68
-    row 0x23 (λ g c v. sets (withAxis (withDeceleration (c .word) (v .axis)) v)) ∷  -- p. 69
-    row 0x30 (λ g c v. sets (withAxis (withPosition (variable v (c .x)) (v .axis)) v)) ∷  -- p. 83
+    row 0x20 (λ g c v. sets (withAxis firstAxis (withPosition (c .value) (axisOf firstAxis v)) v)) ∷  -- p. 66
+    row 0x21 (λ g c v. sets (withAxis firstAxis (withSpeed (c .word) (axisOf firstAxis v)) v)) ∷  -- p. 67
+    row 0x22 (λ g c v. sets (withAxis firstAxis (withAcceleration (c .word) (axisOf firstAxis v)) v)) ∷  -- p. 68
+    row 0x23 (λ g c v. sets (withAxis firstAxis (withDeceleration (c .word) (axisOf firstAxis v)) v)) ∷  -- p. 69
+    row 0x30 (λ g c v. sets (withAxis firstAxis (withPosition (variable v (c .x)) (axisOf firstAxis v)) v)) ∷  -- p. 83
     row 0x31 (parameter mostSpeed withSpeed) ∷  -- p. 84
     row 0x32 (parameter mostRamp withAcceleration) ∷  -- p. 85
     row 0x33 (parameter mostRamp withDeceleration) ∷  -- p. 86
-    row 0x40 (λ g c v. assigns c (v .axis .position) v) ∷  -- p. 100
-    row 0x41 (λ g c v. assigns c (pos (v .axis .speed)) v) ∷  -- p. 101
-    row 0x42 (λ g c v. assigns c (pos (v .axis .acceleration)) v) ∷  -- p. 102
-    row 0x43 (λ g c v. assigns c (pos (v .axis .deceleration)) v) ∷  -- p. 103
+    row 0x40 (λ g c v. assigns c (axisOf firstAxis v .position) v) ∷  -- p. 100
+    row 0x41 (λ g c v. assigns c (pos (axisOf firstAxis v .speed)) v) ∷  -- p. 101
+    row 0x42 (λ g c v. assigns c (pos (axisOf firstAxis v .acceleration)) v) ∷  -- p. 102
+    row 0x43 (λ g c v. assigns c (pos (axisOf firstAxis v .deceleration)) v) ∷  -- p. 103
     []
 
 -- control
@@ -205,7 +206,7 @@ variableRows =
     row 0x83 (λ g c v. assigns c (wrap w32 (variable v (c .y) -ℤ c .value)) v) ∷  -- p. 171
     row 0x84 (λ g c v. assigns c (wrap w32 (variable v (c .y) *ℤ c .value)) v) ∷  -- p. 172
     row 0x85 (λ g c v. divides c (quotient (variable v (c .y)) (c .value)) v) ∷  -- p. 173
-    row 0x86 (λ g c v. assigns c (wrap w32 (pos (flagNumber (v .flags) (c .y) (c .z)))) v) ∷  -- p. 174
+    row 0x86 (λ g c v. assigns c (wrap w32 (pos (flagNumber (v .cells .flags) (c .y) (c .z)))) v) ∷  -- p. 174
     row 0x88 (λ g c v. assigns c (variable v (c .y)) v) ∷  -- p. 176
     row 0x89 (λ g c v. jumpIf (holds (c .y) (variable v (c .x)) (variable v (c .z))) (c .word) v) ∷  -- p. 177
     row 0x8A (λ g c v. assigns c (wrap w32 (variable v (c .y) +ℤ variable v (c .z))) v) ∷  -- p. 179

@@ -50,11 +50,8 @@ idle = off (thread 0 0 0 0 [])
 unfoldable pub begun : List ℕ → Machine
 begun image = record {
   values = record {
-    variables = replicate 256 (pos 0);
-    flags = replicate 256 0;
-    outputs = replicate 256 0;
-    axis = record { position = pos 0; speed = 1; acceleration = 1; deceleration = 1 };
-    mark = 0;
+    cells = record { variables = replicate 256 (pos 0); flags = replicate 256 0; outputs = replicate 256 0 };
+    motion = record { axis = record { position = pos 0; speed = 1; acceleration = 1; deceleration = 1 }; mark = 0 };
     notes = record { level = 1 };
   };
   threads = thread (headerOf image .header .start) (headerOf image .header .start) 0 0 [] ∷ idle ∷ idle ∷ [];
@@ -111,14 +108,7 @@ replies (Halt q) t k = Halted q (record { task = t; block = k .block; depth = le
 
 -- BIAS's steps note the start input's level
 abbrev pub keeps : ℕ → ℕ → Values → Values
-keeps t start v = record {
-  variables = v .variables;
-  flags = v .flags;
-  outputs = v .outputs;
-  axis = v .axis;
-  mark = v .mark;
-  notes = cond (eqb t 0) (record { level = level start }) (v .notes);
-}
+keeps t start v = record { cells = v .cells; motion = v .motion; notes = cond (eqb t 0) (record { level = level start }) (v .notes) }
 
 unfoldable pub does : Machine → Inputs → Thread → Effect → Did
 does m x k e = record {

@@ -5,6 +5,8 @@ use limits::CELLS;
 use limits::STACK_LENGTH;
 use limits::STATE_LENGTH;
 use state::Axis;
+use state::Cells;
+use state::Motion;
 use state::Notes;
 use state::State;
 use state::Task;
@@ -12,7 +14,7 @@ use state::Values;
 ghost use mathlib.Core.Path.{_≡_};
 ghost use Prim.Native.Nat.{_+_, _*_, _≤_};
 ghost use Rattle.limits.specs.Limits.{mostDepth, stateLength};
-ghost use Rattle.layout.specs.Codecs.{variablesLength, variablesIn, levelsLength, levelsIn, headerIn, axisIn, stackIn, taskLength, taskIn};
+ghost use Rattle.layout.specs.Codecs.{variablesLength, variablesIn, levelsLength, levelsIn, headerIn, motionIn, stackIn, taskLength, taskIn};
 ghost use Rattle.layout.specs.Layout.{headerAt, motionAt, valuesIn, decoded};
 
 // The state that a buffer holds.
@@ -46,16 +48,18 @@ fn values_in(b: &[u8; STATE_LENGTH]) -> Values
     let variables = variables_in(b, layout::VARIABLES_AT);
     let flags = levels_in(b, layout::FLAGS_AT as usize);
     let outputs = levels_in(b, layout::OUTPUTS_AT as usize);
-    let axis = axis_in(b);
+    let cells = Cells {
+        variables: variables,
+        flags: flags,
+        outputs: outputs,
+    };
+    let motion = motion_in(b);
     let notes = Notes {
         level: places::byte(b, layout::NOTES_AT),
     };
     Values {
-        variables: variables,
-        flags: flags,
-        outputs: outputs,
-        axis: axis,
-        mark: places::byte(b, layout::MOTION_AT + 10),
+        cells: cells,
+        motion: motion,
         notes: notes,
     }
 }
@@ -103,14 +107,19 @@ fn header_in(b: &[u8; STATE_LENGTH]) -> Header
     }
 }
 
-fn axis_in(b: &[u8; STATE_LENGTH]) -> Axis
-    ensures { λ r. ⌜ r ≡ axisIn (now (b .entry)) motionAt ⌝ }
+// The axis and the start mark.
+fn motion_in(b: &[u8; STATE_LENGTH]) -> Motion
+    ensures { λ r. ⌜ r ≡ motionIn (now (b .entry)) motionAt ⌝ }
 {
-    Axis {
+    let axis = Axis {
         position: places::signed(b, layout::MOTION_AT),
         speed: places::word(b, layout::MOTION_AT + 4),
         acceleration: places::word(b, layout::MOTION_AT + 6),
         deceleration: places::word(b, layout::MOTION_AT + 8),
+    };
+    Motion {
+        axis: axis,
+        mark: places::byte(b, layout::MOTION_AT + 10),
     }
 }
 

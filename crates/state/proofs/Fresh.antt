@@ -25,20 +25,24 @@ small-fits = record { sfits = omega arith }
 pub values-good : GoodValues freshValues
 unfolding freshValues
 values-good = record {
-  variables = refl;
-  signed = λ i. rw (getD-replicate cells (pos 0) i) small-fits;
-  flags = refl;
-  flag = λ i. rw (getD-replicate {A = ℕ} cells 0 i) (omega arith);
-  outputs = refl;
-  output = λ i. rw (getD-replicate {A = ℕ} cells 0 i) (omega arith);
-  axis = record {
-    position = small-fits;
-    speed = record { positive = omega arith; bounded = omega arith };
-    acceleration = record { positive = omega arith; bounded = omega arith };
-    deceleration = record { positive = omega arith; bounded = omega arith };
+  cells = record {
+    variables = refl;
+    signed = λ i. rw (getD-replicate cells (pos 0) i) small-fits;
+    flags = refl;
+    flag = λ i. rw (getD-replicate {A = ℕ} cells 0 i) (omega arith);
+    outputs = refl;
+    output = λ i. rw (getD-replicate {A = ℕ} cells 0 i) (omega arith);
   };
-  mark = omega arith;
-  level = omega arith;
+  motion = record {
+    axis = record {
+      position = small-fits;
+      speed = record { positive = omega arith; bounded = omega arith };
+      acceleration = record { positive = omega arith; bounded = omega arith };
+      deceleration = record { positive = omega arith; bounded = omega arith };
+    };
+    mark = omega arith;
+  };
+  notes = record { level = omega arith };
 }
 
 module _ (h : Header) (g : GoodHeader h) where

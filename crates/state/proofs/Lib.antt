@@ -1,3 +1,4 @@
 pub mod Fresh
 pub mod Wait
 pub mod Bounds
+pub mod Setters

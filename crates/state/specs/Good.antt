@@ -14,6 +14,9 @@ use Rattle.state.specs.State.{halted, noTask}
 use Rattle.state.specs.Wait.{due}
 use Rattle.state.specs.declared.Task.{Task}
 use Rattle.state.specs.declared.Axis.{Axis}
+use Rattle.state.specs.declared.Cells.{Cells}
+use Rattle.state.specs.declared.Motion.{Motion}
+use Rattle.state.specs.declared.Notes.{Notes}
 use Rattle.state.specs.declared.Values.{Values}
 use Rattle.state.specs.declared.State.{State}
 
@@ -44,17 +47,28 @@ pub record GoodAxis (a : Axis) : Type 0 where
   pub acceleration : InRange mostRamp (a .acceleration)
   pub deceleration : InRange mostRamp (a .deceleration)
 
--- variables of 32 bits; flags, outputs, start mark and preceding start level 0 or 1
+-- variables of 32 bits; flags and outputs 0 or 1
+pub record GoodCells (c : Cells) : Type 0 where
+  pub variables : length (c .variables) ≡ cells
+  pub signed : (i : ℕ) → SFits w32 (getD (c .variables) i (pos 0))
+  pub flags : length (c .flags) ≡ cells
+  pub flag : (i : ℕ) → getD (c .flags) i 0 ≤ mostLevel
+  pub outputs : length (c .outputs) ≡ cells
+  pub output : (i : ℕ) → getD (c .outputs) i 0 ≤ mostLevel
+
+-- the start mark 0 or 1
+pub record GoodMotion (m : Motion) : Type 0 where
+  pub axis : GoodAxis (m .axis)
+  pub mark : m .mark ≤ mostLevel
+
+-- the preceding start level 0 or 1
+pub record GoodNotes (n : Notes) : Type 0 where
+  pub level : n .level ≤ mostLevel
+
 pub record GoodValues (v : Values) : Type 0 where
-  pub variables : length (v .variables) ≡ cells
-  pub signed : (i : ℕ) → SFits w32 (getD (v .variables) i (pos 0))
-  pub flags : length (v .flags) ≡ cells
-  pub flag : (i : ℕ) → getD (v .flags) i 0 ≤ mostLevel
-  pub outputs : length (v .outputs) ≡ cells
-  pub output : (i : ℕ) → getD (v .outputs) i 0 ≤ mostLevel
-  pub axis : GoodAxis (v .axis)
-  pub mark : v .mark ≤ mostLevel
-  pub level : v .notes .level ≤ mostLevel
+  pub cells : GoodCells (v .cells)
+  pub motion : GoodMotion (v .motion)
+  pub notes : GoodNotes (v .notes)
 
 -- BIAS's start is the program start: the buffer does not hold it apart
 pub record Good (s : State) : Type 0 where

@@ -7,6 +7,8 @@ use Rattle.limits.specs.Limits.{mostDepth, cells}
 use Rattle.image.specs.declared.Header.{Header}
 use Rattle.state.specs.declared.Task.{Task}
 use Rattle.state.specs.declared.Axis.{Axis}
+use Rattle.state.specs.declared.Cells.{Cells}
+use Rattle.state.specs.declared.Motion.{Motion}
 use Rattle.state.specs.declared.Notes.{Notes}
 use Rattle.state.specs.declared.Values.{Values}
 use Rattle.state.specs.declared.State.{State}
@@ -48,46 +50,62 @@ running a = task runs a a 0 emptyStack 0 0
 abbrev pub startAxis : Axis
 startAxis = record { position = pos 0; speed = 1; acceleration = 1; deceleration = 1 }
 
+abbrev pub startCells : Cells
+startCells = record { variables = replicate cells (pos 0); flags = replicate cells 0; outputs = replicate cells 0 }
+
+-- no start mark
+abbrev pub startMotion : Motion
+startMotion = record { axis = startAxis; mark = 0 }
+
 -- the preceding level counts as high
 abbrev pub startNotes : Notes
 startNotes = record { level = 1 }
 
 unfoldable pub freshValues : Values
-freshValues = record {
-  variables = replicate cells (pos 0);
-  flags = replicate cells 0;
-  outputs = replicate cells 0;
-  axis = startAxis;
-  mark = 0;
-  notes = startNotes;
-}
+freshValues = record { cells = startCells; motion = startMotion; notes = startNotes }
 
 -- BIAS at the program start, the PLC and mathematics never started
 unfoldable pub fresh : Header → State
 fresh h = record { values = freshValues; header = h; tasks = running (h .start) ∷ neverStarted ∷ neverStarted ∷ [] }
 
--- ---- setters of the values
+-- ---- setters of the parts
+
+abbrev pub withCells : Cells → Values → Values
+withCells c v = record { cells = c; motion = v .motion; notes = v .notes }
+
+abbrev pub withMotion : Motion → Values → Values
+withMotion m v = record { cells = v .cells; motion = m; notes = v .notes }
+
+abbrev pub withNotes : Notes → Values → Values
+withNotes n v = record { cells = v .cells; motion = v .motion; notes = n }
+
+-- ---- setters of what is in a part
 
 abbrev pub withVariable : ℕ → ℤ → Values → Values
 withVariable i z v =
-    record { variables = set (v .variables) i z; flags = v .flags; outputs = v .outputs; axis = v .axis; mark = v .mark; notes = v .notes }
+    withCells (record { variables = set (v .cells .variables) i z; flags = v .cells .flags; outputs = v .cells .outputs }) v
 
 abbrev pub withFlag : ℕ → ℕ → Values → Values
 withFlag i x v =
-    record { variables = v .variables; flags = set (v .flags) i x; outputs = v .outputs; axis = v .axis; mark = v .mark; notes = v .notes }
+    withCells (record { variables = v .cells .variables; flags = set (v .cells .flags) i x; outputs = v .cells .outputs }) v
 
 abbrev pub withOutput : ℕ → ℕ → Values → Values
 withOutput i x v =
-    record { variables = v .variables; flags = v .flags; outputs = set (v .outputs) i x; axis = v .axis; mark = v .mark; notes = v .notes }
-
-abbrev pub withAxis : Axis → Values → Values
-withAxis a v = record { variables = v .variables; flags = v .flags; outputs = v .outputs; axis = a; mark = v .mark; notes = v .notes }
+    withCells (record { variables = v .cells .variables; flags = v .cells .flags; outputs = set (v .cells .outputs) i x }) v
 
 abbrev pub withMark : ℕ → Values → Values
-withMark m v = record { variables = v .variables; flags = v .flags; outputs = v .outputs; axis = v .axis; mark = m; notes = v .notes }
+withMark m v = withMotion (record { axis = v .motion .axis; mark = m }) v
 
-abbrev pub withNotes : Notes → Values → Values
-withNotes n v = record { variables = v .variables; flags = v .flags; outputs = v .outputs; axis = v .axis; mark = v .mark; notes = n }
+-- ---- the axis of a number: there is one, and any number reads it and sets it
+
+abbrev pub firstAxis : ℕ
+firstAxis = 0
+
+abbrev pub axisOf : ℕ → Values → Axis
+axisOf n v = v .motion .axis
+
+abbrev pub withAxis : ℕ → Axis → Values → Values
+withAxis n a v = withMotion (record { axis = a; mark = v .motion .mark }) v
 
 -- ---- setters of the axis
 

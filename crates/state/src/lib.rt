@@ -1,5 +1,5 @@
-// The state of a program that runs, by value (document 01, "Running"): variables, flags, output levels, the axis, the start mark, the notes of the
-// preceding BIAS step, and a record for each task with its own call stack. The buffer that firmware keeps is read and written by the crates above (docs/STATE.md).
+// The state of a program that runs, by value (document 01, "Running"): the values in three parts (cells, motion, notes), and a record for each task with its
+// own call stack. The buffer that firmware keeps is read and written by the crates above (docs/STATE.md).
 use drive::Drive;
 use image::Header;
 use limits::CELLS;
@@ -8,7 +8,7 @@ use limits::TASKS;
 ghost use mathlib.Core.Path.{_≡_};
 ghost use Rattle.state.specs.Wait.{due};
 ghost use Rattle.state.specs.State.{neverStarted, running, freshValues, fresh};
-ghost use Rattle.state.specs.State.{withVariable, withFlag, withOutput, withAxis, withMark, withNotes};
+ghost use Rattle.state.specs.State.{withVariable, withFlag, withOutput, axisOf, withAxis, withMark, withNotes};
 ghost use Rattle.state.specs.State.{withPosition, withSpeed, withAcceleration, withDeceleration};
 
 // What a task does: it was never started, it runs, it ended itself by 51, or 19 or 20 halted it.
@@ -40,18 +40,31 @@ pub struct Axis {
     pub deceleration: u16,
 }
 
+// The number of the axis. There is one.
+pub const FIRST_AXIS: u8 = 0;
+
+// Variables, flags and output levels.
+pub struct Cells {
+    pub variables: [i32; CELLS],
+    pub flags: [u8; CELLS],
+    pub outputs: [u8; CELLS],
+}
+
+// What motion commands keep: the stored parameters of the axis, and the start mark of 0E.
+pub struct Motion {
+    pub axis: Axis,
+    pub mark: u8,
+}
+
 // Notes of the preceding BIAS step: the start input's level.
 pub struct Notes {
     pub level: u8,
 }
 
-// What commands read and write besides their task: variables, flags and output levels, the axis, the start mark of 0E, and the notes.
+// What commands read and write besides their task.
 pub struct Values {
-    pub variables: [i32; CELLS],
-    pub flags: [u8; CELLS],
-    pub outputs: [u8; CELLS],
-    pub axis: Axis,
-    pub mark: u8,
+    pub cells: Cells,
+    pub motion: Motion,
     pub notes: Notes,
 }
 
@@ -143,14 +156,17 @@ impl Values {
             acceleration: 1,
             deceleration: 1,
         };
-        let notes = Notes { level: 1 };
         Values {
-            variables: variables,
-            flags: flags,
-            outputs: outputs,
-            axis: axis,
-            mark: 0,
-            notes: notes,
+            cells: Cells {
+                variables: variables,
+                flags: flags,
+                outputs: outputs,
+            },
+            motion: Motion {
+                axis: axis,
+                mark: 0,
+            },
+            notes: Notes { level: 1 },
         }
     }
 
@@ -158,7 +174,8 @@ impl Values {
     pub fn with_variable(mut self, index: u8, value: i32) -> Values
         ensures { λ r. ⌜ r ≡ withVariable index value self ⌝ }
     {
-        self.variables[index as usize] = value;
+        let variables = &mut self.cells.variables;
+        variables[index as usize] = value;
         self
     }
 
@@ -166,7 +183,8 @@ impl Values {
     pub fn with_flag(mut self, index: u8, level: u8) -> Values
         ensures { λ r. ⌜ r ≡ withFlag index level self ⌝ }
     {
-        self.flags[index as usize] = level;
+        let flags = &mut self.cells.flags;
+        flags[index as usize] = level;
         self
     }
 
@@ -174,15 +192,25 @@ impl Values {
     pub fn with_output(mut self, index: u8, level: u8) -> Values
         ensures { λ r. ⌜ r ≡ withOutput index level self ⌝ }
     {
-        self.outputs[index as usize] = level;
+        let outputs = &mut self.cells.outputs;
+        outputs[index as usize] = level;
         self
     }
 
-    // The axis replaced.
-    pub fn with_axis(mut self, axis: Axis) -> Values
-        ensures { λ r. ⌜ r ≡ withAxis axis self ⌝ }
+    // The axis of a number: there is one, and any number reads it.
+    pub fn axis(self, number: u8) -> Axis
+        ensures { λ r. ⌜ r ≡ axisOf number self ⌝ }
     {
-        self.axis = axis;
+        self.motion.axis
+    }
+
+    // The axis of a number replaced.
+    pub fn with_axis(mut self, number: u8, axis: Axis) -> Values
+        ensures { λ r. ⌜ r ≡ withAxis number axis self ⌝ }
+    {
+        let mut motion = self.motion;
+        motion.axis = axis;
+        self.motion = motion;
         self
     }
 
@@ -190,7 +218,7 @@ impl Values {
     pub fn with_mark(mut self, mark: u8) -> Values
         ensures { λ r. ⌜ r ≡ withMark mark self ⌝ }
     {
-        self.mark = mark;
+        self.motion.mark = mark;
         self
     }
 

@@ -159,16 +159,16 @@ fn div_variable(c: Command, v: Values) -> Effect
 
 // 86: variable x = z flags from flag y on as a number, the first one lowest.
 fn flags_as_number(c: Command, v: Values) -> Effect
-    ensures { λ r. ⌜ r ≡ assigns c (wrap w32 (pos (flagNumber (v .flags) (c .y) (c .z)))) v ⌝ }
+    ensures { λ r. ⌜ r ≡ assigns c (wrap w32 (pos (flagNumber (v .cells .flags) (c .y) (c .z)))) v ⌝ }
 {
     effect::assigns(c, arith::value(flag_number(v, c.y, c.z)), v)
 }
 
 // The low 32 bits of flags as a number, the first one lowest. 7 refuses more than 32 flags before.
 fn flag_number(v: Values, first: u8, count: u8) -> u32
-    ensures { λ r. ⌜ r ≡ word w32 (pos (flagNumber (v .flags) first count)) ⌝ }
+    ensures { λ r. ⌜ r ≡ word w32 (pos (flagNumber (v .cells .flags) first count)) ⌝ }
 {
-    let flags = v.flags;
+    let flags = v.cells.flags;
     let mut number: u32 = 0;
     let mut left = count as usize;
     while left > 0 {

@@ -3,7 +3,7 @@ use image::Header;
 use limits::CELLS;
 use limits::STACK_LENGTH;
 use limits::STATE_LENGTH;
-use state::Axis;
+use state::Motion;
 use state::Notes;
 use state::State;
 use state::Task;
@@ -27,12 +27,12 @@ pub fn encode(s: State) -> [u8; STATE_LENGTH]
     let bias = tasks[0];
     let plc = tasks[1];
     let mathematics = tasks[2];
-    put_variables(&mut b, layout::VARIABLES_AT, &values.variables);
-    put_levels(&mut b, layout::FLAGS_AT as usize, &values.flags);
-    put_levels(&mut b, layout::OUTPUTS_AT as usize, &values.outputs);
+    put_variables(&mut b, layout::VARIABLES_AT, &values.cells.variables);
+    put_levels(&mut b, layout::FLAGS_AT as usize, &values.cells.flags);
+    put_levels(&mut b, layout::OUTPUTS_AT as usize, &values.cells.outputs);
     put_layout(&mut b);
     put_header(&mut b, s.header);
-    put_motion(&mut b, values.axis, values.mark);
+    put_motion(&mut b, values.motion);
     put_notes(&mut b, values.notes);
     put_starts(&mut b, plc.start, mathematics.start);
     put_task(&mut b, layout::TASKS_AT, bias);
@@ -87,14 +87,14 @@ fn put_header(b: &mut [u8; STATE_LENGTH], h: Header)
 }
 
 // The axis and the start mark.
-fn put_motion(b: &mut [u8; STATE_LENGTH], axis: Axis, mark: u8)
-    ensures { λ _. ⌜ now (b .exit) ≡ puts (now (b .entry)) motionAt (motionBytes axis mark) ⌝ }
+fn put_motion(b: &mut [u8; STATE_LENGTH], motion: Motion)
+    ensures { λ _. ⌜ now (b .exit) ≡ puts (now (b .entry)) motionAt (motionBytes motion) ⌝ }
 {
-    places::put_signed(b, layout::MOTION_AT, axis.position);
-    places::put_word(b, layout::MOTION_AT + 4, axis.speed);
-    places::put_word(b, layout::MOTION_AT + 6, axis.acceleration);
-    places::put_word(b, layout::MOTION_AT + 8, axis.deceleration);
-    places::put_byte(b, layout::MOTION_AT + 10, mark);
+    places::put_signed(b, layout::MOTION_AT, motion.axis.position);
+    places::put_word(b, layout::MOTION_AT + 4, motion.axis.speed);
+    places::put_word(b, layout::MOTION_AT + 6, motion.axis.acceleration);
+    places::put_word(b, layout::MOTION_AT + 8, motion.axis.deceleration);
+    places::put_byte(b, layout::MOTION_AT + 10, motion.mark);
 }
 
 fn put_notes(b: &mut [u8; STATE_LENGTH], notes: Notes)

@@ -1,17 +1,14 @@
 -- `store_position` meets its contract. Assumes nothing.
-use mathlib.Core.Path.{refl, ap, _∙_}
-use lib.IntN.{ℤ}
+use mathlib.Core.Path.{refl}
 use mir.Syntax.{w32}
 use Rattle.arith.proofs.Range.{got}
-use Rattle.machine.specs.Effect.{assigns}
 use Rattle.axis.proofs.store_position.Statement.{statement}
 use Rattle.axis.proofs.store_position.Tie as tie
 
+returns : tie.Need-returns
+returns c =
+    let a = c .before .before .axis in
+    rw (c .assigns .ensures, got w32 {r = a .result .position} (c .before .struct-told .given .0 .1) refl, a .ensures)
+
 pub store-position-spec : {M : Type 1} → statement M
-store-position-spec =
-    tie.close
-    (tie.spec
-    (λ c κs. tt)
-    (λ c.
-    let a = c .before .before .before .args in
-    c .assigns .ensures ∙ ap (λ (z : ℤ). assigns (a .c) z (a .v)) (got w32 {r = a .v .axis .position} (c .before .struct-told .given .0 .1) refl)))
+store-position-spec = tie.close (tie.spec (λ c κs. tt) (λ c κs. tt) returns)

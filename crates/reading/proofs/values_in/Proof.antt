@@ -18,17 +18,11 @@ cast-levels-in-2 c = search needs
 levels-in-requires-2 : tie.Need-levels-in-requires-2
 levels-in-requires-2 c κs = search needs
 
-axis-in-requires : tie.Need-axis-in-requires
-axis-in-requires c κs = search needs
+motion-in-requires : tie.Need-motion-in-requires
+motion-in-requires c κs = search needs
 
 byte-requires : tie.Need-byte-requires
 byte-requires c κs = search needs
-
-add-byte : tie.Need-add-byte
-add-byte c = search needs
-
-byte-requires-2 : tie.Need-byte-requires-2
-byte-requires-2 c κs = search needs
 
 returns : tie.Need-returns
 returns c = cc
@@ -42,8 +36,6 @@ values-in-spec =
     levels-in-requires
     cast-levels-in-2
     levels-in-requires-2
-    axis-in-requires
+    motion-in-requires
     byte-requires
-    add-byte
-    byte-requires-2
     returns)

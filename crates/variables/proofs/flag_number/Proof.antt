@@ -18,7 +18,7 @@ abbrev μ-loop : tie.MeasureT-loop
 μ-loop first count flags number₀ left₀ number left = left
 
 loop-holds : tie.Need-loop-holds Inv-loop μ-loop
-loop-holds c = let a = c .before .args in (omega arith, none w32 (a .v .flags) (a .first) (a .count))
+loop-holds c = let a = c .before .args in (omega arith, none w32 (a .v .cells .flags) (a .first) (a .count))
 
 sub-left : tie.Need-sub-left Inv-loop μ-loop
 sub-left c = search needs
@@ -44,14 +44,14 @@ loop-again c =
     let v = c .before .before .before .before .loop in (
       omega arith,
       c .with-flag .ensures ∙ ap (λ (l : ℕ). word w32 (pos (l + 2 * v .number))) (c .before .level-at .ensures)
-          ∙ more w32 (a .v .flags) (a .first) (a .count) (v .left) (v .number) (omega arith) (v .inv .0) (v .inv .1),
+          ∙ more w32 (a .v .cells .flags) (a .first) (a .count) (v .left) (v .number) (omega arith) (v .inv .0) (v .inv .1),
     )
 
 returns : tie.Need-returns Inv-loop μ-loop
 returns c =
     let a = c .before .before .before .args in
     let v = c .before .loop in
-    all w32 (a .v .flags) (a .first) (a .count) (v .left) (v .number) (omega arith) (v .inv .1)
+    all w32 (a .v .cells .flags) (a .first) (a .count) (v .left) (v .number) (omega arith) (v .inv .1)
 
 pub flag-number-spec : {M : Type 1} → statement M
 flag-number-spec =

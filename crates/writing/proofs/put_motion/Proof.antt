@@ -50,11 +50,11 @@ returns c =
     let k1 = k2 .before .before in
     let k0 = k1 .before .before in
     let st = k0 .before .before .before in
-    let a = st .args .axis in
-    let f : mag (a .position) < 2147483648 = omega (arith, k0 .before .struct-told .given) in
-    let z = toZ-ofZ {w = w32} {z = a .position} (record { sfits = f }) in
+    let m = st .args .motion in
+    let f : mag (m .axis .position) < 2147483648 = omega (arith, k0 .before .struct-told .given) in
+    let z = toZ-ofZ {w = w32} {z = m .axis .position} (record { sfits = f }) in
     let p = k0 .put-signed .ensures ∙ ap (λ (y : ℤ). puts (now (st .args .b)) motionAt (signedBytes y)) z in
-    record-put motionWidths (motionRecord a (st .args .mark)) motionAt refl
+    record-put motionWidths (motionRecord m) motionAt refl
     (put p
     (put (k1 .put-word .ensures)
     (put (k2 .put-word2 .ensures)

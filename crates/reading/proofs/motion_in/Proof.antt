@@ -1,9 +1,9 @@
--- `reading::axis_in` meets its contract, field by field. Assumes nothing.
+-- `reading::motion_in` meets its contract, field by field. Assumes nothing.
 use mir.Syntax.{w32}
 use Rattle.arith.proofs.Range.{got}
 use borrow.Author.Needs.{needs}
-use Rattle.reading.proofs.axis_in.Statement.{statement}
-use Rattle.reading.proofs.axis_in.Tie as tie
+use Rattle.reading.proofs.motion_in.Statement.{statement}
+use Rattle.reading.proofs.motion_in.Tie as tie
 
 signed-requires : tie.Need-signed-requires
 signed-requires c κs = search needs
@@ -26,21 +26,31 @@ add-word-3 c = search needs
 word-requires-3 : tie.Need-word-requires-3
 word-requires-3 c κs = search needs
 
+add-byte : tie.Need-add-byte
+add-byte c = search needs
+
+byte-requires : tie.Need-byte-requires
+byte-requires c κs = search needs
+
 returns : tie.Need-returns
 returns c =
-    let k2 = c .before in
+    let k3 = c .before in
+    let k2 = k3 .before in
     let k1 = k2 .before in
     let k0 = k1 .before in
     λ i.
     record {
-      position = got w32 (k0 .signed .ok) (k0 .signed .ensures) i;
-      speed = k1 .word .ensures i;
-      acceleration = k2 .word2 .ensures i;
-      deceleration = c .word3 .ensures i;
+      axis = record {
+        position = got w32 (k0 .signed .ok) (k0 .signed .ensures) i;
+        speed = k1 .word .ensures i;
+        acceleration = k2 .word2 .ensures i;
+        deceleration = k3 .word3 .ensures i;
+      };
+      mark = c .byte .ensures i;
     }
 
-pub axis-in-spec : {M : Type 1} → statement M
-axis-in-spec =
+pub motion-in-spec : {M : Type 1} → statement M
+motion-in-spec =
     tie.close
     (tie.spec
     signed-requires
@@ -50,4 +60,6 @@ axis-in-spec =
     word-requires-2
     add-word-3
     word-requires-3
+    add-byte
+    byte-requires
     returns)
