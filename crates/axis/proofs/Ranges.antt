@@ -1,4 +1,4 @@
--- Contents in the range of a parameter, and parameters as 32-bit numbers. Assumes nothing.
+-- Contents in the range of a parameter, and parameters as 32-bit numbers.
 use Prim.Native.Nat.{ℕ, _<_}
 use mathlib.Core.Path.{_≡_, refl, sym}
 use mathlib.Core.Bool.{true}

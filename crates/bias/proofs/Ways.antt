@@ -1,4 +1,4 @@
--- Each way that a load and a step go, by the test that leads there. Assumes nothing.
+-- Each way that a load and a step go, by the test that leads there.
 use Prim.Native.Nat.{ℕ, _<_, _≤_}
 use mathlib.Core.Path.{_≡_, refl, sym, ap, _∙_}
 use mathlib.Core.Bool.{Bool, true, false}

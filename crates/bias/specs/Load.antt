@@ -1,5 +1,4 @@
 -- What `bias_load` answers and leaves of the lent state buffer (document 01, "Refused because of the input"): 13 first, then 16, then the image.
--- Assumes nothing.
 use Prim.Native.Nat.{ℕ}
 use mathlib.Core.Bool.{cond}
 use mathlib.Core.List.{List}

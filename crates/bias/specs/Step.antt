@@ -1,5 +1,5 @@
 -- What `bias_step` answers and leaves of the lent state buffer (document 01: 15 in "Refused because of the input", the rest in "Running"): 15 first, then
--- 16; then the step of the state that the buffer holds, which is refused by 18 and 17 or carried out. Assumes nothing.
+-- 16; then the step of the state that the buffer holds, which is refused by 18 and 17 or carried out.
 use Prim.Native.Nat.{ℕ}
 use mathlib.Core.Bool.{cond}
 use mathlib.Core.List.{List}

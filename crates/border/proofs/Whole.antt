@@ -1,4 +1,4 @@
--- Nothing of a motion request is lost on its way to C: it can be read back from the fields of the answer. Assumes nothing.
+-- Nothing of a motion request is lost on its way to C: it can be read back from the fields of the answer.
 use mathlib.Core.Path.{_≡_, refl}
 use mathlib.Core.Bool.{cond}
 use lib.Dec.{eqb}

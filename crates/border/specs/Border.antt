@@ -1,5 +1,5 @@
 -- What C is handed (include/bias.h): the structs of results, by document 01's number and place of what the library answers. Parts that
--- are not named are 0, and so are the fields that a request does not carry. Assumes nothing.
+-- are not named are 0, and so are the fields that a request does not carry.
 use Prim.Native.Nat.{ℕ}
 use mathlib.Core.Bool.{cond}
 use lib.IntN.{pos}

@@ -1,4 +1,4 @@
--- The example is accepted, by computation, and the theorem holds of its steps; what they come to is computed too. Assumes nothing.
+-- The example is accepted, by computation, and the theorem holds of its steps; what they come to is computed too.
 use mathlib.Core.Path.{_≡_, refl, sym, _∙_}
 use mathlib.Core.List.{List, map}
 use lib.ListN.{getD}

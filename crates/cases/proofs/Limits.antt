@@ -1,4 +1,4 @@
--- Each limit is the papers' number. Assumes nothing.
+-- Each limit is the papers' number.
 use mathlib.Core.Path.{refl}
 use Rattle.cases.specs.Limits.{LimitsAre}
 

@@ -1,4 +1,4 @@
--- The rows of the table by name and answer, in document 01's order: none is left out, and none answers what it should not. Assumes nothing.
+-- The rows of the table by name and answer, in document 01's order: none is left out, and none answers what it should not.
 use mathlib.Core.Path.{_≡_, refl}
 use mathlib.Core.List.{[], _∷_, map}
 use lib.IntN.{negsuc}

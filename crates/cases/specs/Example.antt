@@ -1,5 +1,5 @@
 -- A program in which much happens at once: three tasks, calls inside calls, a wait, a task that halts, and a return to start that starts the others
--- again; and a list of steps of it. The theorem over lists of steps is not empty: it speaks of this (proofs/Example.antt). Assumes nothing.
+-- again; and a list of steps of it. The theorem over lists of steps is not empty: it speaks of this (proofs/Example.antt).
 use Prim.Native.Nat.{ℕ}
 use mathlib.Core.List.{List, [], _∷_, map}
 use lib.ListN.{replicate}

@@ -1,5 +1,4 @@
 -- Images as document 01 writes them ("Examples and faults to shut out"): header 01 02 00 00, then start and count, then the blocks.
--- Assumes nothing.
 use Prim.Native.Nat.{ℕ, zero, suc, _+_}
 use mathlib.Core.List.{List, [], _∷_, _++_}
 use lib.ListN.{length}

@@ -1,4 +1,4 @@
--- The limits by the papers' own numbers, which stand here, in the reference machine and in the table of cases. Assumes nothing.
+-- The limits by the papers' own numbers, which stand here, in the reference machine and in the table of cases.
 use mathlib.Core.Path.{_≡_}
 use Rattle.limits.specs.Limits as limits
 use Rattle.image.specs.Longest.{longestImage}

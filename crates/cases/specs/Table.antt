@@ -1,5 +1,5 @@
 -- Document 01's cases as one table of questions and answers ("Examples and faults to shut out"), and the change requests'. The questions are put to
--- the definitions that stand in the contracts. Assumes nothing.
+-- the definitions that stand in the contracts.
 use Prim.Native.Nat.{ℕ}
 use mathlib.Core.List.{List, [], _∷_, map}
 use lib.ListN.{replicate}

@@ -1,5 +1,5 @@
 -- 6 and 23 of a block (change request 3): a block that is refused by 23 passes both with a board that the type may carry, one that is refused by 6 stays so
--- whatever is in the slots, and 23 never comes on a 631. Assumes nothing.
+-- whatever is in the slots, and 23 never comes on a 631.
 use Prim.Native.Nat.{ℕ}
 use native.Mathlib.Omega.{arith}
 use mathlib.Core.Path.{_≡_, refl, sym, ap, _∙_}

@@ -1,4 +1,4 @@
--- No two faults of a block have one number, 6 and 23 among them: who is told the number knows the fault. Assumes nothing.
+-- No two faults of a block have one number, 6 and 23 among them: who is told the number knows the fault.
 use Prim.Native.Nat.{ℕ}
 use mathlib.Core.Path.{_≡_, refl, sym, ap, _∙_}
 use mathlib.Core.Bool.{cond}

@@ -1,4 +1,4 @@
--- What 6 and 23 of a block promise to a fitter (change request 3), of which the laws speak (proofs/Boards.antt). Assumes nothing.
+-- What 6 and 23 of a block promise to a fitter (change request 3), of which the laws speak (proofs/Boards.antt).
 use Prim.Native.Nat.{ℕ}
 use mathlib.Core.Path.{_≡_}
 use mathlib.Core.Bool.{true}

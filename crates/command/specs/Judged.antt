@@ -1,5 +1,5 @@
 -- A block judged for the drive and the block count of a header: 5, then 6 or 23, then 7, then 8 (document 01, "Refused because of the input";
--- change request 3 splits 23 off 6). Which device and which ranges a code asks for stands in its row. Assumes nothing.
+-- change request 3 splits 23 off 6). Which device and which ranges a code asks for stands in its row.
 use Prim.Native.Nat.{ℕ, _+_}
 use mathlib.Core.Bool.{Bool, true, _&&_, not, cond}
 use mathlib.Core.List.{List}

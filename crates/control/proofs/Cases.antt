@@ -1,4 +1,4 @@
--- Waits by their two cases, and contents as natural numbers. Assumes nothing.
+-- Waits by their two cases, and contents as natural numbers.
 use Prim.Native.Nat.{ℕ, _+_}
 use mathlib.Core.Path.{_≡_, refl}
 use mathlib.Core.Bool.{true, false, cond}

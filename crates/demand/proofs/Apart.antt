@@ -1,5 +1,5 @@
 -- What `Demand` and `EveryStep` give when they are taken apart, in the numbers and buffers that C sees: one way more, or one thing less, in specs/Theorem.antt and
--- specs/Every.antt is noticed here, or in Loads.antt and Every.antt, where theorems go both ways. Assumes nothing.
+-- specs/Every.antt is noticed here, or in Loads.antt and Every.antt, where theorems go both ways.
 use Prim.Native.Nat.{ℕ, _<_, _≤_}
 use native.Mathlib.Omega.{arith}
 use mathlib.Core.Path.{_≡_, refl, sym, ap, _∙_}

@@ -1,5 +1,5 @@
 -- 6 and 23 as C sees them (change request 3): what a load that answers one of them says of the block that it names, and that a step answers 17 for either and
--- never 23. What a block by itself gives stands in command/proofs/Boards.antt. Assumes nothing.
+-- never 23. What a block by itself gives stands in command/proofs/Boards.antt.
 use Prim.Native.Nat.{ℕ}
 use native.Mathlib.Omega.{arith}
 use mathlib.Core.Path.{_≡_, refl, sym, ap, subst, _∙_}

@@ -1,4 +1,4 @@
--- Demand 3, whole. Assumes nothing.
+-- Demand 3, whole.
 use Rattle.demand.specs.Theorem.{Demand}
 use Rattle.demand.proofs.Loads.{load-of, refused-exactly}
 use Rattle.demand.proofs.Runs.{every-run}

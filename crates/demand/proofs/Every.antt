@@ -1,5 +1,5 @@
 -- Every step of bytes goes one of the ways of specs/Every.antt, by the tests that lead there, and what it answers and leaves is that way's: a command halts exactly
--- for its reason, and where it halts no wait was pending. Assumes nothing.
+-- for its reason, and where it halts no wait was pending.
 use Prim.Native.Nat.{ℕ}
 use native.Mathlib.Omega.{arith}
 use mathlib.Core.Path.{_≡_, refl, sym, ap, _∙_, subst}

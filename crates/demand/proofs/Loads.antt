@@ -1,5 +1,5 @@
 -- What a load answers is what part 7 of demand 3 asks for, and nothing else; it answers 0 only where the image is accepted, and then the buffer holds
--- the fresh state. Assumes nothing.
+-- the fresh state.
 use Prim.Native.Nat.{ℕ, _<_, _≤_}
 use native.Mathlib.Omega.{arith}
 use mathlib.Core.Path.{_≡_, refl, sym, ap, _∙_, subst}

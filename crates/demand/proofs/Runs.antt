@@ -1,5 +1,5 @@
 -- The theorem over every list of steps, of the functions that C calls: along a run the buffer is the bytes of the state that the engine's run on values
--- has come to (machine/proofs/Runs.antt), since a good state is read back from its bytes and a step keeps good states. Assumes nothing.
+-- has come to (machine/proofs/Runs.antt), since a good state is read back from its bytes and a step keeps good states.
 use Prim.Native.Nat.{ℕ, _<_}
 use mathlib.Core.Path.{_≡_, refl, sym, ap, _∙_, subst}
 use mathlib.Core.Bool.{true, false}

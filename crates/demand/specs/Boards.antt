@@ -1,5 +1,5 @@
 -- The first block of an image that is refused by itself (5 to 8 or 23), in a load that comes to its blocks; of which the laws of change request 3 speak
--- (proofs/Boards.antt). Assumes nothing.
+-- (proofs/Boards.antt).
 use Prim.Native.Nat.{ℕ, _<_, _≤_}
 use mathlib.Core.Path.{_≡_}
 use mathlib.Core.Bool.{true}

@@ -1,5 +1,5 @@
 -- Every step, of whatever bytes, in a run or not (demand 1): which way it goes, and of each way the condition, the whole answer and the whole buffer. Proved
--- as `every-step` in proofs/Every.antt. Assumes nothing.
+-- as `every-step` in proofs/Every.antt.
 use Prim.Native.Nat.{ℕ, _<_, _≤_}
 use mathlib.Core.Path.{_≡_}
 use mathlib.Core.Bool.{true, false}

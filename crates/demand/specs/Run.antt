@@ -1,5 +1,5 @@
 -- Runs on buffers: a list of steps, each given the buffer that the one before it left, with the image unchanged. They are folds of the very names
--- that stand in the promises of `bias_load` and `bias_step`. Assumes nothing.
+-- that stand in the promises of `bias_load` and `bias_step`.
 use Prim.Native.Nat.{ℕ}
 use mathlib.Core.List.{List, [], _∷_}
 use Rattle.machine.specs.Given.{Inputs}

@@ -1,5 +1,5 @@
 -- Demand 3, of the functions that C calls (docs/PROMISES.md numbers its parts), as one claim, `Demand`: parts 1 to 6 are `EveryRun`, part 7 is `EveryLoad`, with
--- the user's own sentence beside it. Proved as `demand` in proofs/Demand.antt. Assumes nothing.
+-- the user's own sentence beside it. Proved as `demand` in proofs/Demand.antt.
 use Prim.Native.Nat.{ℕ, _<_, _≤_}
 use mathlib.Core.Path.{_≡_}
 use mathlib.Core.Bool.{Bool, true, false}

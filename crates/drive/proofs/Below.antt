@@ -1,5 +1,4 @@
 -- What a test says of every number below n, by one computation: the test passes at 0, 1, .. in turn, so it passes at each.
--- Assumes nothing.
 use Prim.Native.Nat.{ℕ, zero, suc, _+_, _≤_, _<_}
 use native.Mathlib.Omega.{arith}
 use mathlib.Core.Path.{_≡_, refl, subst, sym}

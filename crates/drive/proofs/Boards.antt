@@ -1,5 +1,5 @@
 -- Which board is missing (change request 3): `Drive::pin` says that a board is missing exactly where one that the type may carry has the pin, and never
--- exactly where no boards that the type may carry bring it; on a 631 no board is missing. Assumes nothing.
+-- exactly where no boards that the type may carry bring it; on a 631 no board is missing.
 use Prim.Native.Nat.{ℕ, _<_}
 use native.Mathlib.Omega.{arith}
 use mathlib.Core.Path.{_≡_, refl, sym, ap, _∙_}

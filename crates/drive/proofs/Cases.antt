@@ -1,5 +1,4 @@
 -- The definitions of types and slots, case by case: what each says where a test holds or fails.
--- Assumes nothing.
 use Prim.Native.Nat.{ℕ, zero, suc, _<_, _≤_}
 use native.Mathlib.Omega.{arith}
 use mathlib.Core.Path.{_≡_, refl}

@@ -1,5 +1,4 @@
 -- What the definitions of types, boards and pins say of every drive. Types: 0 is the 631, 4 the 637f. Board 0 of a slot is the empty slot.
--- Assumes nothing.
 use Prim.Native.Nat.{ℕ, zero, suc, _<_, _≤_}
 use native.Mathlib.Omega.{arith}
 use mathlib.Core.Path.{_≡_, refl, ap, _∙_}

@@ -1,4 +1,4 @@
--- Boards fitted to a drive, of which the laws of change request 3 speak (proofs/Boards.antt). Assumes nothing.
+-- Boards fitted to a drive, of which the laws of change request 3 speak (proofs/Boards.antt).
 use Prim.Native.Nat.{ℕ}
 use mathlib.Core.Path.{_≡_}
 use mathlib.Core.Bool.{Bool, true, false, _&&_, not}

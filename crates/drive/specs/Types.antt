@@ -1,5 +1,5 @@
 -- Types of drives, their cycle lengths and the boards they may carry: document 01, "Drive and pins".
--- Types: 0 is the 631, 1 the 635, 2 the 637, 3 the 637+, 4 the 637f. Assumes nothing.
+-- Types: 0 is the 631, 1 the 635, 2 the 637, 3 the 637+, 4 the 637f.
 use Prim.Native.Nat.{ℕ}
 use mathlib.Core.Bool.{Bool, _&&_}
 use mathlib.Core.List.{List, [], _∷_}

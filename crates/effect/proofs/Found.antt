@@ -1,4 +1,4 @@
--- A `match` on a command's code finds the deed of its row: an arm is the row of its code, and a code of no arm is in no row. Assumes nothing.
+-- A `match` on a command's code finds the deed of its row: an arm is the row of its code, and a code of no arm is in no row.
 use Prim.Native.Nat.{ℕ}
 use mathlib.Core.Path.{_≡_, refl, sym, ap, _∙_}
 use mathlib.Core.Bool.{Bool, cond}

@@ -1,4 +1,4 @@
--- What the engine's functions share: truths twice negated, and a step put together. Assumes nothing.
+-- What the engine's functions share: truths twice negated, and a step put together.
 use Prim.Native.Nat.{ℕ, _<_, _≤_}
 use mathlib.Core.Path.{_≡_, refl}
 use mathlib.Core.Bool.{Bool, true, false, not}

@@ -1,4 +1,4 @@
--- The faults of a point: which is that of a foreign 51, which are bad, and document 01's numbers ("Refused because of the input"). Assumes nothing.
+-- The faults of a point: which is that of a foreign 51, which are bad, and document 01's numbers ("Refused because of the input").
 use Prim.Native.Nat.{ℕ}
 use mathlib.Core.Bool.{Bool, true, false}
 use Rattle.fault.specs.declared.Fault.{Fault}

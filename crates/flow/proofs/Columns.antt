@@ -1,4 +1,4 @@
--- The tasks of every row are boxes of the three: no box is passed over. Assumes nothing.
+-- The tasks of every row are boxes of the three: no box is passed over.
 use Prim.Native.Nat.{ℕ, _^_, _<_}
 use native.Mathlib.Omega.{arith}
 use lib.ListN.{length}

@@ -1,5 +1,5 @@
 -- The law of the foreign 51 (DECISIONS R2): it is a 51 whose mode is not 0 and names another task. That 51 alone has the flow of an end is one
--- computation over the rows. Assumes nothing.
+-- computation over the rows.
 use Prim.Native.Nat.{ℕ, _+_}
 use mathlib.Core.Path.{_≡_, refl, sym, ap, subst, _∙_}
 use mathlib.Core.Bool.{Bool, true, not}

@@ -1,4 +1,4 @@
--- The default arm of `permitted`: a task past mathematics has no box. Assumes nothing.
+-- The default arm of `permitted`: a task past mathematics has no box.
 use Prim.Native.Nat.{ℕ, zero, suc, _+_, _≤_, zero-le}
 use native.Mathlib.Omega.{arith}
 use mathlib.Core.Path.{_≡_}

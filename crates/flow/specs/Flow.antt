@@ -1,5 +1,4 @@
 -- What a command may continue with, by the flow of its code's row (document 01, "Walks", and the command's page in 000).
--- Assumes nothing.
 use Prim.Native.Nat.{ℕ, _+_}
 use mathlib.Core.Bool.{cond}
 use mathlib.Core.List.{List, [], _∷_}

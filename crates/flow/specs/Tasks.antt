@@ -1,5 +1,4 @@
 -- Which task may execute a command: 7 for a 51 that ends another task, and the boxes of 9 (document 01, "Refused because of the input").
--- Assumes nothing.
 use Prim.Native.Nat.{ℕ, _+_, _/_, _%_}
 use mathlib.Core.Bool.{Bool, false, _&&_, not}
 use mathlib.Core.List.{List, [], _∷_}

@@ -1,4 +1,4 @@
--- The bytes of a line: how many they are, what the first of them are, and one more put behind them. Assumes nothing.
+-- The bytes of a line: how many they are, what the first of them are, and one more put behind them.
 use mathlib.Core.Path.{_≡_, refl, ap, _∙_}
 use mathlib.Core.List.{List, _++_, append-assoc}
 use Prim.Native.Nat.{ℕ, zero, suc, _+_, _*_, _<_, _≤_}

@@ -1,4 +1,4 @@
--- The lines of a text, counted byte by byte. Assumes nothing.
+-- The lines of a text, counted byte by byte.
 use mathlib.Core.Path.{_≡_}
 use mathlib.Core.List.{List}
 use Prim.Native.Nat.{ℕ, _+_}

@@ -1,4 +1,4 @@
--- Bytes as text: two hexadecimal digits for each. Assumes nothing.
+-- Bytes as text: two hexadecimal digits for each.
 use Prim.Native.Nat.{ℕ, zero, suc, _+_, _*_, _/_, _%_}
 use mathlib.Core.List.{List, [], _∷_, _++_}
 use lib.ListN.{length, getD}

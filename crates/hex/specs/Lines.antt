@@ -1,4 +1,4 @@
--- Lines of a text. Assumes nothing.
+-- Lines of a text.
 use Prim.Native.Nat.{ℕ, zero, suc, _+_}
 use mathlib.Core.Bool.{cond}
 use mathlib.Core.List.{List}

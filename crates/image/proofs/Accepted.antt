@@ -1,4 +1,4 @@
--- What a header was whose numbers were accepted: each stands where the scan was, the scan holds them all, and load accepts their header. Assumes nothing.
+-- What a header was whose numbers were accepted: each stands where the scan was, the scan holds them all, and load accepts their header.
 use mathlib.Core.Path.{_≡_, refl, sym, ap, _∙_}
 use mathlib.Core.Bool.{Bool, true, false}
 use mathlib.Core.List.{List}

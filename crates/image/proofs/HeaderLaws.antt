@@ -1,4 +1,4 @@
--- What the header of an image that is not refused promises to whoever goes on with it. Assumes nothing.
+-- What the header of an image that is not refused promises to whoever goes on with it.
 use mathlib.Core.Path.{_≡_, ap, sym, _∙_, subst}
 use mathlib.Core.List.{List}
 use Prim.Native.Nat.{ℕ, _*_}

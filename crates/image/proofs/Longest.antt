@@ -1,5 +1,5 @@
 -- No image that 1 to 4 let pass is longer than the longest (include/bias.h: BIAS_MOST_IMAGE_LENGTH): a number below 128 takes one byte, and no header
--- number is above its greatest. Assumes nothing.
+-- number is above its greatest.
 use mathlib.Core.Path.{_≡_, refl, subst}
 use mathlib.Core.Bool.{Bool, true, false, cond}
 use mathlib.Core.List.{List}

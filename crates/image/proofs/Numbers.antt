@@ -1,4 +1,4 @@
--- A header and its list of numbers hold the same. Assumes nothing.
+-- A header and its list of numbers hold the same.
 use Prim.Native.Nat.{ℕ, zero, suc, _<_}
 use native.Mathlib.Omega.{arith}
 use mathlib.Core.Path.{_≡_, refl}

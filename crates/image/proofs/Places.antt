@@ -1,5 +1,4 @@
 -- The place that 3 names is where that number stands: numbers are read in their shortest form, so each stands behind the bytes of those before it.
--- Assumes nothing.
 use mathlib.Core.Path.{_≡_, refl, ap, _∙_}
 use mathlib.Core.Bool.{true}
 use mathlib.Core.List.{List}

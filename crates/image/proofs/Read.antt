@@ -1,5 +1,4 @@
 -- An image that is not refused: its length is that of its numbers and blocks.
--- Assumes nothing.
 use mathlib.Core.Path.{_≡_, refl, sym, ap, _∙_}
 use mathlib.Core.Bool.{Bool, true, false}
 use mathlib.Core.List.{List, []}

@@ -1,4 +1,4 @@
--- A header that load accepts is one whose numbers are each in its range, and a row looks at no number behind its own. Assumes nothing.
+-- A header that load accepts is one whose numbers are each in its range, and a row looks at no number behind its own.
 use Prim.Native.Nat.{ℕ, zero, suc, _<_, _≤_}
 use native.Mathlib.Omega.{arith}
 use mathlib.Core.Path.{_≡_, refl, sym, ap}

@@ -1,4 +1,4 @@
--- One number more of a header: what a scan does with it, and how far a scan can come. Assumes nothing.
+-- One number more of a header: what a scan does with it, and how far a scan can come.
 use mathlib.Core.Path.{_≡_, refl, sym, _∙_}
 use mathlib.Core.Bool.{true, false}
 use mathlib.Core.List.{List}

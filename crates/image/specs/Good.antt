@@ -1,4 +1,4 @@
--- A header that load accepts: each number is in its range (document 01, "The image" and refusal 3). Assumes nothing.
+-- A header that load accepts: each number is in its range (document 01, "The image" and refusal 3).
 use Prim.Native.Nat.{_<_, _≤_}
 use mathlib.Core.Path.{_≡_}
 use mathlib.Core.Bool.{true}

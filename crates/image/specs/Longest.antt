@@ -1,4 +1,4 @@
--- How long an image can be: with each number of its header at its greatest, and the most blocks. Assumes nothing.
+-- How long an image can be: with each number of its header at its greatest, and the most blocks.
 use Prim.Native.Nat.{ℕ, zero, suc, _+_, _-_, _*_}
 use mathlib.Core.Bool.{cond}
 use mathlib.Core.List.{List, [], _∷_}

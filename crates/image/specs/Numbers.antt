@@ -1,4 +1,4 @@
--- The header as a list of numbers, in the order in which they stand in an image (document 01, "The image"). Assumes nothing.
+-- The header as a list of numbers, in the order in which they stand in an image (document 01, "The image").
 use Prim.Native.Nat.{ℕ, _<_}
 use mathlib.Core.List.{List, [], _∷_}
 use lib.ListN.{getD}

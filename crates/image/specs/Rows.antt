@@ -1,4 +1,4 @@
--- The header's numbers judged (document 01, "The image" and refusal 3): what must hold of each, and when it is asked. Assumes nothing.
+-- The header's numbers judged (document 01, "The image" and refusal 3): what must hold of each, and when it is asked.
 use Prim.Native.Nat.{ℕ, zero, suc}
 use mathlib.Core.Bool.{Bool, true, false, _&&_, cond}
 use mathlib.Core.List.{List, [], _∷_}

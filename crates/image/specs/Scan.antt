@@ -1,5 +1,4 @@
 -- The header as a whole: the numbers read and judged in order, then the length of the image (document 01, "Refused because of the input").
--- Assumes nothing.
 use Prim.Native.Nat.{ℕ, zero, suc, _+_, _*_}
 use mathlib.Core.Bool.{cond}
 use mathlib.Core.List.{List, []}

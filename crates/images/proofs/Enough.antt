@@ -1,4 +1,4 @@
--- The bytes that are judged have the verdict and the blocks of the whole line. Assumes nothing.
+-- The bytes that are judged have the verdict and the blocks of the whole line.
 use mathlib.Core.Path.{_≡_}
 use mathlib.Core.List.{List}
 use Prim.Native.Nat.{ℕ, _/_, _≤_, min}

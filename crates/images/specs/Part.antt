@@ -1,4 +1,4 @@
--- What is printed of the blocks of an accepted image. Assumes nothing.
+-- What is printed of the blocks of an accepted image.
 use Prim.Native.Nat.{ℕ, zero, suc, _+_, _*_, _%_}
 use mathlib.Core.List.{List}
 use lib.ListN.{length, getD}

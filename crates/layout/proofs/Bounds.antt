@@ -1,4 +1,4 @@
--- The numbers of a good state fit their bytes. Assumes nothing.
+-- The numbers of a good state fit their bytes.
 use Prim.Native.Nat.{ℕ, _<_}
 use native.Mathlib.Omega.{arith}
 use mathlib.Core.Path.{_≡_}

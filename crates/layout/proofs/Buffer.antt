@@ -1,4 +1,4 @@
--- The whole buffer by its sections: each has its length, so a buffer of zeros into which all are put is the state's. Assumes nothing.
+-- The whole buffer by its sections: each has its length, so a buffer of zeros into which all are put is the state's.
 use native.Mathlib.Omega.{arith}
 use mathlib.Core.Path.{_≡_, refl}
 use mathlib.Core.List.{List, [], _∷_}

@@ -1,5 +1,4 @@
 -- The laws of each codec, at any place: how many bytes it has; what is read where they stand; and that a buffer has the bytes of what is read there.
--- Assumes nothing.
 use Prim.Native.Nat.{ℕ, _+_, _*_, _<_, _≤_}
 use native.Mathlib.Omega.{arith}
 use mathlib.Core.Path.{_≡_, refl, sym, ap, _∙_, subst}

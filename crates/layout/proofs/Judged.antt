@@ -1,5 +1,4 @@
 -- 16 and good states say the same: a good state passes every test, and a state that passes them, and whose lists have the lengths of the layout, is good.
--- Assumes nothing.
 use Prim.Native.Nat.{ℕ, zero, suc, _<_, _≤_}
 use native.Mathlib.Omega.{arith}
 use mathlib.Core.Path.{_≡_, refl, sym, subst}

@@ -1,5 +1,5 @@
 -- The state buffer both ways: a good state is read back from its bytes; a buffer that 16 lets pass is written back from the state it holds; the first
--- buffers are states, and the second hold good ones. Assumes nothing.
+-- buffers are states, and the second hold good ones.
 use Prim.Native.Nat.{ℕ, zero, suc, _+_, _-_, _*_, _<_, _≤_}
 use native.Mathlib.Omega.{arith}
 use mathlib.Core.Path.{_≡_, refl, sym, ap, _∙_, subst}

@@ -1,4 +1,4 @@
--- One codec for each kind of section of the state buffer (docs/STATE.md): its length, its bytes, and what is read where they stand. Assumes nothing.
+-- One codec for each kind of section of the state buffer (docs/STATE.md): its length, its bytes, and what is read where they stand.
 use Prim.Native.Nat.{ℕ, _+_, _*_}
 use mathlib.Core.List.{List, [], _∷_}
 use lib.ListN.{getD}

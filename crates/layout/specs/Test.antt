@@ -1,5 +1,5 @@
 -- 16: which buffers are a state (docs/STATE.md). The tests are made of the state that the buffer is read as; only its length, its layout number and its
--- unused bytes are the buffer's own. Assumes nothing.
+-- unused bytes are the buffer's own.
 use Prim.Native.Nat.{ℕ, zero, suc, _+_}
 use mathlib.Core.Bool.{Bool, true, _&&_, _||_, not}
 use mathlib.Core.List.{List}

@@ -1,4 +1,4 @@
--- What `bytes::copy` leaves where the source is as long as the target: the source. Assumes nothing.
+-- What `bytes::copy` leaves where the source is as long as the target: the source.
 use mathlib.Core.Path.{_≡_, _∙_}
 use Prim.Native.Nat.{ℕ, _≤_}
 use mathlib.Core.List.{List, _++_, append-nil}

@@ -1,5 +1,5 @@
 -- What the relations of specs/ say of a content is all of it: two contents that meet one of them are equal, and marks are untouched behind the length. One
--- thing less in a relation is noticed here. Assumes nothing.
+-- thing less in a relation is noticed here.
 use mathlib.Core.Path.{_≡_, sym, _∙_}
 use mathlib.Core.List.{List}
 use Prim.Native.Nat.{ℕ, _+_, _-_, _<_}

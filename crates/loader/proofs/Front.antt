@@ -1,4 +1,4 @@
--- A part at the front is changed and put back: all behind it is as it was. Assumes nothing.
+-- A part at the front is changed and put back: all behind it is as it was.
 use Prim.Native.Nat.{ℕ, _+_, _-_, _≤_}
 use mathlib.Core.Path.{_≡_, sym, ap, _∙_}
 use mathlib.Core.List.{List, _++_}

@@ -1,5 +1,4 @@
 -- The search's laws: what a touch, a done point and a step of the cursor keep of `Going`, and that all that is reached is marked at its end.
--- Assumes nothing.
 use Prim.Native.Nat.{ℕ, zero, suc, _+_, _-_, _*_, _/_, _%_, _<_, _≤_}
 use mathlib.Core.Path.{_≡_, refl, sym, ap, _∙_}
 use mathlib.Core.Bool.{Bool, true, false, cond}

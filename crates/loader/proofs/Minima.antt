@@ -1,4 +1,4 @@
--- What the search has marked at its end is what walks reach, so the least of the marked points is the verdict's least. Assumes nothing.
+-- What the search has marked at its end is what walks reach, so the least of the marked points is the verdict's least.
 use Prim.Native.Nat.{ℕ, _+_, _<_, _≤_}
 use mathlib.Core.Path.{_≡_, refl, sym, ap, _∙_}
 use mathlib.Core.Bool.{Bool, true, false, cond}

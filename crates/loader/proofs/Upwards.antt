@@ -1,4 +1,4 @@
--- The blocks judged upwards: the first that is refused is the verdict, and else the walks are. Assumes nothing.
+-- The blocks judged upwards: the first that is refused is the verdict, and else the walks are.
 use Prim.Native.Nat.{ℕ, zero, suc, _+_, _<_, _≤_}
 use mathlib.Core.Path.{_≡_, refl, sym, ap, _∙_}
 use mathlib.Core.Bool.{Bool, cond}

@@ -1,4 +1,4 @@
--- The verdict on an image, part by part: a header that is refused, one that leads to the blocks, and what is handed back of them. Assumes nothing.
+-- The verdict on an image, part by part: a header that is refused, one that leads to the blocks, and what is handed back of them.
 use Prim.Native.Nat.{ℕ, _≤_}
 use mathlib.Core.Path.{_≡_, refl, sym, ap, _∙_}
 use mathlib.Core.Bool.{Bool, true, false, cond}

@@ -1,4 +1,4 @@
--- What holds of the marks after a call (document 01, 13: bytes past the length asked for are not touched). Assumes nothing.
+-- What holds of the marks after a call (document 01, 13: bytes past the length asked for are not touched).
 use Prim.Native.Nat.{ℕ, _≤_}
 use mathlib.Core.Path.{_≡_}
 use mathlib.Core.List.{List}

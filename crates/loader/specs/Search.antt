@@ -1,5 +1,5 @@
 -- The search's own values and invariants. A mark is 0 for a point not seen, 1 for one that is pending, 2 for one that is done; a page of marks is
--- clean (0) or dirty, and a pending point is on a dirty page. Assumes nothing.
+-- clean (0) or dirty, and a pending point is on a dirty page.
 use Prim.Native.Nat.{ℕ, _+_, _-_, _*_, _/_, _<_, _≤_}
 use mathlib.Core.Path.{_≡_}
 use mathlib.Core.Bool.{cond}

@@ -1,5 +1,4 @@
 -- What an accepted image promises to a run: its header was read, each block passes 5 to 8 and 23, and each point that a walk reaches breaks nothing.
--- Assumes nothing.
 use Prim.Native.Nat.{ℕ, _<_, _≤_}
 use mathlib.Core.Path.{_≡_, refl, sym, ap}
 use mathlib.Core.Bool.{true}

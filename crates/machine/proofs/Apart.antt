@@ -1,5 +1,5 @@
 -- What the statements of specs/Each.antt, Alike.antt and Run.antt give when they are taken apart: one way more, or one thing less, in any of them is
--- noticed here, or, of a reason to halt, in Halts.antt. Assumes nothing.
+-- noticed here, or, of a reason to halt, in Halts.antt.
 use Prim.Native.Nat.{ℕ, _+_, _<_, _≤_}
 use mathlib.Core.Path.{_≡_, refl, sym, ap, _∙_}
 use mathlib.Core.Bool.{true, false, _&&_}

@@ -1,4 +1,4 @@
--- Codes and flows: which command it was, from the flow that an outcome is in; and the open calls after it. Assumes nothing.
+-- Codes and flows: which command it was, from the flow that an outcome is in; and the open calls after it.
 use Prim.Native.Nat.{ℕ, _+_}
 use mathlib.Core.Path.{_≡_, refl, sym, ap, _∙_}
 use mathlib.Core.Bool.{Bool, true, false, _&&_, not, cond}

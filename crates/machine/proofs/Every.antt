@@ -1,4 +1,4 @@
--- What holds of every element of a list, element by element. Assumes nothing.
+-- What holds of every element of a list, element by element.
 use Prim.Native.Nat.{ℕ, zero, suc}
 use mathlib.Core.List.{List, [], _∷_}
 use lib.ListN.{getD}

@@ -1,4 +1,4 @@
--- What 5 to 8 and 23 promise of the command of a block that they let pass: its operands are in the ranges of its row, and numbers of their width. Assumes nothing.
+-- What 5 to 8 and 23 promise of the command of a block that they let pass: its operands are in the ranges of its row, and numbers of their width.
 use Prim.Native.Nat.{ℕ, _+_, _*_, _%_, _<_, _≤_}
 use mathlib.Core.Path.{_≡_, refl}
 use mathlib.Core.Bool.{Bool, true, false, cond}

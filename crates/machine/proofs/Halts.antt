@@ -1,5 +1,4 @@
 -- A command halts its task exactly for its reason: a reason computes its row to a halt, and by the law of every row each halt has a reason.
--- Assumes nothing.
 use Prim.Native.Nat.{ℕ}
 use mathlib.Core.Path.{_≡_, subst}
 use mathlib.Core.Bool.{true}

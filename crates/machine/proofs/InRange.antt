@@ -1,4 +1,4 @@
--- Numbers that commands store are in the range of what they are stored as. Assumes nothing.
+-- Numbers that commands store are in the range of what they are stored as.
 use Prim.Native.Nat.{ℕ, _≤_}
 use mathlib.Core.Path.{_≡_, sym}
 use mathlib.Core.Bool.{Bool, true, false, cond}

@@ -1,4 +1,4 @@
--- A step keeps good states, whatever the image and the inputs are: 17 lets a command pass only where 5 to 12 and 23 do. Assumes nothing.
+-- A step keeps good states, whatever the image and the inputs are: 17 lets a command pass only where 5 to 12 and 23 do.
 use Prim.Native.Nat.{ℕ, zero, suc, _+_, _-_, _<_, _≤_}
 use mathlib.Core.Path.{_≡_, refl, sym, _∙_, subst}
 use mathlib.Core.Bool.{Bool, true, false, _&&_, cond}

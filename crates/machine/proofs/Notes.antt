@@ -1,4 +1,4 @@
--- What a step leaves of the values: one that is refused leaves all as it is, any other notes the start level as the reference machine does. Assumes nothing.
+-- What a step leaves of the values: one that is refused leaves all as it is, any other notes the start level as the reference machine does.
 use Prim.Native.Nat.{ℕ}
 use mathlib.Core.Path.{_≡_, refl}
 use mathlib.Core.Bool.{Bool, true, false, cond}

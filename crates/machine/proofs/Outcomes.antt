@@ -1,4 +1,4 @@
--- What an outcome that a flow allows leads to: the points that follow. Assumes nothing.
+-- What an outcome that a flow allows leads to: the points that follow.
 use Prim.Native.Nat.{ℕ, _+_}
 use mathlib.Core.Path.{_≡_, refl}
 use mathlib.Core.Bool.{Bool, true, false, cond}

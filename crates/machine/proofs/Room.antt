@@ -1,4 +1,4 @@
--- Where 17 lets a command pass there is room for its call, and something for its return to go to. Assumes nothing.
+-- Where 17 lets a command pass there is room for its call, and something for its return to go to.
 use Prim.Native.Nat.{ℕ, _≤_}
 use mathlib.Core.Path.{_≡_, sym, _∙_}
 use mathlib.Core.Bool.{true}

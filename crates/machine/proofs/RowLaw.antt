@@ -1,4 +1,4 @@
--- The law of every command, row by row: the row's flow and ranges are computed, and the form of the effect does the rest. Assumes nothing.
+-- The law of every command, row by row: the row's flow and ranges are computed, and the form of the effect does the rest.
 use Prim.Native.Nat.{ℕ, _+_, _-_, _*_, _≤_}
 use mathlib.Core.Path.{_≡_, refl, sym, ap, subst, _∙_}
 use mathlib.Core.Bool.{true, _&&_, _||_, not, cond}

@@ -1,4 +1,4 @@
--- A statement proved of every row of effects holds of the effect of every code that is carried, since each carried code has a row. Assumes nothing.
+-- A statement proved of every row of effects holds of the effect of every code that is carried, since each carried code has a row.
 use Prim.Native.Nat.{ℕ}
 use mathlib.Core.Path.{_≡_, refl, sym, ap, _∙_}
 use mathlib.Core.Bool.{Bool, true, false, _||_, cond}

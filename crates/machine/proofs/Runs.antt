@@ -1,4 +1,4 @@
--- The theorem over every list of steps (specs/Theorem.antt), from what holds of one step. Assumes nothing.
+-- The theorem over every list of steps (specs/Theorem.antt), from what holds of one step.
 use Prim.Native.Nat.{ℕ, zero, suc, _<_}
 use mathlib.Core.Path.{_≡_, refl}
 use mathlib.Core.List.{List, [], _∷_}

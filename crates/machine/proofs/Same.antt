@@ -1,4 +1,4 @@
--- Each operation on an engine's task and on the reference machine's task keeps them alike. Assumes nothing.
+-- Each operation on an engine's task and on the reference machine's task keeps them alike.
 use Prim.Native.Nat.{ℕ, zero, suc, _+_, _-_, _<_, _≤_}
 use mathlib.Core.Path.{_≡_, refl, sym, _∙_}
 use mathlib.Core.List.{List, [], _∷_}

@@ -1,4 +1,4 @@
--- When a move starts, in document 01's words: the start mark stands, or the start input is high and was low at the preceding BIAS step. Assumes nothing.
+-- When a move starts, in document 01's words: the start mark stands, or the start input is high and was low at the preceding BIAS step.
 use mathlib.Core.Path.{_≡_, refl, sym}
 use mathlib.Core.Bool.{Bool, true, false, _&&_, _||_, not}
 use mathlib.Core.Logic.{_⊎_, inl, inr, _↔_}

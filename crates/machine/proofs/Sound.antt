@@ -1,5 +1,5 @@
 -- The invariant of a run, task by task: a task that runs is at a point that some walk reaches, its start and each entry of its call stack too. Each
--- operation on tasks keeps it. Assumes nothing.
+-- operation on tasks keeps it.
 use Prim.Native.Nat.{ℕ, _+_, _-_, _<_}
 use mathlib.Core.Path.{_≡_, refl, _∙_}
 use mathlib.Core.Bool.{Bool, true, false, not, _||_, cond}

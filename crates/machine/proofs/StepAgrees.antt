@@ -1,4 +1,4 @@
--- One step: from states that agree, the engine and the reference machine give the same answer and request, and agree afterwards. Assumes nothing.
+-- One step: from states that agree, the engine and the reference machine give the same answer and request, and agree afterwards.
 use Prim.Native.Nat.{ℕ}
 use mathlib.Core.Path.{_≡_, refl}
 use mathlib.Core.Bool.{true}

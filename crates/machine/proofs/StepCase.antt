@@ -1,4 +1,4 @@
--- What a step comes to in a run, for the engine and the reference machine at once: both refuse it, or both execute the command. Assumes nothing.
+-- What a step comes to in a run, for the engine and the reference machine at once: both refuse it, or both execute the command.
 use Prim.Native.Nat.{ℕ, zero, suc, _<_}
 use mathlib.Core.Path.{_≡_, refl, sym, ap, subst, _∙_}
 use mathlib.Core.Bool.{Bool, true, false, cond}

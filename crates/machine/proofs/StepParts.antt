@@ -1,4 +1,4 @@
--- Parts 4 to 6 of the theorem at one step of a run. Assumes nothing.
+-- Parts 4 to 6 of the theorem at one step of a run.
 use Prim.Native.Nat.{ℕ, zero, suc, _+_, _-_, _<_}
 use mathlib.Core.Path.{_≡_, refl, sym, ap, subst, _∙_}
 use mathlib.Core.Bool.{true, false, cond}

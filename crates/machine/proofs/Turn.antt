@@ -1,4 +1,4 @@
--- The tasks of the engine and of the reference machine after a command, outcome by outcome: both stay alike, and the invariant holds on. Assumes nothing.
+-- The tasks of the engine and of the reference machine after a command, outcome by outcome: both stay alike, and the invariant holds on.
 use Prim.Native.Nat.{ℕ, zero, suc, _+_, _<_}
 use mathlib.Core.Path.{_≡_, refl, sym, ap, _∙_}
 use mathlib.Core.Bool.{true}

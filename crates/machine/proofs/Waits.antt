@@ -1,4 +1,4 @@
--- Waits in document 01's words: when a pending wait ends, and the time of 5A. Assumes nothing.
+-- Waits in document 01's words: when a pending wait ends, and the time of 5A.
 use Prim.Native.Nat.{ℕ, _+_, _-_, _*_, _%_, _<_, _≤_}
 use mathlib.Core.Path.{_≡_, refl, sym, ap, _∙_}
 use mathlib.Core.Bool.{Bool, true, false, cond}

@@ -1,4 +1,4 @@
--- What document 01 compares after a list of steps ("Runs and the plain machine"): one named field for each thing. Assumes nothing.
+-- What document 01 compares after a list of steps ("Runs and the plain machine"): one named field for each thing.
 use Prim.Native.Nat.{ℕ, zero, suc, _<_}
 use mathlib.Core.Path.{_≡_}
 use mathlib.Core.List.{List, [], _∷_}

@@ -1,4 +1,4 @@
--- What an outcome needs of a task's depth: room for a call, and something to return to. Assumes nothing.
+-- What an outcome needs of a task's depth: room for a call, and something to return to.
 use Prim.Native.Nat.{ℕ, _<_, _≤_}
 use Rattle.limits.specs.Limits.{mostDepth}
 use Rattle.machine.specs.declared.Outcome.{Outcome}

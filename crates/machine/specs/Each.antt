@@ -1,5 +1,5 @@
 -- What holds at every step of a run, by itself (demand 3, parts 4 to 6 in docs/PROMISES.md): a return goes behind its task's own latest open call, a task
--- stops only itself and for a named reason, and no step moves another task but by 54, 57 and 90. Assumes nothing.
+-- stops only itself and for a named reason, and no step moves another task but by 54, 57 and 90.
 use Prim.Native.Nat.{ℕ, _+_, _<_}
 use mathlib.Core.Path.{_≡_}
 use mathlib.Core.Bool.{Bool, true, false, _&&_, cond}

@@ -1,6 +1,6 @@
 -- What each command does: to the values, to the axis by a request, and to its task. One row for each code, from the command's page in 000 (its number
 -- stands behind the row) and document 01, "Running". The engine's step and the reference machine both use these rows, and share nothing else of
--- what a step does. Sources are read before the target is written. Assumes nothing.
+-- what a step does. Sources are read before the target is written.
 use Prim.Native.Nat.{ℕ, zero, suc, _+_, _-_, _*_, _%_}
 use mathlib.Core.Bool.{Bool, true, false, _&&_, _||_, not, cond}
 use mathlib.Core.List.{List, [], _∷_, _++_}

@@ -1,5 +1,5 @@
 -- The engine's step on values (document 01, "Running", and 15, 18, 17, 19, 20): the tests in their order, then the command, with a call stack of
--- bounded length for each task. 16 is the buffer's. Assumes nothing.
+-- bounded length for each task. 16 is the buffer's.
 use Prim.Native.Nat.{ℕ, _+_, _-_}
 use mathlib.Core.Bool.{Bool, _&&_, _||_, not, cond}
 use mathlib.Core.List.{List}

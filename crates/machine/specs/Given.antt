@@ -1,4 +1,4 @@
--- What a step is given besides the image and the state, and what a command may read of it (document 01, "Running"). Assumes nothing.
+-- What a step is given besides the image and the state, and what a command may read of it (document 01, "Running").
 use Prim.Native.Nat.{ℕ}
 use mathlib.Core.Bool.{cond}
 use mathlib.Core.List.{List}

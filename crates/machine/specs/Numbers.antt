@@ -1,5 +1,5 @@
 -- Document 01's number and place of an answer, and the numbers of a motion request as C is handed them (include/bias.h). What an answer or a
--- request does not have is 0. Assumes nothing.
+-- request does not have is 0.
 use Prim.Native.Nat.{ℕ}
 use lib.IntN.{pos}
 use Rattle.state.specs.declared.Axis.{Axis}

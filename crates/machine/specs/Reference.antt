@@ -1,6 +1,6 @@
 -- The reference machine (document 01: plain machine): for each task a list of return blocks without limit, and no test of depth or permission. It is fed
 -- the image and each step's task number and inputs. It shares with the engine what a command does, the reading of the header, of levels and of
--- operands, whether a code has any, and the numbers of answers, and nothing else. Assumes nothing.
+-- operands, whether a code has any, and the numbers of answers, and nothing else.
 use Prim.Native.Nat.{ℕ, _+_}
 use mathlib.Core.Bool.{Bool, true, false, cond}
 use mathlib.Core.List.{List, [], _∷_}

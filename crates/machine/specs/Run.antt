@@ -1,4 +1,4 @@
--- Runs (document 01, "Runs and the plain machine"): a list of steps from a fresh load, the state handed from step to step. Assumes nothing.
+-- Runs (document 01, "Runs and the plain machine"): a list of steps from a fresh load, the state handed from step to step.
 use Prim.Native.Nat.{ℕ, _<_, _≤_}
 use mathlib.Core.Path.{_≡_}
 use mathlib.Core.List.{List, [], _∷_}

@@ -1,6 +1,6 @@
 -- What is proved of steps on values: the theorem over every list of steps (demand 3, parts 1 to 6 in docs/PROMISES.md; part 7 is `exactly` in
 -- walk/proofs/Judged.antt), proved as `every-run` in proofs/Runs.antt; and that a step keeps good states, proved as `keeps-good` in
--- proofs/Keeps.antt. Assumes nothing.
+-- proofs/Keeps.antt.
 use Prim.Native.Nat.{ℕ, _<_}
 use mathlib.Core.Path.{_≡_}
 use mathlib.Core.List.{List}

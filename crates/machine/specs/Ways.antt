@@ -1,5 +1,5 @@
 -- Which outcomes a flow allows: what `flow` says that a command may continue with, and what the command's effect comes to. That every effect's
--- outcome is in its flow is a law (proofs/RowLaw.antt). Assumes nothing.
+-- outcome is in its flow is a law (proofs/RowLaw.antt).
 use Prim.Native.Nat.{ℕ}
 use Rattle.flow.specs.declared.Flow.{Flow}
 use Rattle.flow.specs.declared.Flow.the-variants as flow

@@ -1,4 +1,4 @@
--- A run by its load: refused or accepted, with marks of the length asked for; and digits that are decoded into a buffer of some room. Assumes nothing.
+-- A run by its load: refused or accepted, with marks of the length asked for; and digits that are decoded into a buffer of some room.
 use Prim.Native.Nat.{ℕ, _/_, min}
 use mathlib.Core.Path.{_≡_, sym, ap, _∙_}
 use mathlib.Core.List.{List, _++_}

@@ -1,4 +1,4 @@
--- What the program does with a line: an image, a space, and records, each of steps or of a byte to put. Assumes nothing.
+-- What the program does with a line: an image, a space, and records, each of steps or of a byte to put.
 use Prim.Native.Nat.{ℕ, zero, suc, _+_, _*_, _/_, min}
 use mathlib.Core.Bool.{cond}
 use mathlib.Core.List.{List}

@@ -1,4 +1,4 @@
--- Choices by a test: what holds of both ways, and which way was taken. Assumes nothing.
+-- Choices by a test: what holds of both ways, and which way was taken.
 use mathlib.Core.Path.{_≡_, refl, sym, ap, _∙_}
 use mathlib.Core.Bool.{Bool, true, false, _&&_, cond}
 use Prim.Native.Nat.{ℕ, _<_, _≤_}

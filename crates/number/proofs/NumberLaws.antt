@@ -1,5 +1,5 @@
 -- A number that was written is read back, with the place behind it; where a number is read, its bytes stand there, so that only
--- shortest forms are read; and the numbers that can be read are those below the limit. Assumes nothing.
+-- shortest forms are read; and the numbers that can be read are those below the limit.
 use mathlib.Core.Path.{_≡_, refl, sym, ap, _∙_}
 use mathlib.Core.Logic.{_↔_}
 use Prim.Native.Nat.{ℕ, zero, suc, _+_, _-_, _*_, _/_, _%_, _<_, _≤_}

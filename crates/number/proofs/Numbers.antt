@@ -1,5 +1,4 @@
 -- The bytes of a number, and what stands at a place, case by case of the bytes there.
--- Assumes nothing.
 use mathlib.Core.Path.{_≡_}
 use Prim.Native.Nat.{ℕ, _+_, _-_, _*_, _/_, _%_, _<_, _≤_}
 use native.Mathlib.Omega.{arith}

@@ -1,5 +1,4 @@
 -- `Has s at xs`: the list s has xs from index at on. Its parts, its joints, and what is at the front.
--- Assumes nothing.
 use mathlib.Core.Path.{_≡_, sym, ap, _∙_}
 use Prim.Native.Nat.{ℕ, zero, suc, _+_, _-_, _<_, _≤_}
 use native.Mathlib.Omega.{arith}

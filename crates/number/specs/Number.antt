@@ -1,5 +1,5 @@
 -- Numbers as they stand in an image (document 01, "The image"): seven bits to a byte, the low ones first, and a top bit that says
--- that another byte follows. Assumes nothing.
+-- that another byte follows.
 use mathlib.Core.Path.{_≡_}
 use Prim.Native.Nat.{ℕ, _+_, _-_, _*_, _/_, _%_, _<_}
 use mathlib.Core.Bool.{cond}

@@ -1,4 +1,4 @@
--- Bytes that a layout does not use: how many it uses, and whether those from a place on are 0. Assumes nothing.
+-- Bytes that a layout does not use: how many it uses, and whether those from a place on are 0.
 use Prim.Native.Nat.{ℕ, _+_, _<_, _≤_}
 use native.Mathlib.Omega.{arith}
 use native.Mathlib.Numerals.{add-one}

@@ -1,5 +1,5 @@
 -- A block's operands, as its code's layout has them: document 01, "The commands carried" (a code byte and D1 to D7, low byte first), and the
--- coding of each page of chapter 4 of 000. Only the unused bytes are judged here (8). Assumes nothing.
+-- coding of each page of chapter 4 of 000. Only the unused bytes are judged here (8).
 use Prim.Native.Nat.{ℕ, _+_, _*_, _/_, _%_}
 use mathlib.Core.Bool.{Bool, true, _&&_}
 use mathlib.Core.List.{List, [], _∷_}

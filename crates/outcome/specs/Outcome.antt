@@ -1,5 +1,4 @@
 -- Document 01's number and place for each outcome: "Refused because of the input".
--- Assumes nothing.
 use Prim.Native.Nat.{ℕ}
 use mathlib.Core.Bool.{Bool, true, false}
 use Rattle.outcome.specs.declared.Outcome.{Outcome}

@@ -1,4 +1,4 @@
--- The rows of one group are those of a code that the other groups do not have: by one test of codes for each group, computed over its rows. Assumes nothing.
+-- The rows of one group are those of a code that the other groups do not have: by one test of codes for each group, computed over its rows.
 use Prim.Native.Nat.{ℕ}
 use mathlib.Core.Path.{_≡_, refl, sym, ap, _∙_}
 use mathlib.Core.Bool.{Bool, true, false, _&&_, not, cond}

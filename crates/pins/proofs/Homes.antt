@@ -1,5 +1,4 @@
 -- Where pins are: the rows that the code holds are the definition's, a pin's home is found row by row, and pin 8 is read only.
--- Assumes nothing.
 use Prim.Native.Nat.{ℕ, zero, suc, _+_, _<_, _≤_}
 use native.Mathlib.Omega.{arith}
 use native.Mathlib.Numerals.{add-one}

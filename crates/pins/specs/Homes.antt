@@ -1,5 +1,4 @@
 -- Pins: document 01, "Drive and pins", row by row. A pin's home is the part that has it: the 631 itself, every other type itself, or a board.
--- Assumes nothing.
 use Prim.Native.Nat.{ℕ}
 use mathlib.Core.Bool.{_&&_, cond}
 use mathlib.Core.List.{List, [], _∷_}

@@ -1,4 +1,4 @@
--- Two blocks, and whether one of them is past the end. Assumes nothing.
+-- Two blocks, and whether one of them is past the end.
 use Prim.Native.Nat.{ℕ}
 use mathlib.Core.Path.{_≡_, sym, _∙_}
 use mathlib.Core.Bool.{true, false, or-false}

@@ -1,5 +1,5 @@
 -- What a command breaks at a point (document 01: place) of a walk: 7 for a 51 that ends another task, then 9, 10, 11, 12 (document 01, "Refused
--- because of the input"). Assumes nothing.
+-- because of the input").
 use Prim.Native.Nat.{ℕ}
 use mathlib.Core.Bool.{Bool, false, _||_, cond}
 use mathlib.Core.List.{List, [], _∷_}

@@ -1,5 +1,4 @@
 -- A point breaks something exactly when its fault has a number, and then it continues with nothing; and a further point than the first is the next block.
--- Assumes nothing.
 use Prim.Native.Nat.{ℕ, zero, suc, _<_}
 use mathlib.Core.Path.{_≡_, refl}
 use mathlib.Core.Bool.{Bool, true, false, cond}

@@ -1,5 +1,5 @@
 -- The verdict on an image, and its blocks where it is accepted, are those of its first bytes, however many, if they are more than the longest image has: the header stands in the first
--- twelve, and a longer image is refused by its header, or by 4 at a place that its header fixes. Assumes nothing.
+-- twelve, and a longer image is refused by its header, or by 4 at a place that its header fixes.
 use mathlib.Core.Path.{_≡_, refl, sym, ap, _∙_}
 use mathlib.Core.Bool.{Bool, true, false, cond}
 use mathlib.Core.List.{List}

@@ -1,4 +1,4 @@
--- The line of a verdict: how long it can be, and that it is document 01's for case B. Assumes nothing.
+-- The line of a verdict: how long it can be, and that it is document 01's for case B.
 use mathlib.Core.Path.{_≡_, refl, sym, ap, _∙_}
 use mathlib.Core.List.{List, [], _∷_}
 use Prim.Native.Nat.{ℕ, _^_, _<_, _≤_}

@@ -1,4 +1,4 @@
--- How much of an input is enough to judge it: proofs/Beginning.antt. Assumes nothing.
+-- How much of an input is enough to judge it: proofs/Beginning.antt.
 use Prim.Native.Nat.{ℕ, _+_}
 use mathlib.Core.List.{List}
 use lib.ListN.{replicate}

@@ -1,5 +1,4 @@
 -- The line of a verdict, as bytes (document 01, on the verdict program): for case B it is `refusal 12 place 0 task 0 depth 0` and a line end.
--- Assumes nothing.
 use mathlib.Core.Path.{_≡_}
 use Prim.Native.Nat.{ℕ}
 use mathlib.Core.List.{List, [], _∷_, _++_}

@@ -1,4 +1,4 @@
--- Kinds of flow by a number of each, so that a law over the rows can test for one. Assumes nothing.
+-- Kinds of flow by a number of each, so that a law over the rows can test for one.
 use Prim.Native.Nat.{ℕ}
 use mathlib.Core.Path.{_≡_, refl, sym, ap, _∙_}
 use mathlib.Core.Bool.{Bool, true, false, _||_}

@@ -1,4 +1,4 @@
--- A test that all rows pass, by one computation, is passed by the row of every code that is carried. Assumes nothing.
+-- A test that all rows pass, by one computation, is passed by the row of every code that is carried.
 use Prim.Native.Nat.{ℕ}
 use mathlib.Core.Path.{_≡_, refl}
 use mathlib.Core.Bool.{Bool, true, false, _&&_, not, cond}

@@ -1,4 +1,4 @@
--- A code that no arm of a match has is in no row. Assumes nothing.
+-- A code that no arm of a match has is in no row.
 use Prim.Native.Nat.{ℕ}
 use mathlib.Core.Path.{_≡_, refl, ap, _∙_}
 use mathlib.Core.Bool.{Bool, cond}

@@ -1,4 +1,4 @@
--- The tasks of every row are a sum of the three, by one computation over the rows: no box is passed over. Assumes nothing.
+-- The tasks of every row are a sum of the three, by one computation over the rows: no box is passed over.
 use Prim.Native.Nat.{ℕ, _≤_}
 use mathlib.Core.Logic.{⊎-elim}
 use native.Mathlib.Omega.{arith}

@@ -1,7 +1,7 @@
 -- The commands carried, one row for each code: document 01, "The commands carried", and chapters 3 and 4 of 000. A row says where the operands stand
 -- behind the code byte, what the drive must have (6, 23), which ranges the operands have (7), which tasks may use the command (9; the boxes of
 -- chapter 3), and what it may continue with. The columns but the tasks are enums (src/lib.rt says each case), given their meaning where they are used,
--- case by case. Assumes nothing.
+-- case by case.
 use Prim.Native.Nat.{ℕ, _+_}
 use mathlib.Core.Bool.{Bool, true, false, cond}
 use mathlib.Core.List.{List, [], _∷_}

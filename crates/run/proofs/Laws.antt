@@ -1,5 +1,5 @@
 -- The steps of a list, one more or none: where a step stands whole it is carried out and the steps behind it follow, else there are none. And the buffer
--- after a load and the steps, by the number that the load answers; where that is 0, the theorem of bias. Assumes nothing.
+-- after a load and the steps, by the number that the load answers; where that is 0, the theorem of bias.
 use Prim.Native.Nat.{ℕ, zero, suc, _+_, _-_, _<_, _≤_}
 use mathlib.Core.Path.{_≡_, refl, sym, ap, _∙_}
 use mathlib.Core.Bool.{Bool, false, not}

@@ -1,4 +1,4 @@
--- A list of steps in bytes, and the state buffer after a load and the steps. Assumes nothing.
+-- A list of steps in bytes, and the state buffer after a load and the steps.
 use Prim.Native.Nat.{ℕ, zero, suc, _+_}
 use mathlib.Core.Bool.{cond}
 use mathlib.Core.List.{List, [], _∷_}

@@ -1,4 +1,4 @@
--- A record's bytes: how many; the numbers are read back where they stand; and a list has, where a record is read, the bytes of what is read. Assumes nothing.
+-- A record's bytes: how many; the numbers are read back where they stand; and a list has, where a record is read, the bytes of what is read.
 use mathlib.Core.Path.{_≡_, refl, sym}
 use Prim.Native.Nat.{ℕ, _+_, _^_, _<_}
 use native.Mathlib.Omega.{arith}

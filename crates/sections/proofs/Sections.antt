@@ -1,4 +1,4 @@
--- Sections taken apart and put together, and put one behind the other into zeros: each by one induction over the list. Assumes nothing.
+-- Sections taken apart and put together, and put one behind the other into zeros: each by one induction over the list.
 use mathlib.Core.Path.{_≡_, refl, sym, ap, _∙_, subst}
 use Prim.Native.Nat.{ℕ, zero, suc, _+_, _-_, _<_, _≤_}
 use native.Mathlib.Omega.{arith}

@@ -1,4 +1,4 @@
--- A record: numbers of fixed widths, one behind the other, low byte first. Assumes nothing.
+-- A record: numbers of fixed widths, one behind the other, low byte first.
 use Prim.Native.Nat.{ℕ, _+_}
 use mathlib.Core.List.{List, [], _∷_}
 use Rattle.le.specs.LittleEndian.{leBytes}

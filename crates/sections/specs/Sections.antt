@@ -1,4 +1,4 @@
--- A buffer as a list of sections, one behind the other, and zeros behind the last. Assumes nothing.
+-- A buffer as a list of sections, one behind the other, and zeros behind the last.
 use Prim.Native.Nat.{ℕ, zero, suc, _+_, _-_}
 use mathlib.Core.List.{List, [], _∷_, _++_}
 use lib.ListN.{replicate}

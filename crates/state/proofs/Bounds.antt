@@ -1,4 +1,4 @@
--- The numbers of a good state's waits: the turns are few, because the wait is not over and a cycle is at least one microsecond. Assumes nothing.
+-- The numbers of a good state's waits: the turns are few, because the wait is not over and a cycle is at least one microsecond.
 use Prim.Native.Nat.{ℕ, zero, suc, _*_, _<_, _≤_}
 use native.Mathlib.Omega.{arith}
 use native.Mathlib.Nat.{mul-le-mul-left}

@@ -1,4 +1,4 @@
--- What load leaves is a good state. Assumes nothing.
+-- What load leaves is a good state.
 use Prim.Native.Nat.{ℕ, zero, suc, _<_}
 use mathlib.Core.Path.{_≡_, refl}
 use mathlib.Core.List.{[], _∷_}

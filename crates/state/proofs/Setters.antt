@@ -1,4 +1,4 @@
--- Good values stay good when a number in range is put into them. Assumes nothing.
+-- Good values stay good when a number in range is put into them.
 use Prim.Native.Nat.{ℕ, zero, suc, _≤_}
 use mathlib.Core.Path.{_∙_}
 use mathlib.Core.List.{List, [], _∷_}

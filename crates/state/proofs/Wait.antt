@@ -1,4 +1,4 @@
--- A wait is over exactly when its turns, in cycles of the drive, are at least its time. Assumes nothing.
+-- A wait is over exactly when its turns, in cycles of the drive, are at least its time.
 use Prim.Native.Nat.{ℕ, _*_, _≤_}
 use mathlib.Core.Path.{_≡_}
 use mathlib.Core.Bool.{true}

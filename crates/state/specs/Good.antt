@@ -1,5 +1,5 @@
 -- A good state: what 16 lets pass, as far as the state by value shows it (docs/STATE.md). Parity of a wait is not judged, and that a task
--- never started is all 0 is a fact of runs, not of good states. Assumes nothing.
+-- never started is all 0 is a fact of runs, not of good states.
 use Prim.Native.Nat.{ℕ, _<_, _≤_}
 use mathlib.Core.Path.{_≡_}
 use mathlib.Core.Bool.{false}

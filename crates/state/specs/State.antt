@@ -1,4 +1,4 @@
--- The state by value: document 01, "Running", and what load leaves. antt has no record update, so each setter is written once. Assumes nothing.
+-- The state by value: document 01, "Running", and what load leaves. antt has no record update, so each setter is written once.
 use Prim.Native.Nat.{ℕ}
 use mathlib.Core.List.{List, [], _∷_}
 use lib.ListN.{replicate, getD, set}

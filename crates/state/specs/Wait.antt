@@ -1,4 +1,4 @@
--- Waits for a time (document 01, "Running"): T ms and k turns of the task. Assumes nothing.
+-- Waits for a time (document 01, "Running"): T ms and k turns of the task.
 use Prim.Native.Nat.{ℕ, _*_}
 use mathlib.Core.Bool.{Bool}
 use lib.Dec.{leb}

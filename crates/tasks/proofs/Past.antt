@@ -1,4 +1,4 @@
--- A store past the end of a list changes nothing. Assumes nothing.
+-- A store past the end of a list changes nothing.
 use Prim.Native.Nat.{ℕ, zero, suc, _≤_}
 use mathlib.Core.Path.{_≡_, refl, ap}
 use mathlib.Core.List.{List, [], _∷_}

@@ -1,5 +1,4 @@
 -- Words put one behind the other are one word put, so a line is put word by word; and where there is room, the text stands whole at the front.
--- Assumes nothing.
 use mathlib.Core.Path.{_≡_, refl, sym, ap, _∙_}
 use mathlib.Core.List.{List, [], _++_, append-nil, append-assoc}
 use Prim.Native.Nat.{ℕ, _+_, _-_, _≤_, min}

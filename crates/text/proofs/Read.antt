@@ -1,5 +1,5 @@
 -- What the digits of a number say: its decimal digits are digits, the first is no 0, and read back they give the number; so do a signed number's text
--- and two hexadecimal digits. Assumes nothing.
+-- and two hexadecimal digits.
 use mathlib.Core.Path.{_≡_, refl, sym, ap, _∙_}
 use mathlib.Core.List.{List, [], _∷_, _++_}
 use Prim.Native.Nat.{ℕ, zero, suc, _+_, _*_, _-_, _/_, _%_, _^_, _<_, _≤_}

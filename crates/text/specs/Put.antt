@@ -1,5 +1,4 @@
 -- A text that grows in a buffer: words are put one behind the other, and what there is no room for is cut off. proofs/Joined.antt has the laws.
--- Assumes nothing.
 use mathlib.Core.Path.{_≡_}
 use Prim.Native.Nat.{ℕ, _+_, min}
 use mathlib.Core.List.{List, _++_}

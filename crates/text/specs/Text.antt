@@ -1,4 +1,4 @@
--- Text as bytes: decimal, signed and hexadecimal numbers. That each gives its number back is proved in proofs/Read.antt. Assumes nothing.
+-- Text as bytes: decimal, signed and hexadecimal numbers. That each gives its number back is proved in proofs/Read.antt.
 use Prim.Native.Nat.{ℕ, zero, suc, _+_, _*_, _-_, _/_, _%_, _<_, _≤_}
 use mathlib.Core.Bool.{cond}
 use mathlib.Core.List.{List, [], _∷_, _++_}

@@ -1,4 +1,4 @@
--- Things shown one after the other: nothing is shown where nothing was shown before and the next is the same. Assumes nothing.
+-- Things shown one after the other: nothing is shown where nothing was shown before and the next is the same.
 use Prim.Native.Nat.{ℕ, suc, _+_, _*_, _<_, _≤_}
 use native.Mathlib.Nat.{mul-le-mul-left}
 use native.Mathlib.Omega.{arith}

@@ -1,4 +1,4 @@
--- What a trace shows as changed: the numbers of two state buffers that are not the same. Assumes nothing.
+-- What a trace shows as changed: the numbers of two state buffers that are not the same.
 use Prim.Native.Nat.{ℕ, zero, suc, _+_, _*_}
 use mathlib.Core.Bool.{Bool, true, _&&_, cond}
 use mathlib.Core.List.{List}

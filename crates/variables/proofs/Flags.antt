@@ -1,5 +1,5 @@
 -- Flags as a number that is cut to w bits, flag by flag, from the last one down: it does not matter whether the number is cut once or after each
--- flag. Assumes nothing.
+-- flag.
 use Prim.Native.Nat.{ℕ, suc, _+_, _-_, _*_, _%_, _^_, _<_, _≤_}
 use mathlib.Core.Path.{_≡_, refl, sym, ap, _∙_}
 use mathlib.Core.List.{List}

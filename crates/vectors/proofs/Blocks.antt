@@ -1,5 +1,4 @@
 -- How many bytes the loader hands back of the images of `block_rows`, computed by the verdict's fast twin (crates/walk/proofs/Fast.antt).
--- Assumes nothing.
 use mathlib.Core.Path.{_≡_, refl, sym, ap, _∙_}
 use mathlib.Core.Bool.{cond}
 use mathlib.Core.List.{List, [], _∷_, map}

@@ -1,5 +1,4 @@
 -- A drive has at most n of the first n pins.
--- Assumes nothing.
 use Prim.Native.Nat.{ℕ, zero, suc, _≤_}
 use native.Mathlib.Omega.{arith}
 use Rattle.drive.specs.Pins.{pinOf}

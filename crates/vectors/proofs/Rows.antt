@@ -1,5 +1,4 @@
 -- Lists that are equal element by element, as the answers to a list of rows are.
--- Assumes nothing.
 use mathlib.Core.Path.{_≡_, ap₂}
 use mathlib.Core.List.{List, _∷_}
 

@@ -1,5 +1,4 @@
 -- How many of the first pins a drive has, used in one way.
--- Assumes nothing.
 use Prim.Native.Nat.{ℕ, zero, suc, _+_}
 use Rattle.drive.specs.Pins.{pinOf}
 use Rattle.drive.specs.declared.Drive.{Drive}

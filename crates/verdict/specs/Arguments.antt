@@ -1,4 +1,4 @@
--- What the verdict program is asked for. Assumes nothing.
+-- What the verdict program is asked for.
 use Prim.Native.Nat.{ℕ}
 use mathlib.Core.Bool.{cond}
 use lib.Dec.{ltb}

@@ -1,5 +1,5 @@
 -- 12 is judged of exactly the blocks that steps lead to: where its task may use a command, a block is among those that it may continue with exactly
--- when some step from the point leads to it. 51 is apart: its returns lead to blocks that were judged where they were named. Assumes nothing.
+-- when some step from the point leads to it. 51 is apart: its returns lead to blocks that were judged where they were named.
 use Prim.Native.Nat.{ℕ, _+_, _≤_}
 use mathlib.Core.Path.{_≡_, refl, sym, ap, _∙_}
 use mathlib.Core.Bool.{Bool, true, false, _||_, cond, or-true}

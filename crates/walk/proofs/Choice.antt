@@ -1,4 +1,4 @@
--- Tests that are true or false, and memberships. Assumes nothing.
+-- Tests that are true or false, and memberships.
 use Prim.Native.Nat.{ℕ}
 use mathlib.Core.Path.{_≡_, refl, sym}
 use mathlib.Core.Bool.{Bool, true, false, _&&_, _||_}

@@ -1,5 +1,5 @@
 -- Closed facts of the history of a walk, since no verdict depends on it: of two starts the latest counts, and BIAS returns to the program start
--- whatever a 57 named. Assumes nothing.
+-- whatever a 57 named.
 use mathlib.Core.Path.{_≡_, refl}
 use mathlib.Core.List.{List, [], _∷_}
 use Prim.Native.Nat.{ℕ}

@@ -1,5 +1,5 @@
 -- The computed verdict is what walks say: the closure has exactly what walks reach, so the least of it is the least that some walk reaches; and
--- an image has one verdict. Assumes nothing.
+-- an image has one verdict.
 use Prim.Native.Nat.{ℕ, _<_, _≤_}
 use mathlib.Core.Path.{_≡_, refl, sym, ap, subst, _∙_}
 use mathlib.Core.Bool.{Bool, true, false, cond}

@@ -1,6 +1,5 @@
 -- The verdict on an image once more, for checks by computation (document 01, "Examples and faults to shut out"): the numbers seen are the bits of
 -- one number, so that a test takes one step and not one for each number seen. A contract cites the plain verdict, to which this one is equal.
--- Assumes nothing.
 use Prim.Native.Nat.{ℕ, zero, suc, _+_, _/_, _%_, _^_}
 use mathlib.Core.Path.{_≡_, refl, ap, sym, _∙_}
 use mathlib.Core.Bool.{Bool, true, false, _||_, cond}

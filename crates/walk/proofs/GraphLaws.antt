@@ -1,5 +1,5 @@
 -- The closure has exactly what is reached, given fuel enough: each step takes a number off the list to do, and only a new one, of which there are
--- n, puts at most two on it. Assumes nothing.
+-- n, puts at most two on it.
 use Prim.Native.Nat.{ℕ, zero, suc, _+_, _*_, _<_, _≤_}
 use mathlib.Core.Path.{_≡_, refl}
 use mathlib.Core.Bool.{Bool, true, false, _||_, cond}

@@ -1,5 +1,5 @@
 -- The points that walks reach are the numbers that are reached by successors: returns to a start add nothing, since the command that named the
--- start block, passed earlier on the walk, is followed by that block already, and BIAS's start is the first point. Assumes nothing.
+-- start block, passed earlier on the walk, is followed by that block already, and BIAS's start is the first point.
 use Prim.Native.Nat.{ℕ, suc, _<_, _≤_}
 use mathlib.Core.Path.{_≡_, refl, ap, _∙_}
 use mathlib.Core.Bool.{Bool, true, false, cond}

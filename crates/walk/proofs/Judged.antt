@@ -1,5 +1,5 @@
 -- The computed verdict on an image is what the definition asks of one: 13, the header, the first bad block, and else what walks say; and an image has
--- one verdict. Assumes nothing.
+-- one verdict.
 use Prim.Native.Nat.{ℕ, zero, suc, _+_, _<_, _≤_}
 use mathlib.Core.Path.{_≡_, refl, sym, ap, _∙_}
 use mathlib.Core.Bool.{Bool, true, false, cond}

@@ -1,4 +1,4 @@
--- The least key of a list: none is less, and some member has it, or no member passes the test. Assumes nothing.
+-- The least key of a list: none is less, and some member has it, or no member passes the test.
 use Prim.Native.Nat.{ℕ, _≤_}
 use mathlib.Core.Path.{_≡_, refl, sym, _∙_}
 use mathlib.Core.Bool.{Bool, true, false, cond}

@@ -1,5 +1,5 @@
 -- A step of a walk is a move by its command's flow: the codes that the walks' sentences name are those that the rows give these flows, by one
--- computation over all rows; and the moves of a flow are the points that follow. Assumes nothing.
+-- computation over all rows; and the moves of a flow are the points that follow.
 use Prim.Native.Nat.{ℕ, zero, suc, _+_}
 use mathlib.Core.Path.{_≡_, refl, sym, ap, subst, _∙_}
 use mathlib.Core.Bool.{Bool, true, false, _&&_, _||_, not, cond, or-false}

@@ -1,4 +1,4 @@
--- The report order taken apart: of two points the blocks decide, then the tasks, then the depths. Assumes nothing.
+-- The report order taken apart: of two points the blocks decide, then the tasks, then the depths.
 use Prim.Native.Nat.{ℕ, _<_, _≤_}
 use mathlib.Core.Path.{_≡_}
 use mathlib.Core.Bool.{Bool, true, false}

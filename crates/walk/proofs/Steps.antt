@@ -1,5 +1,4 @@
 -- A step of a walk from a point that breaks nothing is a move by the command's flow, a stay, or a return to a start; and each move is a step.
--- Assumes nothing.
 use Prim.Native.Nat.{ℕ}
 use mathlib.Core.Path.{_≡_, refl, sym, _∙_}
 use mathlib.Core.Bool.{true}

@@ -1,5 +1,5 @@
 -- Walks stay within the image: what follows a point of a task, a block of the image and a depth up to the limit is again such a point, since
--- nothing follows a bad point; and at most two points follow. Assumes nothing.
+-- nothing follows a bad point; and at most two points follow.
 use Prim.Native.Nat.{ℕ, _+_, _<_, _≤_}
 use mathlib.Core.Path.{_≡_, refl, sym, ap, _∙_}
 use mathlib.Core.Bool.{Bool, true, false, _||_, cond}

@@ -1,4 +1,4 @@
--- Graphs on numbers: what is reached from a root, computed, and the least of what is reached. Assumes nothing.
+-- Graphs on numbers: what is reached from a root, computed, and the least of what is reached.
 use Prim.Native.Nat.{ℕ, zero, suc}
 use mathlib.Core.Path.{_≡_}
 use mathlib.Core.Logic.{_⊎_}

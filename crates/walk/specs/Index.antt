@@ -1,5 +1,5 @@
 -- The number of a point in the loader's marks: one mark for each block, task and depth. Only the laws of proofs/IndexLaws.antt are used of it:
--- it gives the point back, it is below the marks' length, and its order is the report order. Assumes nothing.
+-- it gives the point back, it is below the marks' length, and its order is the report order.
 use Prim.Native.Nat.{ℕ, _+_, _*_, _/_, _%_, _<_, _≤_}
 use mathlib.Core.Bool.{Bool, _&&_, _||_}
 use lib.Dec.{eqb, ltb}

@@ -1,4 +1,4 @@
--- The blocks of an image as commands, and what a command breaks at a point. Assumes nothing.
+-- The blocks of an image as commands, and what a command breaks at a point.
 use Prim.Native.Nat.{ℕ, _+_, _*_}
 use mathlib.Core.List.{List, [], _∷_}
 use lib.ListN.{getD}

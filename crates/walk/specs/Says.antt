@@ -1,5 +1,5 @@
 -- What a verdict says of the walks of an image whose lengths, header and blocks are well formed (document 01, "Refused because of the input"; a
--- 51 that ends another task by docs/DECISIONS.md, R2). Assumes nothing.
+-- 51 that ends another task by docs/DECISIONS.md, R2).
 use Prim.Native.Nat.{ℕ, _<_, _≤_}
 use mathlib.Core.Path.{_≡_}
 use mathlib.Core.Bool.{true, false}

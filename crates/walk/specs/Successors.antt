@@ -1,5 +1,5 @@
 -- The points that follow a point, as the loader computes them from the flow of its command. Stays and returns to a start are left out, as they add
--- no point: a start follows already the command that named it, or is the first point (proofs/History.antt). Assumes nothing.
+-- no point: a start follows already the command that named it, or is the first point (proofs/History.antt).
 use Prim.Native.Nat.{ℕ, _+_}
 use mathlib.Core.Bool.{cond}
 use mathlib.Core.List.{List, [], _∷_}

@@ -1,6 +1,6 @@
 -- Walks, as document 01 has them ("Walks"): one constructor for each way that its sentences name; 53, and 51 in the modes that end, have none. A
 -- walk is a path, the points passed so far with the latest first; its own history, the latest 54 and 90 among them, tells where a return to a
--- start leads. Assumes nothing.
+-- start leads.
 use Prim.Native.Nat.{ℕ, _+_}
 use mathlib.Core.Path.{_≡_}
 use mathlib.Core.Bool.{Bool, true, false, _&&_, _||_, not, cond}

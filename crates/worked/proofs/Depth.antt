@@ -1,5 +1,5 @@
 -- Change request 6 by its number: a state is at most 5 deep, so a buffer that is deeper gets 16 and stays as it is, and no run comes to one; and a state
--- may be 5 deep. Assumes nothing.
+-- may be 5 deep.
 use Prim.Native.Nat.{ℕ, zero, suc, _<_, _≤_}
 use native.Mathlib.Omega.{arith}
 use mathlib.Core.Path.{_≡_, refl, _∙_}

@@ -1,5 +1,4 @@
 -- Numbers that the writer's judging let pass: each has a form of one or two bytes, and they stand one after the other.
--- Assumes nothing.
 use mathlib.Core.Path.{_≡_, refl, sym, ap, _∙_}
 use mathlib.Core.Bool.{Bool, true, false}
 use mathlib.Core.List.{List}

@@ -1,4 +1,4 @@
--- No image that the writer puts is longer than the longest, room for that one is room enough for every write, and it can be written. Assumes nothing.
+-- No image that the writer puts is longer than the longest, room for that one is room enough for every write, and it can be written.
 use mathlib.Core.Path.{_≡_, refl, ap}
 use mathlib.Core.Bool.{Bool, true, false}
 use mathlib.Core.List.{List}

@@ -1,6 +1,5 @@
 -- Reader and writer undo each other: what the writer wrote is read back, and what the reader accepted is written back byte for byte.
 -- Both follow from one fact: where two sources hand over the same numbers at the same places, they give the same header.
--- Assumes nothing.
 use mathlib.Core.Path.{_≡_, refl, sym, ap, _∙_}
 use mathlib.Core.Bool.{true}
 use Prim.Native.Nat.{ℕ, zero, suc, _+_, _-_, _*_, _<_, _≤_}

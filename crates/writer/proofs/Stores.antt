@@ -1,5 +1,4 @@
 -- Runs of stores into a list: one run after the other is one run, and a part of a slice that was filled is a run.
--- Assumes nothing.
 use mathlib.Core.Path.{_≡_, ap, _∙_}
 use Prim.Native.Nat.{ℕ, suc, _+_, _-_, _≤_}
 use native.Mathlib.Omega.{arith}

@@ -1,5 +1,4 @@
 -- The image writer: document 01, "Refused because of the input", its last paragraph.
--- Assumes nothing.
 use Prim.Native.Nat.{ℕ, zero, suc, _+_, _*_, _<_}
 use mathlib.Core.Bool.{cond}
 use mathlib.Core.List.{List, [], _++_}

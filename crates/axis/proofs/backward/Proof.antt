@@ -1,4 +1,4 @@
--- `backward` meets its contract: it moves by the stored parameters. Assumes nothing.
+-- `backward` meets its contract: it moves by the stored parameters.
 use Rattle.axis.proofs.backward.Statement.{statement}
 use Rattle.axis.proofs.backward.Tie as tie
 

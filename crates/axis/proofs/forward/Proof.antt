@@ -1,4 +1,4 @@
--- `forward` meets its contract: it moves by the stored parameters. Assumes nothing.
+-- `forward` meets its contract: it moves by the stored parameters.
 use Rattle.axis.proofs.forward.Statement.{statement}
 use Rattle.axis.proofs.forward.Tie as tie
 

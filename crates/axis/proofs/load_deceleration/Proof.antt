@@ -1,4 +1,4 @@
--- `load_deceleration` meets its contract, by whether the content is in range. Assumes nothing.
+-- `load_deceleration` meets its contract, by whether the content is in range.
 use mathlib.Core.Path.{sym, ap, _∙_}
 use mir.Syntax.{w32}
 use Rattle.limits.specs.Limits.{mostRamp}

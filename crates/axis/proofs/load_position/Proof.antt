@@ -1,4 +1,4 @@
--- `load_position` meets its contract. Assumes nothing.
+-- `load_position` meets its contract.
 use mir.Syntax.{w32}
 use Rattle.arith.proofs.Range.{got}
 use Rattle.axis.proofs.load_position.Statement.{statement}

@@ -1,4 +1,4 @@
--- `move_by` meets its contract: it moves by the stored parameters. Assumes nothing.
+-- `move_by` meets its contract: it moves by the stored parameters.
 use Rattle.axis.proofs.move_by.Statement.{statement}
 use Rattle.axis.proofs.move_by.Tie as tie
 

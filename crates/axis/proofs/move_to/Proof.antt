@@ -1,4 +1,4 @@
--- `move_to` meets its contract: it moves by the stored parameters. Assumes nothing.
+-- `move_to` meets its contract: it moves by the stored parameters.
 use Rattle.axis.proofs.move_to.Statement.{statement}
 use Rattle.axis.proofs.move_to.Tie as tie
 

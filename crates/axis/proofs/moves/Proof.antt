@@ -1,4 +1,4 @@
--- `moves` meets its contract, by whether it starts. Assumes nothing.
+-- `moves` meets its contract, by whether it starts.
 use mathlib.Core.Path.{sym, ap, _∙_}
 use mathlib.Core.Bool.{Bool, cond}
 use Rattle.state.specs.State.{withMark}

@@ -1,4 +1,4 @@
--- `natural` meets its contract. Assumes nothing.
+-- `natural` meets its contract.
 use Rattle.axis.proofs.Ranges.{asked, got-natural}
 use Rattle.axis.proofs.natural.Statement.{statement}
 use Rattle.axis.proofs.natural.Tie as tie

@@ -1,4 +1,4 @@
--- `set_acceleration` meets its contract. Assumes nothing.
+-- `set_acceleration` meets its contract.
 use Rattle.axis.proofs.set_acceleration.Statement.{statement}
 use Rattle.axis.proofs.set_acceleration.Tie as tie
 

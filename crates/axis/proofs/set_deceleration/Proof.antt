@@ -1,4 +1,4 @@
--- `set_deceleration` meets its contract. Assumes nothing.
+-- `set_deceleration` meets its contract.
 use Rattle.axis.proofs.set_deceleration.Statement.{statement}
 use Rattle.axis.proofs.set_deceleration.Tie as tie
 

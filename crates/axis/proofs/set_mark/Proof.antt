@@ -1,4 +1,4 @@
--- `set_mark` meets its contract. Assumes nothing.
+-- `set_mark` meets its contract.
 use mathlib.Core.Path.{ap, _∙_}
 use Rattle.machine.specs.Effect.{sets}
 use Rattle.axis.proofs.set_mark.Statement.{statement}

@@ -1,4 +1,4 @@
--- `set_speed` meets its contract. Assumes nothing.
+-- `set_speed` meets its contract.
 use Rattle.axis.proofs.set_speed.Statement.{statement}
 use Rattle.axis.proofs.set_speed.Tie as tie
 

@@ -1,4 +1,4 @@
--- `stop` meets its contract: the stop asked for is with the stored deceleration. Assumes nothing.
+-- `stop` meets its contract: the stop asked for is with the stored deceleration.
 use Rattle.axis.proofs.stop.Statement.{statement}
 use Rattle.axis.proofs.stop.Tie as tie
 

@@ -1,4 +1,4 @@
--- `stop_by` meets its contract: the stop asked for is by its operands. Assumes nothing.
+-- `stop_by` meets its contract: the stop asked for is by its operands.
 use Rattle.axis.proofs.stop_by.Statement.{statement}
 use Rattle.axis.proofs.stop_by.Tie as tie
 

@@ -1,4 +1,4 @@
--- `store_deceleration` meets its contract. Assumes nothing.
+-- `store_deceleration` meets its contract.
 use native.Mathlib.Omega.{arith}
 use borrow.Author.Needs.{needs}
 use mir.Facts.{toZ-ofZ}

@@ -1,4 +1,4 @@
--- `within` meets its contract. Assumes nothing.
+-- `within` meets its contract.
 use mathlib.Core.Path.{ap₂}
 use mathlib.Core.Bool.{_&&_}
 use native.Mathlib.Omega.{arith}

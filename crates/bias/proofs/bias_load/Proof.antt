@@ -1,4 +1,4 @@
--- `bias::bias_load` meets its contract: 13, 16, then the image. Assumes nothing.
+-- `bias::bias_load` meets its contract: 13, 16, then the image.
 use borrow.Author.Needs.{needs}
 use Rattle.bias.proofs.Ways.{marks-short, no-buffer, of-image, load-refused}
 use Rattle.bias.specs.Load.{Load}
@@ -7,32 +7,17 @@ use mathlib.Core.Path.{refl, sym, ap, _∙_}
 use Rattle.bias.proofs.bias_load.Statement.{statement}
 use Rattle.bias.proofs.bias_load.Tie as tie
 
-verdict-requires : tie.Need-verdict-requires
-verdict-requires c κs = search needs
-
 returns : tie.Need-returns
 returns c =
     let a = c .before .before .before .before .before .args in
     let r = load-refused _ _ _ _ (marks-short (now (a .image)) _ (now (a .state)) (c .before .if1 .taken)) (c .verdict .ensures) in
     (r .0, (r .1, record { long = refl; rest = λ k i. refl }))
 
-numbered-requires : tie.Need-numbered-requires
-numbered-requires c κs = search needs
-
 returns-2 : tie.Need-returns-2
 returns-2 c =
     let a = c .before .before .before .before .before .before .args in
     let r = load-refused _ _ _ _ (no-buffer (now (a .image)) _ (now (a .state)) (c .before .before .if1 .left) (c .before .if2 .taken)) (c .numbered .ensures) in
     (r .0, (r .1, record { long = refl; rest = λ k i. refl }))
-
-load-image-requires : tie.Need-load-image-requires
-load-image-requires c κs = search needs
-
-same-length : tie.Need-same-length
-same-length c = search needs
-
-same-length-2 : tie.Need-same-length-2
-same-length-2 c = search needs
 
 returns-3 : tie.Need-returns-3
 returns-3 c =
@@ -45,11 +30,11 @@ pub bias-load-spec : {M : Type 1} → statement M
 bias-load-spec =
     tie.close
     (tie.spec
-    verdict-requires
+    (λ c κs. search needs)
     returns
-    numbered-requires
+    (λ c κs. search needs)
     returns-2
-    load-image-requires
-    same-length
-    same-length-2
+    (λ c κs. search needs)
+    (λ c. search needs)
+    (λ c. search needs)
     returns-3)

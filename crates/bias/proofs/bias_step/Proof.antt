@@ -1,4 +1,4 @@
--- `bias::bias_step` meets its contract: 15, 16, then the step. Assumes nothing.
+-- `bias::bias_step` meets its contract: 15, 16, then the step.
 use borrow.Author.Needs.{needs}
 use Rattle.bias.proofs.Ways.{no-task, bad-inputs, of-buffer, no-state, wrong-length, step-refused}
 use Rattle.bias.specs.Step.{Stepped}
@@ -8,24 +8,15 @@ use mathlib.Core.Path.{sym, ap, _∙_}
 use Rattle.bias.proofs.bias_step.Statement.{statement}
 use Rattle.bias.proofs.bias_step.Tie as tie
 
-answer-requires : tie.Need-answer-requires
-answer-requires c κs = search needs
-
 returns : tie.Need-returns
 returns c =
     let a = c .before .before .before .before .before .args in
     step-refused _ _ _ _ (no-task (now (a .image)) (now (a .state)) (inputsOf (a .task) (now (a .inputs)) (a .start) (a .reached)) (c .before .if1 .taken)) (c .answer .ensures)
 
-answer-requires-2 : tie.Need-answer-requires-2
-answer-requires-2 c κs = search needs
-
 returns-2 : tie.Need-returns-2
 returns-2 c =
     let a = c .before .before .before .before .before .before .args in
     step-refused _ _ _ _ (bad-inputs (now (a .image)) (now (a .state)) (inputsOf (a .task) (now (a .inputs)) (a .start) (a .reached)) (c .before .before .if1 .left) (c .before .if2 .taken)) (c .answer2 .ensures)
-
-no-state-requires : tie.Need-no-state-requires
-no-state-requires c κs = search needs
 
 returns-3 : tie.Need-returns-3
 returns-3 c =
@@ -33,12 +24,6 @@ returns-3 c =
     let x = inputsOf (a .task) (now (a .inputs)) (a .start) (a .reached) in
     let e = of-buffer (now (a .image)) (now (a .state)) x (c .before .before .before .if1 .left) (c .before .before .if2 .left) in
     step-refused _ _ _ _ (e ∙ no-state (now (a .image)) (now (a .state)) x (wrong-length (now (a .state)) (c .before .if3 .taken))) (c .no-state .ensures)
-
-step-buffer-requires : tie.Need-step-buffer-requires
-step-buffer-requires c κs = search needs
-
-same-length : tie.Need-same-length
-same-length c = search needs
 
 returns-4 : tie.Need-returns-4
 returns-4 c =
@@ -51,12 +36,12 @@ pub bias-step-spec : {M : Type 1} → statement M
 bias-step-spec =
     tie.close
     (tie.spec
-    answer-requires
+    (λ c κs. search needs)
     returns
-    answer-requires-2
+    (λ c κs. search needs)
     returns-2
-    no-state-requires
+    (λ c κs. search needs)
     returns-3
-    step-buffer-requires
-    same-length
+    (λ c κs. search needs)
+    (λ c. search needs)
     returns-4)

@@ -1,21 +1,18 @@
--- `bias::bias_write` meets its contract: the writer's. Assumes nothing.
+-- `bias::bias_write` meets its contract: the writer's.
 use borrow.Author.Needs.{needs}
 use Rattle.border.specs.Border.{writtenFor}
 use mathlib.Core.Path.{ap, _∙_}
 use Rattle.bias.proofs.bias_write.Statement.{statement}
 use Rattle.bias.proofs.bias_write.Tie as tie
 
-write-requires : tie.Need-write-requires
-write-requires c κs = search needs
-
-written-requires : tie.Need-written-requires
-written-requires c κs = search needs
-
-same-length : tie.Need-same-length
-same-length c = search needs
-
 returns : tie.Need-returns
 returns c = (c .written .ensures ∙ ap writtenFor (c .before .before .before .write .ensures .0), c .before .before .before .write .ensures .1)
 
 pub bias-write-spec : {M : Type 1} → statement M
-bias-write-spec = tie.close (tie.spec write-requires written-requires same-length returns)
+bias-write-spec =
+    tie.close
+    (tie.spec
+    (λ c κs. search needs)
+    (λ c κs. search needs)
+    (λ c. search needs)
+    returns)

@@ -1,4 +1,4 @@
--- `bias::fresh` meets its contract. Assumes nothing.
+-- `bias::fresh` meets its contract.
 use borrow.Author.Needs.{needs}
 use Rattle.state.specs.State.{fresh}
 use Rattle.image.specs.declared.reader.HeaderRead.{HeaderRead}
@@ -6,14 +6,10 @@ use mathlib.Core.Path.{ap, _∙_}
 use Rattle.bias.proofs.fresh.Statement.{statement}
 use Rattle.bias.proofs.fresh.Tie as tie
 
-read-requires : tie.Need-read-requires
-read-requires c κs = search needs
-
-fresh-requires : tie.Need-fresh-requires
-fresh-requires c κs = search needs
-
-returns : tie.Need-returns
-returns c = c .fresh .ensures ∙ ap (λ (r : HeaderRead). fresh (r .header)) (c .before .read .ensures)
-
 pub fresh-spec : {M : Type 1} → statement M
-fresh-spec = tie.close (tie.spec read-requires fresh-requires returns)
+fresh-spec =
+    tie.close
+    (tie.spec
+    (λ c κs. search needs)
+    (λ c κs. search needs)
+    (λ c. c .fresh .ensures ∙ ap (λ (r : HeaderRead). fresh (r .header)) (c .before .read .ensures)))

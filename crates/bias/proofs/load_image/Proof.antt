@@ -1,4 +1,4 @@
--- `bias::load_image` meets its contract, by the verdict. Assumes nothing.
+-- `bias::load_image` meets its contract, by the verdict.
 use borrow.Author.Needs.{needs}
 use Rattle.bias.proofs.Ways.{verdict-is, stays, begins}
 use Rattle.border.specs.Border.{verdictFor}
@@ -10,39 +10,12 @@ use mathlib.Core.Path.{sym, ap, _∙_}
 use Rattle.bias.proofs.load_image.Statement.{statement}
 use Rattle.bias.proofs.load_image.Tie as tie
 
-judge-requires : tie.Need-judge-requires
-judge-requires c κs = search needs
-
-is-accepted-requires : tie.Need-is-accepted-requires
-is-accepted-requires c κs = search needs
-
-verdict-requires : tie.Need-verdict-requires
-verdict-requires c κs = search needs
-
-same-length : tie.Need-same-length
-same-length c = search needs
-
 returns : tie.Need-returns
 returns c =
     let a = c .before .before .before .before .before .before .before .before .before .before .args in
     let j = c .before .before .before .before .before .judge in
     let refused = sym (ap isAccepted (j .ensures .0)) ∙ sym (c .before .before .is-accepted .ensures) ∙ not-true _ (c .before .if1 .taken) in
     (c .verdict .ensures ∙ ap verdictFor (j .ensures .0) ∙ sym (verdict-is (now (a .image)) _ (now (a .state))), (sym (stays (now (a .image)) _ (now (a .state)) refused), j .ensures .1))
-
-fresh-requires : tie.Need-fresh-requires
-fresh-requires c κs = search needs
-
-put-state-requires : tie.Need-put-state-requires
-put-state-requires c κs = search needs
-
-verdict-requires-2 : tie.Need-verdict-requires-2
-verdict-requires-2 c κs = search needs
-
-same-length-2 : tie.Need-same-length-2
-same-length-2 c = search needs
-
-same-length-3 : tie.Need-same-length-3
-same-length-3 c = search needs
 
 returns-2 : tie.Need-returns-2
 returns-2 c =
@@ -57,14 +30,14 @@ pub load-image-spec : {M : Type 1} → statement M
 load-image-spec =
     tie.close
     (tie.spec
-    judge-requires
-    is-accepted-requires
-    verdict-requires
-    same-length
+    (λ c κs. search needs)
+    (λ c κs. search needs)
+    (λ c κs. search needs)
+    (λ c. search needs)
     returns
-    fresh-requires
-    put-state-requires
-    verdict-requires-2
-    same-length-2
-    same-length-3
+    (λ c κs. search needs)
+    (λ c κs. search needs)
+    (λ c κs. search needs)
+    (λ c. search needs)
+    (λ c. search needs)
     returns-2)

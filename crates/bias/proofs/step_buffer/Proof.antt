@@ -1,4 +1,4 @@
--- `bias::step_buffer` meets its contract: 16, test by test, then the step. Assumes nothing.
+-- `bias::step_buffer` meets its contract: 16, test by test, then the step.
 use borrow.Author.Needs.{needs}
 use Rattle.bias.proofs.Ways.{no-state, of-state, step-refused, frame-of, read-of, state-of, frame-not, judged-no-state, judged-state}
 use Rattle.bias.specs.Step.{Stepped, handed}
@@ -14,35 +14,11 @@ use mathlib.Core.Path.{sym, ap, _∙_, subst}
 use Rattle.bias.proofs.step_buffer.Statement.{statement}
 use Rattle.bias.proofs.step_buffer.Tie as tie
 
-copy-in-requires : tie.Need-copy-in-requires
-copy-in-requires c κs = search needs
-
-decode-requires : tie.Need-decode-requires
-decode-requires c κs = search needs
-
-frame-is-requires : tie.Need-frame-is-requires
-frame-is-requires c κs = search needs
-
-no-state-requires : tie.Need-no-state-requires
-no-state-requires c κs = search needs
-
-same-length : tie.Need-same-length
-same-length c = search needs
-
 returns : tie.Need-returns
 returns c =
     let a = c .before .before .before .before .before .before .before .before .before .before .before .args in
     let u = frame-of (now (a .state)) _ (c .before .before .before .before .before .before .copy-in .ensures .0) _ (c .before .before .frame-is .ensures) ∙ not-true _ (c .before .if1 .taken) in
     step-refused _ _ _ _ (no-state (now (a .image)) (now (a .state)) (inputsOf (a .task) (now (a .inputs)) (a .start) (a .reached)) (frame-not (now (a .state)) (c .before .before .before .before .before .before .before .before .before .before .before .pre) u)) (c .no-state .ensures)
-
-state-is-requires : tie.Need-state-is-requires
-state-is-requires c κs = search needs
-
-no-state-requires-2 : tie.Need-no-state-requires-2
-no-state-requires-2 c κs = search needs
-
-same-length-2 : tie.Need-same-length-2
-same-length-2 c = search needs
 
 returns-2 : tie.Need-returns-2
 returns-2 c =
@@ -61,9 +37,6 @@ step-state-requires c κs =
     let d = read-of (now (a .state)) _ (copied .0) _ (c .before .before .before .before .before .before .decode .ensures) in
     (c .before .before .before .before .before .before .before .before .before .before .before .before .before .pre, subst Good (sym d) (state-good (now (a .state)) (subst Bytes (copied .0) (copied .1)) (judged-state (now (a .state)) (c .before .before .before .before .before .before .before .before .before .before .before .before .before .pre) u s)))
 
-same-length-3 : tie.Need-same-length-3
-same-length-3 c = search needs
-
 returns-3 : tie.Need-returns-3
 returns-3 c =
     let a = c .before .before .before .before .before .before .before .before .before .before .before .before .before .before .before .before .args in
@@ -80,16 +53,16 @@ pub step-buffer-spec : {M : Type 1} → statement M
 step-buffer-spec =
     tie.close
     (tie.spec
-    copy-in-requires
-    decode-requires
-    frame-is-requires
-    no-state-requires
-    same-length
+    (λ c κs. search needs)
+    (λ c κs. search needs)
+    (λ c κs. search needs)
+    (λ c κs. search needs)
+    (λ c. search needs)
     returns
-    state-is-requires
-    no-state-requires-2
-    same-length-2
+    (λ c κs. search needs)
+    (λ c κs. search needs)
+    (λ c. search needs)
     returns-2
     step-state-requires
-    same-length-3
+    (λ c. search needs)
     returns-3)

@@ -1,22 +1,10 @@
--- `bias::step_state` meets its contract: the answer and the bytes are those of the engine's step. Assumes nothing.
+-- `bias::step_state` meets its contract: the answer and the bytes are those of the engine's step.
 use borrow.Author.Needs.{needs}
 use Rattle.bias.specs.Step.{handed}
 use Rattle.machine.specs.declared.Out.{Out}
 use mathlib.Core.Path.{ap, _∙_}
 use Rattle.bias.proofs.step_state.Statement.{statement}
 use Rattle.bias.proofs.step_state.Tie as tie
-
-step-requires : tie.Need-step-requires
-step-requires c κs = search needs
-
-put-state-requires : tie.Need-put-state-requires
-put-state-requires c κs = search needs
-
-answer-requires : tie.Need-answer-requires
-answer-requires c κs = search needs
-
-same-length : tie.Need-same-length
-same-length c = search needs
 
 returns : tie.Need-returns
 unfolding handed
@@ -26,4 +14,10 @@ returns c =
 
 pub step-state-spec : {M : Type 1} → statement M
 step-state-spec =
-    tie.close (tie.spec step-requires put-state-requires answer-requires same-length returns)
+    tie.close
+    (tie.spec
+    (λ c κs. search needs)
+    (λ c κs. search needs)
+    (λ c κs. search needs)
+    (λ c. search needs)
+    returns)

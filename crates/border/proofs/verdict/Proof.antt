@@ -1,25 +1,7 @@
--- `border::verdict` meets its contract: each part is what the verdict has. Assumes nothing.
+-- `border::verdict` meets its contract: each part is what the verdict has.
 use borrow.Author.Needs.{needs}
 use Rattle.border.proofs.verdict.Statement.{statement}
 use Rattle.border.proofs.verdict.Tie as tie
-
-place-requires : tie.Need-place-requires
-place-requires c κs = search needs
-
-number-requires : tie.Need-number-requires
-number-requires c κs = search needs
-
-task-requires : tie.Need-task-requires
-task-requires c κs = search needs
-
-cast-t6 : tie.Need-cast-t6
-cast-t6 c = search needs
-
-depth-requires : tie.Need-depth-requires
-depth-requires c κs = search needs
-
-cast-t8 : tie.Need-cast-t8
-cast-t8 c = search needs
 
 returns : tie.Need-returns
 returns c =
@@ -32,4 +14,11 @@ returns c =
 pub verdict-spec : {M : Type 1} → statement M
 verdict-spec =
     tie.close
-    (tie.spec place-requires number-requires task-requires cast-t6 depth-requires cast-t8 returns)
+    (tie.spec
+    (λ c κs. search needs)
+    (λ c κs. search needs)
+    (λ c κs. search needs)
+    (λ c. search needs)
+    (λ c κs. search needs)
+    (λ c. search needs)
+    returns)

@@ -1,4 +1,4 @@
--- `entry_is` meets its contract: its tests are the definition's. Assumes nothing.
+-- `entry_is` meets its contract: its tests are the definition's.
 use mathlib.Core.Path.{refl}
 use Rattle.buffer.proofs.entry_is.Statement.{statement}
 use Rattle.buffer.proofs.entry_is.Tie as tie

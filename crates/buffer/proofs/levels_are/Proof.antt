@@ -1,4 +1,4 @@
--- `levels_are` meets its contract: after k turns the first k levels are judged. Assumes nothing.
+-- `levels_are` meets its contract: after k turns the first k levels are judged.
 use Prim.Native.Nat.{_-_, _≤_}
 use native.Mathlib.Omega.{arith}
 use native.Mathlib.Numerals.{add-one}
@@ -15,23 +15,6 @@ Inv-loop levels pass₀ k₀ pass k = (k ≤ cells) × (pass ≡ allOf levelIs l
 abbrev μ-loop : tie.MeasureT-loop
 μ-loop levels pass₀ k₀ pass k = cells - k
 
-loop-holds : tie.Need-loop-holds Inv-loop μ-loop
-unfolding allOf
-loop-holds c = (search needs, refl)
-
-element-copy-out-pass : tie.Need-element-copy-out-pass Inv-loop μ-loop
-element-copy-out-pass c = search needs
-
-add-k : tie.Need-add-k Inv-loop μ-loop
-add-k c = search needs
-
-loop-less : tie.Need-loop-less Inv-loop μ-loop
-loop-less c = search needs
-
-loop-again : tie.Need-loop-again Inv-loop μ-loop
-unfolding allOf
-loop-again c = (search needs, rw (add-one, ← c .before .before .loop .inv .1))
-
 returns : tie.Need-returns Inv-loop μ-loop
 returns c =
     let l = c .before .loop in
@@ -39,6 +22,15 @@ returns c =
     l .inv .1 ∙ ap (allOf levelIs (c .before .before .args .levels .now)) e
 
 pub levels-are-spec : {M : Type 1} → statement M
+unfolding allOf
 levels-are-spec =
     tie.close
-    (tie.spec Inv-loop μ-loop loop-holds element-copy-out-pass add-k loop-less loop-again returns)
+    (tie.spec
+    Inv-loop
+    μ-loop
+    (λ c. (search needs, refl))
+    (λ c. search needs)
+    (λ c. search needs)
+    (λ c. search needs)
+    (λ c. (search needs, rw (add-one, ← c .before .before .loop .inv .1)))
+    returns)

@@ -1,32 +1,8 @@
--- `state_is` meets its contract, part by part. Assumes nothing.
+-- `state_is` meets its contract, part by part.
 use Rattle.layout.specs.Test.{stateIs}
 use borrow.Author.Needs.{needs}
 use Rattle.buffer.proofs.state_is.Statement.{statement}
 use Rattle.buffer.proofs.state_is.Tie as tie
-
-array-copy-out-bias : tie.Need-array-copy-out-bias
-array-copy-out-bias c = search needs
-
-array-copy-out-plc : tie.Need-array-copy-out-plc
-array-copy-out-plc c = search needs
-
-array-copy-out-mathematics : tie.Need-array-copy-out-mathematics
-array-copy-out-mathematics c = search needs
-
-accepts-requires : tie.Need-accepts-requires
-accepts-requires c κs = search needs
-
-values-are-requires : tie.Need-values-are-requires
-values-are-requires c κs = search needs
-
-task-is-requires : tie.Need-task-is-requires
-task-is-requires c κs = search needs
-
-task-is-requires-2 : tie.Need-task-is-requires-2
-task-is-requires-2 c κs = search needs
-
-task-is-requires-3 : tie.Need-task-is-requires-3
-task-is-requires-3 c κs = search needs
 
 returns : tie.Need-returns
 unfolding stateIs
@@ -36,12 +12,12 @@ pub state-is-spec : {M : Type 1} → statement M
 state-is-spec =
     tie.close
     (tie.spec
-    array-copy-out-bias
-    array-copy-out-plc
-    array-copy-out-mathematics
-    accepts-requires
-    values-are-requires
-    task-is-requires
-    task-is-requires-2
-    task-is-requires-3
+    (λ c. search needs)
+    (λ c. search needs)
+    (λ c. search needs)
+    (λ c κs. search needs)
+    (λ c κs. search needs)
+    (λ c κs. search needs)
+    (λ c κs. search needs)
+    (λ c κs. search needs)
     returns)

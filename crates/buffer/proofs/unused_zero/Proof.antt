@@ -1,4 +1,4 @@
--- `unused_zero` meets its contract: after k turns the first k unused bytes are judged. Assumes nothing.
+-- `unused_zero` meets its contract: after k turns the first k unused bytes are judged.
 use Prim.Native.Nat.{_-_, _≤_}
 use native.Mathlib.Omega.{arith}
 use native.Mathlib.Numerals.{add-one}
@@ -15,26 +15,6 @@ Inv-loop b zero₀ k₀ zero k = (k ≤ unusedLength) × (zero ≡ unusedZero b 
 abbrev μ-loop : tie.MeasureT-loop
 μ-loop b zero₀ k₀ zero k = unusedLength - k
 
-loop-holds : tie.Need-loop-holds Inv-loop μ-loop
-unfolding unusedZero
-loop-holds c = (search needs, refl)
-
-add-zero : tie.Need-add-zero Inv-loop μ-loop
-add-zero c = search needs
-
-element-copy-out-zero : tie.Need-element-copy-out-zero Inv-loop μ-loop
-element-copy-out-zero c = search needs
-
-add-k : tie.Need-add-k Inv-loop μ-loop
-add-k c = search needs
-
-loop-less : tie.Need-loop-less Inv-loop μ-loop
-loop-less c = search needs
-
-loop-again : tie.Need-loop-again Inv-loop μ-loop
-unfolding unusedZero
-loop-again c = (search needs, rw (add-one, ← c .before .before .loop .inv .1))
-
 returns : tie.Need-returns Inv-loop μ-loop
 returns c =
     let l = c .before .loop in
@@ -42,15 +22,16 @@ returns c =
     l .inv .1 ∙ ap (unusedZero (c .before .before .args .b .now)) e
 
 pub unused-zero-spec : {M : Type 1} → statement M
+unfolding unusedZero
 unused-zero-spec =
     tie.close
     (tie.spec
     Inv-loop
     μ-loop
-    loop-holds
-    add-zero
-    element-copy-out-zero
-    add-k
-    loop-less
-    loop-again
+    (λ c. (search needs, refl))
+    (λ c. search needs)
+    (λ c. search needs)
+    (λ c. search needs)
+    (λ c. search needs)
+    (λ c. (search needs, rw (add-one, ← c .before .before .loop .inv .1)))
     returns)

@@ -1,4 +1,4 @@
--- `judge` meets its contract: the row is that of the code, and its first test is the definition's. Assumes nothing.
+-- `judge` meets its contract: the row is that of the code, and its first test is the definition's.
 use native.Mathlib.Omega.{arith}
 use Prim.Native.Nat.{ℕ}
 use mathlib.Core.Path.{_≡_, ap}
@@ -13,22 +13,6 @@ use Rattle.command.specs.declared.BlockFault.the-variants.{NotCarried}
 use Rattle.command.proofs.judge.Statement.{statement}
 use Rattle.command.proofs.judge.Tie as tie
 
-array-read-find : tie.Need-array-read-find
-array-read-find c = omega arith
-
-find-requires : tie.Need-find-requires
-find-requires c κs = tt
-
-returns : tie.Need-returns
-unfolding blockFault rowFault
-returns c = rw (← c .before .before .find .ensures, not-true (c .before .before .find .result .carried) (c .if1 .taken))
-
-lay-out-requires : tie.Need-lay-out-requires
-lay-out-requires c κs = tt
-
-judge-command-requires : tie.Need-judge-command-requires
-judge-command-requires c κs = tt
-
 carried-row : (r : Row) (h : Header) (b : List ℕ) → r .carried ≡ true → rowFault r h b ≡ commandFault r h b (laidOut (r .layout) b)
 unfolding rowFault
 carried-row r h b e = ap (λ (t : Bool). cond t (commandFault r h b (laidOut (r .layout) b)) NotCarried) e
@@ -42,6 +26,13 @@ returns-2 c =
     rw (← c .before .before .before .before .find .ensures, carried, ← c .before .lay-out .ensures) (c .judge-command .ensures)
 
 pub judge-spec : {M : Type 1} → statement M
+unfolding blockFault rowFault
 judge-spec =
     tie.close
-    (tie.spec array-read-find find-requires returns lay-out-requires judge-command-requires returns-2)
+    (tie.spec
+    (λ c. omega arith)
+    (λ c κs. tt)
+    (λ c. rw (← c .before .before .find .ensures, not-true (c .before .before .find .result .carried) (c .if1 .taken)))
+    (λ c κs. tt)
+    (λ c κs. tt)
+    returns-2)

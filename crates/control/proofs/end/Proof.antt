@@ -1,4 +1,4 @@
--- `end` meets its contract, by its mode. Assumes nothing.
+-- `end` meets its contract, by its mode.
 use mathlib.Core.Path.{sym, ap, _∙_}
 use mathlib.Core.Bool.{Bool, cond}
 use borrow.Author.Tests.{eq-eqb, ne-eqb}

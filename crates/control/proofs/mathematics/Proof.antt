@@ -1,4 +1,4 @@
--- `mathematics` meets its contract: each arm of the match is the row of its code. Assumes nothing.
+-- `mathematics` meets its contract: each arm of the match is the row of its code.
 use denote.Ref.{now}
 use Rattle.machine.specs.Given.{givenAt}
 use Rattle.machine.specs.Effect.{mathematicsRows, deedIn}

@@ -1,4 +1,4 @@
--- `natural` meets its contract. Assumes nothing.
+-- `natural` meets its contract.
 use Rattle.control.proofs.Cases.{below, asked, above}
 use Rattle.control.proofs.natural.Statement.{statement}
 use Rattle.control.proofs.natural.Tie as tie

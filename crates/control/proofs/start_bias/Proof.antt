@@ -1,4 +1,4 @@
--- `start_bias` meets its contract: it starts BIAS and changes no value. Assumes nothing.
+-- `start_bias` meets its contract: it starts BIAS and changes no value.
 use Rattle.control.proofs.start_bias.Statement.{statement}
 use Rattle.control.proofs.start_bias.Tie as tie
 

@@ -1,4 +1,4 @@
--- `start_plc` meets its contract: it starts the PLC and changes no value. Assumes nothing.
+-- `start_plc` meets its contract: it starts the PLC and changes no value.
 use Rattle.control.proofs.start_plc.Statement.{statement}
 use Rattle.control.proofs.start_plc.Tie as tie
 

@@ -1,4 +1,4 @@
--- `time_of` meets its contract. Assumes nothing.
+-- `time_of` meets its contract.
 use mathlib.Core.Path.{refl}
 use borrow.Author.Needs.{needs}
 use borrow.Author.Tests.{lt-ltb, le-ltb}

@@ -1,4 +1,4 @@
--- `wait` meets its contract. Assumes nothing.
+-- `wait` meets its contract.
 use mathlib.Core.Path.{ap, _∙_}
 use borrow.Author.Needs.{needs}
 use Rattle.machine.specs.Effect.{flows}

@@ -1,4 +1,4 @@
--- `wait_by_variable` meets its contract, by whether its variable is read and in range. Assumes nothing.
+-- `wait_by_variable` meets its contract, by whether its variable is read and in range.
 use mathlib.Core.Path.{sym, ap, _∙_}
 use Prim.Native.Nat.{ℕ}
 use mathlib.Core.Bool.{Bool, _||_, cond}

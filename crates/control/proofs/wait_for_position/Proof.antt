@@ -1,4 +1,4 @@
--- `wait_for_position` meets its contract, by whether the position is reached. Assumes nothing.
+-- `wait_for_position` meets its contract, by whether the position is reached.
 use mathlib.Core.Path.{sym, ap, _∙_}
 use mathlib.Core.Bool.{Bool, not, cond}
 use borrow.Author.Tests.{eq-eqb, ne-eqb}

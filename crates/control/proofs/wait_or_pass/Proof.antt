@@ -1,4 +1,4 @@
--- `wait_or_pass` meets its contract, by whether the time is over. Assumes nothing.
+-- `wait_or_pass` meets its contract, by whether the time is over.
 use mathlib.Core.Path.{sym, ap, _∙_}
 use mathlib.Core.Bool.{Bool, cond}
 use Rattle.machine.specs.declared.Outcome.the-variants.{GoOn, Stay}

@@ -1,4 +1,4 @@
--- `waits` meets its contract, by whether a time is pending. Assumes nothing.
+-- `waits` meets its contract, by whether a time is pending.
 use mathlib.Core.Path.{_∙_}
 use mathlib.Core.List.{[]}
 use native.Mathlib.Omega.{arith}

@@ -1,4 +1,4 @@
--- `may_take` meets its contract: its two tests are those of the definition, since the list has three boards. Assumes nothing.
+-- `may_take` meets its contract: its two tests are those of the definition, since the list has three boards.
 use mathlib.Core.Path.{sym}
 use native.Mathlib.Omega.{arith}
 use borrow.Author.Needs.{needs}
@@ -17,12 +17,6 @@ returns-2 c =
     let a = c .before .before .args in
     sym (past-types (a .t1) (a .model) (a .board) (omega arith))
 
-mul-result : tie.Need-mul-result
-mul-result c = search needs
-
-array-read-result : tie.Need-array-read-result
-array-read-result c = search needs
-
 returns-3 : tie.Need-returns-3
 returns-3 c =
     let a = c .before .before .args in
@@ -30,4 +24,11 @@ returns-3 c =
     sym (by-least (a .t1) (a .model) (a .board) (omega arith) (omega arith))
 
 pub may-take-spec : {M : Type 1} → statement M
-may-take-spec = tie.close (tie.spec returns returns-2 mul-result array-read-result returns-3)
+may-take-spec =
+    tie.close
+    (tie.spec
+    returns
+    returns-2
+    (λ c. search needs)
+    (λ c. search needs)
+    returns-3)

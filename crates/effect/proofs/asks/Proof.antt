@@ -1,4 +1,4 @@
--- `asks` meets its contract: the effect of these three parts. Assumes nothing.
+-- `asks` meets its contract: the effect of these three parts.
 use mathlib.Core.Path.{refl}
 use Rattle.effect.proofs.asks.Statement.{statement}
 use Rattle.effect.proofs.asks.Tie as tie

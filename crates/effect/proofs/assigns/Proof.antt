@@ -1,4 +1,4 @@
--- `assigns` meets its contract. Assumes nothing.
+-- `assigns` meets its contract.
 use mathlib.Core.Path.{ap, _∙_}
 use lib.IntN.{ℤ}
 use mir.Facts.{toZ-ofZ}

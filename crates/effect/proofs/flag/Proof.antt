@@ -1,14 +1,12 @@
--- `flag` meets its contract: the element at x. Assumes nothing.
+-- `flag` meets its contract: the element at x.
 use mathlib.Core.Path.{refl}
 use borrow.Author.Needs.{needs}
 use Rattle.effect.proofs.flag.Statement.{statement}
 use Rattle.effect.proofs.flag.Tie as tie
 
-array-read-result : tie.Need-array-read-result
-array-read-result c = search needs
-
-returns : tie.Need-returns
-returns c = refl
-
 pub flag-spec : {M : Type 1} → statement M
-flag-spec = tie.close (tie.spec array-read-result returns)
+flag-spec =
+    tie.close
+    (tie.spec
+    (λ c. search needs)
+    (λ c. refl))

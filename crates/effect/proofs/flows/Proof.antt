@@ -1,4 +1,4 @@
--- `flows` meets its contract: the effect of these three parts. Assumes nothing.
+-- `flows` meets its contract: the effect of these three parts.
 use mathlib.Core.Path.{refl}
 use Rattle.effect.proofs.flows.Statement.{statement}
 use Rattle.effect.proofs.flows.Tie as tie

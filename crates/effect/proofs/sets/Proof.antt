@@ -1,4 +1,4 @@
--- `sets` meets its contract: `asks` with no motion. Assumes nothing.
+-- `sets` meets its contract: `asks` with no motion.
 use borrow.Author.Needs.{needs}
 use Rattle.effect.proofs.sets.Statement.{statement}
 use Rattle.effect.proofs.sets.Tie as tie

@@ -1,4 +1,4 @@
--- `answer_to` meets its contract, outcome by outcome. Assumes nothing.
+-- `answer_to` meets its contract, outcome by outcome.
 use mathlib.Core.Path.{sym, ap}
 use borrow.Author.Needs.{needs}
 use Rattle.machine.specs.Engine.{answerTo}

@@ -1,4 +1,4 @@
--- `block_fits` meets its contract. Assumes nothing.
+-- `block_fits` meets its contract.
 use mathlib.Core.Path.{ap, ap₂, _∙_}
 use Prim.Native.Nat.{ℕ}
 use mathlib.Core.Bool.{_&&_}

@@ -1,4 +1,4 @@
--- `carry_out` meets its contract. Assumes nothing.
+-- `carry_out` meets its contract.
 use mathlib.Core.Path.{sym, ap, subst, _∙_}
 use denote.Ref.{now}
 use Rattle.machine.specs.Given.{inputsOf}

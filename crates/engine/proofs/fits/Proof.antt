@@ -1,4 +1,4 @@
--- `fits` meets its contract, test by test. Assumes nothing.
+-- `fits` meets its contract, test by test.
 use mathlib.Core.Path.{ap₂}
 use mathlib.Core.Bool.{_&&_}
 use Rattle.engine.proofs.fits.Statement.{statement}

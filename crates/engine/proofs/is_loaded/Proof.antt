@@ -1,4 +1,4 @@
--- `is_loaded` meets its contract, test by test. Assumes nothing.
+-- `is_loaded` meets its contract, test by test.
 use mathlib.Core.Path.{ap₂}
 use mathlib.Core.Bool.{_&&_}
 use Rattle.engine.proofs.is_loaded.Statement.{statement}

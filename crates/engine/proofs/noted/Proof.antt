@@ -1,4 +1,4 @@
--- `noted` meets its contract, by whether the task is BIAS. Assumes nothing.
+-- `noted` meets its contract, by whether the task is BIAS.
 use mathlib.Core.Path.{sym, ap, _∙_}
 use Prim.Native.Nat.{ℕ}
 use mathlib.Core.Bool.{Bool, cond}

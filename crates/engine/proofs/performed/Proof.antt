@@ -1,4 +1,4 @@
--- `performed` meets its contract. Assumes nothing.
+-- `performed` meets its contract.
 use mathlib.Core.Path.{ap, _∙_}
 use Rattle.machine.specs.Engine.{answerTo}
 use Rattle.engine.proofs.Laws.{together}

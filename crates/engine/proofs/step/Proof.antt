@@ -1,4 +1,4 @@
--- `step` meets its contract, test by test. Assumes nothing.
+-- `step` meets its contract, test by test.
 use mathlib.Core.Path.{_∙_}
 use borrow.Author.Needs.{needs}
 use denote.Ref.{now}

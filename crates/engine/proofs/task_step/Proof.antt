@@ -1,4 +1,4 @@
--- `task_step` meets its contract, test by test. Assumes nothing.
+-- `task_step` meets its contract, test by test.
 use mathlib.Core.Path.{sym, ap, _∙_}
 use mathlib.Core.List.{List}
 use Prim.Native.Nat.{ℕ}

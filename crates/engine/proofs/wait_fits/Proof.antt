@@ -1,4 +1,4 @@
--- `wait_fits` meets its contract. Assumes nothing.
+-- `wait_fits` meets its contract.
 use mathlib.Core.Path.{ap, ap₂, _∙_}
 use mathlib.Core.Bool.{_||_}
 use lib.Dec.{eqb}

@@ -1,4 +1,4 @@
--- `fault_at` meets its contract: what the command breaks at the point. Assumes nothing.
+-- `fault_at` meets its contract: what the command breaks at the point.
 use mathlib.Core.Path.{ap, _∙_}
 use borrow.Author.Needs.{needs}
 use Rattle.operands.specs.declared.Command.{Command}

@@ -1,4 +1,4 @@
--- `flow_by` meets its contract, kind by kind. Assumes nothing.
+-- `flow_by` meets its contract, kind by kind.
 use borrow.Author.Needs.{needs}
 use mathlib.Core.Path.{refl}
 use Rattle.number.proofs.Choice.{arm}

@@ -1,4 +1,4 @@
--- `foreign` meets its contract: its three tests are the definition's. Assumes nothing.
+-- `foreign` meets its contract: its three tests are the definition's.
 use mathlib.Core.Bool.{and-false}
 use borrow.Author.Tests.{ne-eqb, not-true, not-false}
 use Rattle.flow.specs.Tasks.{foreign}

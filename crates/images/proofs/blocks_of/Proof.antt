@@ -1,22 +1,10 @@
--- `images::blocks_of` meets its contract: it sums the loader's blocks, with marks of the length that 13 asks for. Assumes nothing.
+-- `images::blocks_of` meets its contract: it sums the loader's blocks, with marks of the length that 13 asks for.
 use mathlib.Core.Path.{sym, ap, _∙_}
 use Rattle.walk.specs.Verdict.{acceptedBlocks}
 use Rattle.images.specs.Part.{partOf}
 use borrow.Author.Needs.{needs}
 use Rattle.images.proofs.blocks_of.Statement.{statement}
 use Rattle.images.proofs.blocks_of.Tie as tie
-
-marks-requires : tie.Need-marks-requires
-marks-requires c κs = search needs
-
-slice-aggregate-blocks : tie.Need-slice-aggregate-blocks
-slice-aggregate-blocks c = search needs
-
-blocks-requires : tie.Need-blocks-requires
-blocks-requires c κs = search needs
-
-summed-requires : tie.Need-summed-requires
-summed-requires c κs = search needs
 
 returns : tie.Need-returns
 returns c =
@@ -26,4 +14,9 @@ returns c =
 pub blocks-of-spec : {M : Type 1} → statement M
 blocks-of-spec =
     tie.close
-    (tie.spec marks-requires slice-aggregate-blocks blocks-requires summed-requires returns)
+    (tie.spec
+    (λ c κs. search needs)
+    (λ c. search needs)
+    (λ c κs. search needs)
+    (λ c κs. search needs)
+    returns)

@@ -1,5 +1,4 @@
 -- `images::rows` meets its contract. The loop's invariant: n is the number of lines that end before i, and the next begins at or before i.
--- Assumes nothing.
 use borrow.Author.Needs.{needs}
 use native.Mathlib.Omega.{arith}
 use Prim.Native.Nat.{ℕ, _+_, _-_, _≤_}
@@ -17,37 +16,6 @@ Inv-loop text from₀ n₀ i₀ from n i = (from ≤ i) × (i ≤ length text) �
 abbrev μ-loop : tie.MeasureT-loop
 μ-loop text from₀ n₀ i₀ from n i = length text - i
 
-loop-holds : tie.Need-loop-holds Inv-loop μ-loop
-unfolding linesOf
-loop-holds c = (omega arith, omega arith, omega arith, refl)
-
-shared-slice-read-if1 : tie.Need-shared-slice-read-if1 Inv-loop μ-loop
-shared-slice-read-if1 c = search needs
-
-sub-row : tie.Need-sub-row Inv-loop μ-loop
-sub-row c = search needs
-
-part-row-start : tie.Need-part-row-start Inv-loop μ-loop
-part-row-start c = search needs
-
-part-row-end : tie.Need-part-row-end Inv-loop μ-loop
-part-row-end c = search needs
-
-row-requires : tie.Need-row-requires Inv-loop μ-loop
-row-requires c κs = search needs
-
-add-from : tie.Need-add-from Inv-loop μ-loop
-add-from c = search needs
-
-add-n : tie.Need-add-n Inv-loop μ-loop
-add-n c = search needs
-
-add-i : tie.Need-add-i Inv-loop μ-loop
-add-i c = search needs
-
-loop-less : tie.Need-loop-less Inv-loop μ-loop
-loop-less c = search needs
-
 loop-again : tie.Need-loop-again Inv-loop μ-loop
 loop-again c =
     let v = c .before .before .before .loop in
@@ -64,20 +32,21 @@ returns c =
     v .inv .3 ∙ ap (linesOf (c .before .before .before .args .text .now)) q
 
 pub rows-spec : {M : Type 1} → statement M
+unfolding linesOf
 rows-spec =
     tie.close
     (tie.spec
     Inv-loop
     μ-loop
-    loop-holds
-    shared-slice-read-if1
-    sub-row
-    part-row-start
-    part-row-end
-    row-requires
-    add-from
-    add-n
-    add-i
-    loop-less
+    (λ c. (omega arith, omega arith, omega arith, refl))
+    (λ c. search needs)
+    (λ c. search needs)
+    (λ c. search needs)
+    (λ c. search needs)
+    (λ c κs. search needs)
+    (λ c. search needs)
+    (λ c. search needs)
+    (λ c. search needs)
+    (λ c. search needs)
     loop-again
     returns)

@@ -1,4 +1,4 @@
--- `images::summed` meets its contract. The loop's invariant: the sum is that of the bytes passed. Assumes nothing.
+-- `images::summed` meets its contract. The loop's invariant: the sum is that of the bytes passed.
 use borrow.Author.Needs.{needs}
 use native.Mathlib.Omega.{arith}
 use native.Mathlib.Numerals.{add-one}
@@ -14,22 +14,6 @@ Inv-loop bytes check₀ i₀ check i = (i ≤ length bytes) × (check < 65521) �
 
 abbrev μ-loop : tie.MeasureT-loop
 μ-loop bytes check₀ i₀ check i = length bytes - i
-
-loop-holds : tie.Need-loop-holds Inv-loop μ-loop
-unfolding checkOf
-loop-holds c = (omega arith, omega arith, refl)
-
-shared-slice-read-next : tie.Need-shared-slice-read-next Inv-loop μ-loop
-shared-slice-read-next c = search needs
-
-next-requires : tie.Need-next-requires Inv-loop μ-loop
-next-requires c κs = search needs
-
-add-i : tie.Need-add-i Inv-loop μ-loop
-add-i c = search needs
-
-loop-less : tie.Need-loop-less Inv-loop μ-loop
-loop-less c = search needs
 
 loop-again : tie.Need-loop-again Inv-loop μ-loop
 unfolding checkOf
@@ -48,15 +32,16 @@ returns c =
     rw (v .inv .2, q)
 
 pub summed-spec : {M : Type 1} → statement M
+unfolding checkOf
 summed-spec =
     tie.close
     (tie.spec
     Inv-loop
     μ-loop
-    loop-holds
-    shared-slice-read-next
-    next-requires
-    add-i
-    loop-less
+    (λ c. (omega arith, omega arith, refl))
+    (λ c. search needs)
+    (λ c κs. search needs)
+    (λ c. search needs)
+    (λ c. search needs)
     loop-again
     returns)

@@ -1,4 +1,4 @@
--- `images::text` meets its contract: the array is made of zeros. Assumes nothing.
+-- `images::text` meets its contract: the array is made of zeros.
 use mathlib.Core.Path.{refl}
 use Rattle.report.specs.Input.{zeros}
 use Rattle.images.proofs.text.Statement.{statement}

@@ -1,4 +1,4 @@
--- `lend::copy_in` meets its contract: the source is as long as the array, so nothing is left of the zeros. Assumes nothing.
+-- `lend::copy_in` meets its contract: the source is as long as the array, so nothing is left of the zeros.
 use borrow.Author.Needs.{needs}
 use mathlib.Core.Path.{sym, subst}
 use native.Mathlib.Omega.{arith}
@@ -6,12 +6,6 @@ use Rattle.le.specs.LittleEndian.{Bytes}
 use Rattle.lend.proofs.Filled.{filled}
 use Rattle.lend.proofs.copy_in.Statement.{statement}
 use Rattle.lend.proofs.copy_in.Tie as tie
-
-slice-aggregate-copy : tie.Need-slice-aggregate-copy
-slice-aggregate-copy c = search needs
-
-copy-requires : tie.Need-copy-requires
-copy-requires c κs = search needs
 
 returns : tie.Need-returns
 returns c =
@@ -21,4 +15,9 @@ returns c =
     (e, subst Bytes (sym e) (λ k. c .before .before .before .shared-slice-known .given k .fits))
 
 pub copy-in-spec : {M : Type 1} → statement M
-copy-in-spec = tie.close (tie.spec slice-aggregate-copy copy-requires returns)
+copy-in-spec =
+    tie.close
+    (tie.spec
+    (λ c. search needs)
+    (λ c κs. search needs)
+    returns)

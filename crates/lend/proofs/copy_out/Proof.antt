@@ -1,15 +1,9 @@
--- `lend::copy_out` meets its contract: the array is as long as the slice, so nothing is left of what was there. Assumes nothing.
+-- `lend::copy_out` meets its contract: the array is as long as the slice, so nothing is left of what was there.
 use borrow.Author.Needs.{needs}
 use native.Mathlib.Omega.{arith}
 use Rattle.lend.proofs.Filled.{filled}
 use Rattle.lend.proofs.copy_out.Statement.{statement}
 use Rattle.lend.proofs.copy_out.Tie as tie
-
-copy-requires : tie.Need-copy-requires
-copy-requires c κs = search needs
-
-same-length : tie.Need-same-length
-same-length c = search needs
 
 returns : tie.Need-returns
 returns c =
@@ -17,4 +11,9 @@ returns c =
     filled (st .args .b .now) (st .args .s .now) (c .before .before .copy .last .1 .0) (omega arith) (c .before .before .copy .ensures .1)
 
 pub copy-out-spec : {M : Type 1} → statement M
-copy-out-spec = tie.close (tie.spec copy-requires same-length returns)
+copy-out-spec =
+    tie.close
+    (tie.spec
+    (λ c κs. search needs)
+    (λ c. search needs)
+    returns)

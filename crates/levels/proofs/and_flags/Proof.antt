@@ -1,4 +1,4 @@
--- `and_flags` meets its contract. Assumes nothing.
+-- `and_flags` meets its contract.
 use mathlib.Core.Path.{ap, ap₂, _∙_}
 use Prim.Native.Nat.{ℕ}
 use Rattle.state.specs.State.{withFlag}

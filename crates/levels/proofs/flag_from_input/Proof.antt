@@ -1,4 +1,4 @@
--- `flag_from_input` meets its contract. Assumes nothing.
+-- `flag_from_input` meets its contract.
 use mathlib.Core.Path.{ap, _∙_}
 use Prim.Native.Nat.{ℕ}
 use Rattle.state.specs.State.{withFlag}

@@ -1,4 +1,4 @@
--- `output_from_flag` meets its contract. Assumes nothing.
+-- `output_from_flag` meets its contract.
 use mathlib.Core.Path.{ap, _∙_}
 use Prim.Native.Nat.{ℕ}
 use Rattle.state.specs.State.{withOutput}

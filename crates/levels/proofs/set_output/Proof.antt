@@ -1,4 +1,4 @@
--- `set_output` meets its contract. Assumes nothing.
+-- `set_output` meets its contract.
 use mathlib.Core.Path.{ap, _∙_}
 use Rattle.machine.specs.Effect.{sets}
 use Rattle.levels.proofs.set_output.Statement.{statement}

@@ -1,4 +1,4 @@
--- `limits::up_to` meets its contract: its tests are the definition's. Assumes nothing.
+-- `limits::up_to` meets its contract: its tests are the definition's.
 use mathlib.Core.Path.{refl}
 use Rattle.limits.proofs.up_to.Statement.{statement}
 use Rattle.limits.proofs.up_to.Tie as tie

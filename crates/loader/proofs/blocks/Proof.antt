@@ -1,4 +1,4 @@
--- `blocks` meets its contract: the verdict decides how much of the part is handed back. Assumes nothing.
+-- `blocks` meets its contract: the verdict decides how much of the part is handed back.
 use mathlib.Core.Path.{sym}
 use lib.Seq.{length-take-le}
 use Rattle.loader.proofs.Whole.{kept-within, kept-blocks}
@@ -6,21 +6,9 @@ use borrow.Author.Needs.{needs}
 use Rattle.loader.proofs.blocks.Statement.{statement}
 use Rattle.loader.proofs.blocks.Tie as tie
 
-judge-requires : tie.Need-judge-requires
-judge-requires c κs = search needs
-
-block-part-requires : tie.Need-block-part-requires
-block-part-requires c κs = search needs
-
-kept-length-requires : tie.Need-kept-length-requires
-kept-length-requires c κs = search needs
-
 slice-aggregate-result : tie.Need-slice-aggregate-result
 slice-aggregate-result c =
     sym (length-take-le _ _ (kept-within (c .before .before .before .before .before .judge .result) _ (c .before .kept-length .ensures)))
-
-same-length : tie.Need-same-length
-same-length c = search needs
 
 returns : tie.Need-returns
 returns c =
@@ -31,9 +19,9 @@ pub blocks-spec : {M : Type 1} → statement M
 blocks-spec =
     tie.close
     (tie.spec
-    judge-requires
-    block-part-requires
-    kept-length-requires
+    (λ c κs. search needs)
+    (λ c κs. search needs)
+    (λ c κs. search needs)
     slice-aggregate-result
-    same-length
+    (λ c. search needs)
     returns)

@@ -1,4 +1,4 @@
--- `first_refused` meets its contract: the blocks before b pass at each turn. Assumes nothing.
+-- `first_refused` meets its contract: the blocks before b pass at each turn.
 use Prim.Native.Nat.{ℕ, _-_, _<_, _≤_}
 use mathlib.Core.Path.{_≡_, sym, ap, _∙_}
 use native.Mathlib.Omega.{arith}
@@ -15,26 +15,11 @@ Inv-loop header blocks b₀ b = (b ≤ header .count) × ((a : ℕ) → a < b �
 abbrev μ-loop : tie.MeasureT-loop
 μ-loop header blocks b₀ b = header .count - b
 
-loop-holds : tie.Need-loop-holds Inv-loop μ-loop
-loop-holds c = (omega arith, λ a h. omega arith)
-
-block-fault-at-requires : tie.Need-block-fault-at-requires Inv-loop μ-loop
-block-fault-at-requires c κs = tt
-
-number-requires : tie.Need-number-requires Inv-loop μ-loop
-number-requires c κs = tt
-
 returns : tie.Need-returns Inv-loop μ-loop
 returns c =
     let v = c .before .before .before .before .before .loop in
     let told = c .before .number .ensures ∙ ap blockFaultNumber (c .before .before .block-fault-at .ensures) in
     record { most = v .inv .0; before = v .inv .1; refused = λ l z. c .if2 .taken (told ∙ z) }
-
-add-b : tie.Need-add-b Inv-loop μ-loop
-add-b c = omega arith
-
-loop-less : tie.Need-loop-less Inv-loop μ-loop
-loop-less c = omega arith
 
 loop-again : tie.Need-loop-again Inv-loop μ-loop
 loop-again c =
@@ -53,11 +38,11 @@ first-refused-spec =
     (tie.spec
     Inv-loop
     μ-loop
-    loop-holds
-    block-fault-at-requires
-    number-requires
+    (λ c. (omega arith, λ a h. omega arith))
+    (λ c κs. tt)
+    (λ c κs. tt)
     returns
-    add-b
-    loop-less
+    (λ c. omega arith)
+    (λ c. omega arith)
     loop-again
     returns-2)

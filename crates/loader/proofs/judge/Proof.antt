@@ -1,4 +1,4 @@
--- `judge` meets its contract: 13, the header, then the blocks and the walks. Assumes nothing.
+-- `judge` meets its contract: 13, the header, then the blocks and the walks.
 use mathlib.Core.Path.{refl, sym, _∙_}
 use borrow.Author.Tests.{lt-ltb, not-true, not-false}
 use native.Mathlib.Omega.{arith}
@@ -17,12 +17,6 @@ returns c =
     let short = c .if1 .taken in
     (rw (lt-ltb (length (now (c .before .before .before .args .marks))) marksLength (omega arith)), record { long = refl; rest = λ k i. refl })
 
-read-requires : tie.Need-read-requires
-read-requires c κs = search needs
-
-is-done-requires : tie.Need-is-done-requires
-is-done-requires c κs = search needs
-
 returns-2 : tie.Need-returns-2
 returns-2 c =
     let a = c .before .before .before .before .before .before .args in (
@@ -30,16 +24,10 @@ returns-2 c =
       record { long = refl; rest = λ k i. refl },
     )
 
-block-part-requires : tie.Need-block-part-requires
-block-part-requires c κs = search needs
-
 judge-blocks-requires : tie.Need-judge-blocks-requires
 judge-blocks-requires c κs =
     let a = c .before .before .before .before .before .before .before .before .args in
     (ready (now (a .image)) _ (c .before .before .before .before .read .ensures) (sym (c .before .before .before .is-done .ensures) ∙ not-false _ (c .before .before .if2 .left)), c .before .before .before .before .before .if1 .left)
-
-same-length : tie.Need-same-length
-same-length c = search needs
 
 returns-3 : tie.Need-returns-3
 returns-3 c =
@@ -52,10 +40,10 @@ judge-spec =
     tie.close
     (tie.spec
     returns
-    read-requires
-    is-done-requires
+    (λ c κs. search needs)
+    (λ c κs. search needs)
     returns-2
-    block-part-requires
+    (λ c κs. search needs)
     judge-blocks-requires
-    same-length
+    (λ c. search needs)
     returns-3)

@@ -1,4 +1,4 @@
--- `judge_blocks` meets its contract: the first block that is refused, or else the walks. Assumes nothing.
+-- `judge_blocks` meets its contract: the first block that is refused, or else the walks.
 use mathlib.Core.Path.{refl, ap, _∙_}
 use denote.Ref.{now}
 use Rattle.loader.proofs.Upwards.{first-refused-is, none-refused-is}
@@ -9,27 +9,12 @@ use Rattle.walk.specs.declared.Verdict.the-variants.{Block}
 use Rattle.loader.proofs.judge_blocks.Statement.{statement}
 use Rattle.loader.proofs.judge_blocks.Tie as tie
 
-first-refused-requires : tie.Need-first-refused-requires
-first-refused-requires c κs = search needs
-
-block-fault-at-requires : tie.Need-block-fault-at-requires
-block-fault-at-requires c κs = search needs
-
-cast-t7 : tie.Need-cast-t7
-cast-t7 c = search needs
-
 returns : tie.Need-returns
 returns c =
     let s = c .before .before .before .before .before .before in (
       ap (λ (f : BlockFault). Block f (c .before .before .before .first-refused .result)) (c .block-fault-at .ensures) ∙ first-refused-is (under (s .args .header)) (now (s .args .blocks)) _ (c .before .before .before .first-refused .ensures) (c .before .if1 .taken),
       record { long = refl; rest = λ k i. refl },
     )
-
-judge-walks-requires : tie.Need-judge-walks-requires
-judge-walks-requires c κs = search needs
-
-same-length : tie.Need-same-length
-same-length c = search needs
 
 returns-2 : tie.Need-returns-2
 returns-2 c =
@@ -41,10 +26,10 @@ pub judge-blocks-spec : {M : Type 1} → statement M
 judge-blocks-spec =
     tie.close
     (tie.spec
-    first-refused-requires
-    block-fault-at-requires
-    cast-t7
+    (λ c κs. search needs)
+    (λ c κs. search needs)
+    (λ c. search needs)
     returns
-    judge-walks-requires
-    same-length
+    (λ c κs. search needs)
+    (λ c. search needs)
     returns-2)

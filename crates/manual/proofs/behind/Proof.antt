@@ -1,4 +1,4 @@
--- `behind` meets its contract: the rest of the line, or nothing at its end. Assumes nothing.
+-- `behind` meets its contract: the rest of the line, or nothing at its end.
 use borrow.Author.Needs.{needs}
 use denote.Ref.{now}
 use lib.Seq.{take-all}
@@ -10,27 +10,12 @@ use Rattle.manual.specs.Run.{behind}
 use Rattle.manual.proofs.behind.Statement.{statement}
 use Rattle.manual.proofs.behind.Tie as tie
 
-add-result : tie.Need-add-result
-add-result c = search needs
-
-sub-result : tie.Need-sub-result
-sub-result c = search needs
-
-part-result-start : tie.Need-part-result-start
-part-result-start c = search needs
-
-part-result-end : tie.Need-part-result-end
-part-result-end c = search needs
-
 returns : tie.Need-returns
 unfolding behind
 returns c =
     let a = c .before .before .args in
     let l : length (drop (a .k + 1) (now (a .line))) ≤ length (now (a .line)) - (a .k + 1) = omega (arith, length-drop (a .k + 1) (now (a .line))) in
     take-all _ (drop (a .k + 1) (now (a .line))) l
-
-slice-aggregate-result : tie.Need-slice-aggregate-result
-slice-aggregate-result c = search needs
 
 returns-2 : tie.Need-returns-2
 unfolding behind
@@ -43,10 +28,10 @@ pub behind-spec : {M : Type 1} → statement M
 behind-spec =
     tie.close
     (tie.spec
-    add-result
-    sub-result
-    part-result-start
-    part-result-end
+    (λ c. search needs)
+    (λ c. search needs)
+    (λ c. search needs)
+    (λ c. search needs)
     returns
-    slice-aggregate-result
+    (λ c. search needs)
     returns-2)

@@ -1,4 +1,4 @@
--- `example` meets its contract: image and steps are what their digits say. Assumes nothing.
+-- `example` meets its contract: image and steps are what their digits say.
 use borrow.Author.Needs.{needs}
 use Rattle.manual.proofs.Ran.{decoded-front, example-is}
 use Rattle.manual.specs.Run.{fitting}
@@ -10,56 +10,8 @@ use mathlib.Core.Path.{sym, ap, _∙_}
 use Rattle.manual.proofs.example.Statement.{statement}
 use Rattle.manual.proofs.example.Tie as tie
 
-slice-aggregate-write-all : tie.Need-slice-aggregate-write-all
-slice-aggregate-write-all c = search needs
-
-write-all-requires : tie.Need-write-all-requires
-write-all-requires c κs = search needs
-
-input-requires : tie.Need-input-requires
-input-requires c κs = search needs
-
-buffer-requires : tie.Need-buffer-requires
-buffer-requires c κs = search needs
-
-space-of-requires : tie.Need-space-of-requires
-space-of-requires c κs = search needs
-
 slice-aggregate-decode : tie.Need-slice-aggregate-decode
 slice-aggregate-decode c = sym (length-take-le (c .before .space-of .result) (c .before .before .before .before .before .before .before .args .line .now) (c .before .space-of .ensures .1))
-
-slice-aggregate-decode-2 : tie.Need-slice-aggregate-decode-2
-slice-aggregate-decode-2 c = search needs
-
-decode-requires : tie.Need-decode-requires
-decode-requires c κs = search needs
-
-behind-requires : tie.Need-behind-requires
-behind-requires c κs = search needs
-
-slice-aggregate-decode-3 : tie.Need-slice-aggregate-decode-3
-slice-aggregate-decode-3 c = search needs
-
-decode-requires-2 : tie.Need-decode-requires-2
-decode-requires-2 c κs = search needs
-
-array-share-prefix-image : tie.Need-array-share-prefix-image
-array-share-prefix-image c = search needs
-
-slice-aggregate-run : tie.Need-slice-aggregate-run
-slice-aggregate-run c = search needs
-
-array-share-prefix-steps : tie.Need-array-share-prefix-steps
-array-share-prefix-steps c = search needs
-
-slice-aggregate-run-2 : tie.Need-slice-aggregate-run-2
-slice-aggregate-run-2 c = search needs
-
-slice-aggregate-run-3 : tie.Need-slice-aggregate-run-3
-slice-aggregate-run-3 c = search needs
-
-run-requires : tie.Need-run-requires
-run-requires c κs = search needs
 
 returns : tie.Need-returns
 returns c =
@@ -75,21 +27,21 @@ pub example-spec : {M : Type 1} → statement M
 example-spec =
     tie.close
     (tie.spec
-    slice-aggregate-write-all
-    write-all-requires
-    input-requires
-    buffer-requires
-    space-of-requires
+    (λ c. search needs)
+    (λ c κs. search needs)
+    (λ c κs. search needs)
+    (λ c κs. search needs)
+    (λ c κs. search needs)
     slice-aggregate-decode
-    slice-aggregate-decode-2
-    decode-requires
-    behind-requires
-    slice-aggregate-decode-3
-    decode-requires-2
-    array-share-prefix-image
-    slice-aggregate-run
-    array-share-prefix-steps
-    slice-aggregate-run-2
-    slice-aggregate-run-3
-    run-requires
+    (λ c. search needs)
+    (λ c κs. search needs)
+    (λ c κs. search needs)
+    (λ c. search needs)
+    (λ c κs. search needs)
+    (λ c. search needs)
+    (λ c. search needs)
+    (λ c. search needs)
+    (λ c. search needs)
+    (λ c. search needs)
+    (λ c κs. search needs)
     returns)

@@ -1,4 +1,4 @@
--- `put_byte` meets its contract: the place from its two bytes, then the byte there. Assumes nothing.
+-- `put_byte` meets its contract: the place from its two bytes, then the byte there.
 use borrow.Author.Needs.{needs}
 use Rattle.manual.specs.Run.{withByte}
 use Rattle.le.specs.LittleEndian.{leBytes}
@@ -11,39 +11,6 @@ use native.Mathlib.Omega.{arith}
 use Prim.Native.Nat.{ℕ, _+_, _*_}
 use Rattle.manual.proofs.put_byte.Statement.{statement}
 use Rattle.manual.proofs.put_byte.Tie as tie
-
-add-low : tie.Need-add-low
-add-low c = search needs
-
-shared-slice-read-low : tie.Need-shared-slice-read-low
-shared-slice-read-low c = search needs
-
-add-high : tie.Need-add-high
-add-high c = search needs
-
-shared-slice-read-high : tie.Need-shared-slice-read-high
-shared-slice-read-high c = search needs
-
-add-value : tie.Need-add-value
-add-value c = search needs
-
-shared-slice-read-value : tie.Need-shared-slice-read-value
-shared-slice-read-value c = search needs
-
-copy-in-requires : tie.Need-copy-in-requires
-copy-in-requires c κs = search needs
-
-read-u16-requires : tie.Need-read-u16-requires
-read-u16-requires c κs = search needs
-
-put-byte-requires : tie.Need-put-byte-requires
-put-byte-requires c κs = search needs
-
-copy-out-requires : tie.Need-copy-out-requires
-copy-out-requires c κs = search needs
-
-same-length : tie.Need-same-length
-same-length c = search needs
 
 returns : tie.Need-returns
 unfolding withByte
@@ -62,15 +29,15 @@ pub put-byte-spec : {M : Type 1} → statement M
 put-byte-spec =
     tie.close
     (tie.spec
-    add-low
-    shared-slice-read-low
-    add-high
-    shared-slice-read-high
-    add-value
-    shared-slice-read-value
-    copy-in-requires
-    read-u16-requires
-    put-byte-requires
-    copy-out-requires
-    same-length
+    (λ c. search needs)
+    (λ c. search needs)
+    (λ c. search needs)
+    (λ c. search needs)
+    (λ c. search needs)
+    (λ c. search needs)
+    (λ c κs. search needs)
+    (λ c κs. search needs)
+    (λ c κs. search needs)
+    (λ c κs. search needs)
+    (λ c. search needs)
     returns)

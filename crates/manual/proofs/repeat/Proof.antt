@@ -1,4 +1,4 @@
--- `repeat` meets its contract: after i turns i steps were made. Assumes nothing.
+-- `repeat` meets its contract: after i turns i steps were made.
 use borrow.Author.Needs.{needs}
 use Rattle.limits.specs.Limits.{stateLength}
 use Rattle.bias.specs.Step.{stepped}
@@ -21,19 +21,6 @@ Inv-loop image n task inputs start reached state₀ i₀ state i =
 abbrev μ-loop : tie.MeasureT-loop
 μ-loop image n task inputs start reached state₀ i₀ state i = n - i
 
-loop-holds : tie.Need-loop-holds Inv-loop μ-loop
-unfolding repeated
-loop-holds c = (search needs, search needs, refl)
-
-step-requires : tie.Need-step-requires Inv-loop μ-loop
-step-requires c κs = search needs
-
-add-i : tie.Need-add-i Inv-loop μ-loop
-add-i c = search needs
-
-loop-less : tie.Need-loop-less Inv-loop μ-loop
-loop-less c = search needs
-
 loop-again : tie.Need-loop-again Inv-loop μ-loop
 unfolding repeated
 loop-again c =
@@ -41,9 +28,6 @@ loop-again c =
     let a = c .before .before .before .before .before .before .before .before .before .args in
     let x = inputsOf (a .task) (now (a .inputs)) (a .start) (a .reached) in
     (search needs, search needs, c .before .before .step .ensures ∙ ap (λ (b : List ℕ). stepped (now (a .image)) b x .buffer) (l .inv .2) ∙ rw add-one)
-
-same-length : tie.Need-same-length Inv-loop μ-loop
-same-length c = search needs
 
 returns : tie.Need-returns Inv-loop μ-loop
 returns c =
@@ -53,15 +37,16 @@ returns c =
     l .inv .2 ∙ ap (λ (i : ℕ). repeated (now (a .image)) (inputsOf (a .task) (now (a .inputs)) (a .start) (a .reached)) i (now (a .state))) e
 
 pub repeat-spec : {M : Type 1} → statement M
+unfolding repeated
 repeat-spec =
     tie.close
     (tie.spec
     Inv-loop
     μ-loop
-    loop-holds
-    step-requires
-    add-i
-    loop-less
+    (λ c. (search needs, search needs, refl))
+    (λ c κs. search needs)
+    (λ c. search needs)
+    (λ c. search needs)
     loop-again
-    same-length
+    (λ c. search needs)
     returns)

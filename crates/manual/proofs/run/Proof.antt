@@ -1,4 +1,4 @@
--- `run` meets its contract: the load decides. Assumes nothing.
+-- `run` meets its contract: the load decides.
 use borrow.Author.Needs.{needs}
 use Rattle.manual.proofs.Ran.{refused, accepted, run-is}
 use Rattle.manual.specs.Run.{recordLength, after}
@@ -10,33 +10,12 @@ use Prim.Native.Nat.{_/_}
 use Rattle.manual.proofs.run.Statement.{statement}
 use Rattle.manual.proofs.run.Tie as tie
 
-marks-requires : tie.Need-marks-requires
-marks-requires c κs = search needs
-
-slice-aggregate-bias-load : tie.Need-slice-aggregate-bias-load
-slice-aggregate-bias-load c = search needs
-
-bias-load-requires : tie.Need-bias-load-requires
-bias-load-requires c κs = search needs
-
-show-load-requires : tie.Need-show-load-requires
-show-load-requires c κs = search needs
-
-same-length : tie.Need-same-length
-same-length c = search needs
-
 returns : tie.Need-returns
 returns c =
     let a = c .before .before .before .before .before .before .before .before .before .before .before .before .args in
     let l = c .before .before .before .before .before .bias-load .ensures in
     let number = c .before .show-load .ensures ∙ ap (λ (v : BiasVerdict). v .number) (l .0) in
     l .1 .0 ∙ refused (now (a .image)) (now (a .steps)) _ (λ i. c .if1 .taken (number ∙ i)) ∙ run-is (now (a .image)) (now (a .steps)) _ (now (a .state)) (c .before .before .before .before .before .before .before .before .marks .ensures .0)
-
-run-records-requires : tie.Need-run-records-requires
-run-records-requires c κs = search needs
-
-same-length-2 : tie.Need-same-length-2
-same-length-2 c = search needs
 
 returns-2 : tie.Need-returns-2
 returns-2 c =
@@ -52,12 +31,12 @@ pub run-spec : {M : Type 1} → statement M
 run-spec =
     tie.close
     (tie.spec
-    marks-requires
-    slice-aggregate-bias-load
-    bias-load-requires
-    show-load-requires
-    same-length
+    (λ c κs. search needs)
+    (λ c. search needs)
+    (λ c κs. search needs)
+    (λ c κs. search needs)
+    (λ c. search needs)
     returns
-    run-records-requires
-    same-length-2
+    (λ c κs. search needs)
+    (λ c. search needs)
     returns-2)

@@ -1,4 +1,4 @@
--- `run_record` meets its contract: the count decides. Assumes nothing.
+-- `run_record` meets its contract: the count decides.
 use borrow.Author.Needs.{needs}
 use borrow.Author.Tests.{eq-eqb, ne-eqb}
 use Rattle.manual.specs.Run.{repeated, recorded}
@@ -12,59 +12,14 @@ use Prim.Native.Nat.{ℕ, _+_}
 use Rattle.manual.proofs.run_record.Statement.{statement}
 use Rattle.manual.proofs.run_record.Tie as tie
 
-shared-slice-read-if1 : tie.Need-shared-slice-read-if1
-shared-slice-read-if1 c = search needs
-
-put-byte-requires : tie.Need-put-byte-requires
-put-byte-requires c κs = search needs
-
-same-length : tie.Need-same-length
-same-length c = search needs
-
 returns : tie.Need-returns
 unfolding recorded
 returns c =
     let a = c .before .before .before .before .before .before .before .before .before .args in
     c .before .before .put-byte .ensures ∙ rw (eq-eqb (getD (now (a .steps)) (a .at) 0) 0 (c .before .before .before .before .if1 .taken))
 
-levels-requires : tie.Need-levels-requires
-levels-requires c κs = search needs
-
-shared-slice-read-repeat : tie.Need-shared-slice-read-repeat
-shared-slice-read-repeat c = search needs
-
-cast-repeat : tie.Need-cast-repeat
-cast-repeat c = omega (arith, c .shared-slice-known4 .given (c .before .before .before .before .before .before .before .args .at) .fits)
-
-add-repeat : tie.Need-add-repeat
-add-repeat c = search needs
-
-shared-slice-read-repeat-2 : tie.Need-shared-slice-read-repeat-2
-shared-slice-read-repeat-2 c = search needs
-
 cast-repeat-2 : tie.Need-cast-repeat-2
 cast-repeat-2 c = omega (arith, c .shared-slice-known5 .given (c .before .before .before .before .before .before .before .before .args .at + 1) .fits)
-
-slice-aggregate-repeat : tie.Need-slice-aggregate-repeat
-slice-aggregate-repeat c = search needs
-
-add-repeat-2 : tie.Need-add-repeat-2
-add-repeat-2 c = search needs
-
-shared-slice-read-repeat-3 : tie.Need-shared-slice-read-repeat-3
-shared-slice-read-repeat-3 c = search needs
-
-add-repeat-3 : tie.Need-add-repeat-3
-add-repeat-3 c = search needs
-
-shared-slice-read-repeat-4 : tie.Need-shared-slice-read-repeat-4
-shared-slice-read-repeat-4 c = search needs
-
-repeat-requires : tie.Need-repeat-requires
-repeat-requires c κs = search needs
-
-same-length-2 : tie.Need-same-length-2
-same-length-2 c = search needs
 
 returns-2 : tie.Need-returns-2
 unfolding recorded
@@ -79,21 +34,21 @@ pub run-record-spec : {M : Type 1} → statement M
 run-record-spec =
     tie.close
     (tie.spec
-    shared-slice-read-if1
-    put-byte-requires
-    same-length
+    (λ c. search needs)
+    (λ c κs. search needs)
+    (λ c. search needs)
     returns
-    levels-requires
-    shared-slice-read-repeat
-    cast-repeat
-    add-repeat
-    shared-slice-read-repeat-2
+    (λ c κs. search needs)
+    (λ c. search needs)
+    (λ c. omega (arith, c .shared-slice-known4 .given (c .before .before .before .before .before .before .before .args .at) .fits))
+    (λ c. search needs)
+    (λ c. search needs)
     cast-repeat-2
-    slice-aggregate-repeat
-    add-repeat-2
-    shared-slice-read-repeat-3
-    add-repeat-3
-    shared-slice-read-repeat-4
-    repeat-requires
-    same-length-2
+    (λ c. search needs)
+    (λ c. search needs)
+    (λ c. search needs)
+    (λ c. search needs)
+    (λ c. search needs)
+    (λ c κs. search needs)
+    (λ c. search needs)
     returns-2)

@@ -1,4 +1,4 @@
--- `run_records` meets its contract: after k turns k records were carried out. Assumes nothing.
+-- `run_records` meets its contract: after k turns k records were carried out.
 use borrow.Author.Needs.{needs}
 use Rattle.limits.specs.Limits.{stateLength}
 use Rattle.manual.specs.Run.{recordLength, recorded, after}
@@ -17,31 +17,12 @@ Inv-loop image steps state₀ n k₀ state k = (k ≤ n) × (length state ≡ st
 abbrev μ-loop : tie.MeasureT-loop
 μ-loop image steps state₀ n k₀ state k = n - k
 
-loop-holds : tie.Need-loop-holds Inv-loop μ-loop
-unfolding after
-loop-holds c = (search needs, search needs, refl)
-
-mul-run-record : tie.Need-mul-run-record Inv-loop μ-loop
-mul-run-record c = search needs
-
-run-record-requires : tie.Need-run-record-requires Inv-loop μ-loop
-run-record-requires c κs = (search needs, omega arith)
-
-add-k : tie.Need-add-k Inv-loop μ-loop
-add-k c = search needs
-
-loop-less : tie.Need-loop-less Inv-loop μ-loop
-loop-less c = search needs
-
 loop-again : tie.Need-loop-again Inv-loop μ-loop
 unfolding after
 loop-again c =
     let l = c .before .before .before .before .before .loop in
     let a = c .before .before .before .before .before .before .before .before .before .args in
     (search needs, search needs, c .before .before .run-record .ensures ∙ ap (recorded (now (a .image)) (now (a .steps)) (recordLength * l .k)) (l .inv .2) ∙ rw add-one)
-
-same-length : tie.Need-same-length Inv-loop μ-loop
-same-length c = search needs
 
 returns : tie.Need-returns Inv-loop μ-loop
 returns c =
@@ -51,16 +32,17 @@ returns c =
     l .inv .2 ∙ ap (λ (k : ℕ). after (now (a .image)) (now (a .steps)) k (now (a .state))) e
 
 pub run-records-spec : {M : Type 1} → statement M
+unfolding after
 run-records-spec =
     tie.close
     (tie.spec
     Inv-loop
     μ-loop
-    loop-holds
-    mul-run-record
-    run-record-requires
-    add-k
-    loop-less
+    (λ c. (search needs, search needs, refl))
+    (λ c. search needs)
+    (λ c κs. (search needs, omega arith))
+    (λ c. search needs)
+    (λ c. search needs)
     loop-again
-    same-length
+    (λ c. search needs)
     returns)

@@ -1,4 +1,4 @@
--- `space_of` meets its contract: the whole line is searched. Assumes nothing.
+-- `space_of` meets its contract: the whole line is searched.
 use borrow.Author.Needs.{needs}
 use denote.Ref.{now}
 use lib.Seq.{take-length}

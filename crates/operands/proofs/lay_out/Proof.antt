@@ -1,4 +1,4 @@
--- `lay_out` meets its contract, layout by layout. Assumes nothing.
+-- `lay_out` meets its contract, layout by layout.
 use borrow.Author.Needs.{needs}
 use Rattle.number.proofs.Choice.{arm}
 use Rattle.rows.specs.declared.Layout.{Layout}

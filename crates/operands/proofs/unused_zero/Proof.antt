@@ -1,4 +1,4 @@
--- `unused_zero` meets its contract. The loop's invariant: the bytes from k on tell whether all from the first unused one on are 0. Assumes nothing.
+-- `unused_zero` meets its contract. The loop's invariant: the bytes from k on tell whether all from the first unused one on are 0.
 use borrow.Author.Needs.{needs}
 use mathlib.Core.Path.{_≡_, refl, sym, ap, _∙_}
 use Prim.Native.Nat.{ℕ, _+_, _-_}
@@ -18,34 +18,16 @@ Inv-loop block k₀ k = allZero (drop k block) ≡ allZero (drop k₀ block)
 abbrev μ-loop : tie.MeasureT-loop
 μ-loop block k₀ k = blockLength - k
 
-used-bytes-requires : tie.Need-used-bytes-requires Inv-loop μ-loop
-used-bytes-requires c κs = tt
-
-add-k : tie.Need-add-k Inv-loop μ-loop
-add-k c = let m = used-most (c .before .args .layout) in omega (arith, c .used-bytes .ensures)
-
-loop-holds : tie.Need-loop-holds Inv-loop μ-loop
-loop-holds c = refl
-
 -- the first unused byte is behind those that are used
 from-used : (layout : Layout) (b : List ℕ) {n : ℕ} → n ≡ usedBytes layout → allZero (drop (1 + n) b) ≡ unusedZero layout b
 unfolding unusedZero
 from-used layout b e = ap (λ (m : ℕ). allZero (drop (1 + m) b)) e
-
-array-read-if1 : tie.Need-array-read-if1 Inv-loop μ-loop
-array-read-if1 c = omega arith
 
 returns : tie.Need-returns Inv-loop μ-loop
 returns c =
     let a = c .before .before .before .before .args in
     sym (found (a .t2) (c .before .before .loop .k) (omega arith) (c .if1 .taken)) ∙ c .before .before .loop .inv
     ∙ from-used (a .layout) (a .t2) (c .before .before .before .used-bytes .ensures)
-
-add-k-2 : tie.Need-add-k-2 Inv-loop μ-loop
-add-k-2 c = search needs
-
-loop-less : tie.Need-loop-less Inv-loop μ-loop
-loop-less c = search needs
 
 loop-again : tie.Need-loop-again Inv-loop μ-loop
 loop-again c =
@@ -63,12 +45,12 @@ unused-zero-spec =
     (tie.spec
     Inv-loop
     μ-loop
-    used-bytes-requires
-    add-k
-    loop-holds
-    array-read-if1
+    (λ c κs. tt)
+    (λ c. let m = used-most (c .before .args .layout) in omega (arith, c .used-bytes .ensures))
+    (λ c. refl)
+    (λ c. omega arith)
     returns
-    add-k-2
-    loop-less
+    (λ c. search needs)
+    (λ c. search needs)
     loop-again
     returns-2)

@@ -1,4 +1,4 @@
--- `value_jump` meets its contract: its value is the number of D2 to D5, its word that of D7 and the lower half of D6. Assumes nothing.
+-- `value_jump` meets its contract: its value is the number of D2 to D5, its word that of D7 and the lower half of D6.
 use mathlib.Core.Path.{_≡_}
 use mathlib.Core.List.{[], _∷_}
 use Prim.Native.Nat.{ℕ, _+_, _*_, _%_}
@@ -14,39 +14,6 @@ use Rattle.operands.proofs.value_jump.Tie as tie
 spelled : (low high : ℕ) {w : ℕ} → w ≡ leNumber (low ∷ high ∷ []) → w ≡ 256 * high + low
 spelled low high e = omega arith
 
-array-read-t7 : tie.Need-array-read-t7
-array-read-t7 c = omega arith
-
-array-read-t10 : tie.Need-array-read-t10
-array-read-t10 c = omega arith
-
-array-read-t13 : tie.Need-array-read-t13
-array-read-t13 c = omega arith
-
-array-read-t16 : tie.Need-array-read-t16
-array-read-t16 c = omega arith
-
-read-i32-requires : tie.Need-read-i32-requires
-read-i32-requires c κs = tt
-
-array-read-t7-2 : tie.Need-array-read-t7-2
-array-read-t7-2 c = omega arith
-
-array-read-t10-2 : tie.Need-array-read-t10-2
-array-read-t10-2 c = omega arith
-
-read-u16-requires : tie.Need-read-u16-requires
-read-u16-requires c κs = tt
-
-array-read-t13-2 : tie.Need-array-read-t13-2
-array-read-t13-2 c = omega arith
-
-array-read-t7-3 : tie.Need-array-read-t7-3
-array-read-t7-3 c = omega arith
-
-array-read-t16-2 : tie.Need-array-read-t16-2
-array-read-t16-2 c = omega arith
-
 returns : tie.Need-returns
 returns c =
     let b = c .before .before .args .t1 in
@@ -56,15 +23,15 @@ pub value-jump-spec : {M : Type 1} → statement M
 value-jump-spec =
     tie.close
     (tie.spec
-    array-read-t7
-    array-read-t10
-    array-read-t13
-    array-read-t16
-    read-i32-requires
-    array-read-t7-2
-    array-read-t10-2
-    read-u16-requires
-    array-read-t13-2
-    array-read-t7-3
-    array-read-t16-2
+    (λ c. omega arith)
+    (λ c. omega arith)
+    (λ c. omega arith)
+    (λ c. omega arith)
+    (λ c κs. tt)
+    (λ c. omega arith)
+    (λ c. omega arith)
+    (λ c κs. tt)
+    (λ c. omega arith)
+    (λ c. omega arith)
+    (λ c. omega arith)
     returns)

@@ -1,4 +1,4 @@
--- `perform` meets its contract: the five groups have the rows of different codes. Assumes nothing.
+-- `perform` meets its contract: the five groups have the rows of different codes.
 use mathlib.Core.Path.{sym, ap, _∙_}
 use borrow.Author.Tests.{lt-ltb, le-ltb}
 use denote.Ref.{now}

@@ -1,5 +1,4 @@
 -- `home_in` meets its contract. The loop's invariant: the rows from i on tell where the pin is.
--- Assumes nothing.
 use borrow.Author.Needs.{needs}
 use mathlib.Core.Logic.{⊎-elim}
 use mathlib.Core.Path.{_≡_, refl, sym, _∙_}
@@ -18,21 +17,6 @@ Inv-loop first last homes pin i₀ i =
 abbrev μ-loop : tie.MeasureT-loop
 μ-loop first last homes pin i₀ i = length first - i
 
-loop-holds : tie.Need-loop-holds Inv-loop μ-loop
-loop-holds c = (omega arith, refl)
-
-shared-slice-read-if1 : tie.Need-shared-slice-read-if1 Inv-loop μ-loop
-shared-slice-read-if1 c = search needs
-
-shared-slice-read-if2 : tie.Need-shared-slice-read-if2 Inv-loop μ-loop
-shared-slice-read-if2 c = search needs
-
-shared-slice-read-home-numbered : tie.Need-shared-slice-read-home-numbered Inv-loop μ-loop
-shared-slice-read-home-numbered c = search needs
-
-home-numbered-requires : tie.Need-home-numbered-requires Inv-loop μ-loop
-home-numbered-requires c κs = search needs
-
 returns : tie.Need-returns Inv-loop μ-loop
 returns c =
     let at-loop = c .before .before .before .before .before .before .before in
@@ -41,12 +25,6 @@ returns c =
     c .home-numbered .ensures
     ∙ sym (found-in (st .args .first .now) (st .args .last .now) (st .args .homes .now) (st .pre .0) (st .pre .1) i (st .args .pin) (c .before .before .before .before .before .before .loop-test .taken) (c .before .before .before .before .if1 .taken) (c .before .before .if2 .taken))
     ∙ at-loop .loop .inv .1
-
-add-i : tie.Need-add-i Inv-loop μ-loop
-add-i c = search needs
-
-loop-less : tie.Need-loop-less Inv-loop μ-loop
-loop-less c = search needs
 
 loop-again : tie.Need-loop-again Inv-loop μ-loop
 loop-again c =
@@ -73,13 +51,13 @@ home-in-spec =
     (tie.spec
     Inv-loop
     μ-loop
-    loop-holds
-    shared-slice-read-if1
-    shared-slice-read-if2
-    shared-slice-read-home-numbered
-    home-numbered-requires
+    (λ c. (omega arith, refl))
+    (λ c. search needs)
+    (λ c. search needs)
+    (λ c. search needs)
+    (λ c κs. search needs)
     returns
-    add-i
-    loop-less
+    (λ c. search needs)
+    (λ c. search needs)
     loop-again
     returns-2)

@@ -1,26 +1,13 @@
--- `flow_fault` meets its contract: its tests are the definition's, in its order. Assumes nothing.
+-- `flow_fault` meets its contract: its tests are the definition's, in its order.
 use mathlib.Core.Path.{sym, _∙_}
 use Rattle.point.specs.Fault.{flowFault}
 use borrow.Author.Needs.{needs}
 use Rattle.point.proofs.flow_fault.Statement.{statement}
 use Rattle.point.proofs.flow_fault.Tie as tie
 
-too-deep-requires : tie.Need-too-deep-requires
-too-deep-requires c κs = search needs
-
-returns : tie.Need-returns
-unfolding flowFault
-returns c = rw (sym (c .before .too-deep .ensures) ∙ c .if1 .taken)
-
-no-call-requires : tie.Need-no-call-requires
-no-call-requires c κs = search needs
-
 returns-2 : tie.Need-returns-2
 unfolding flowFault
 returns-2 c = rw (sym (c .before .before .before .too-deep .ensures) ∙ c .before .before .if1 .left, sym (c .before .no-call .ensures) ∙ c .if2 .taken)
-
-past-end-requires : tie.Need-past-end-requires
-past-end-requires c κs = search needs
 
 returns-3 : tie.Need-returns-3
 unfolding flowFault
@@ -31,13 +18,14 @@ unfolding flowFault
 returns-4 c = rw (sym (c .before .before .before .before .before .too-deep .ensures) ∙ c .before .before .before .before .if1 .left, sym (c .before .before .before .no-call .ensures) ∙ c .before .before .if2 .left, sym (c .before .past-end .ensures) ∙ c .if3 .left)
 
 pub flow-fault-spec : {M : Type 1} → statement M
+unfolding flowFault
 flow-fault-spec =
     tie.close
     (tie.spec
-    too-deep-requires
-    returns
-    no-call-requires
+    (λ c κs. search needs)
+    (λ c. rw (sym (c .before .too-deep .ensures) ∙ c .if1 .taken))
+    (λ c κs. search needs)
     returns-2
-    past-end-requires
+    (λ c κs. search needs)
     returns-3
     returns-4)

@@ -1,4 +1,4 @@
--- `past` meets its contract: a list of one block has one test. Assumes nothing.
+-- `past` meets its contract: a list of one block has one test.
 use mathlib.Core.Path.{sym}
 use mathlib.Core.Bool.{or-false}
 use Rattle.point.proofs.past.Statement.{statement}

@@ -1,4 +1,4 @@
--- `count` meets its contract, flow by flow. Assumes nothing.
+-- `count` meets its contract, flow by flow.
 use borrow.Author.Needs.{needs}
 use mathlib.Core.Path.{refl, _∙_}
 use lib.Dec.{eqb}

@@ -1,4 +1,4 @@
--- `first` meets its contract, flow by flow. Assumes nothing.
+-- `first` meets its contract, flow by flow.
 use borrow.Author.Needs.{needs}
 use mathlib.Core.Path.{_∙_}
 use lib.Dec.{eqb}

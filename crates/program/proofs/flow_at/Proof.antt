@@ -1,4 +1,4 @@
--- `flow_at` meets its contract: a command that breaks something continues with nothing. Assumes nothing.
+-- `flow_at` meets its contract: a command that breaks something continues with nothing.
 use borrow.Author.Needs.{needs}
 use mathlib.Core.Path.{sym, _∙_}
 use denote.Ref.{now}

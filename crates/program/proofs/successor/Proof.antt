@@ -1,4 +1,4 @@
--- `successor` meets its contract: the first, or else the next block. Assumes nothing.
+-- `successor` meets its contract: the first, or else the next block.
 use borrow.Author.Needs.{needs}
 use mathlib.Core.Path.{_≡_, _∙_}
 use native.Mathlib.Omega.{arith}

@@ -1,4 +1,4 @@
--- `reading::levels_in` meets its contract: a table filled from the front. Assumes nothing.
+-- `reading::levels_in` meets its contract: a table filled from the front.
 use Prim.Native.Nat.{ℕ, _+_, _-_, _≤_}
 use native.Mathlib.Omega.{arith}
 use mathlib.Core.Path.{_≡_, refl}
@@ -17,24 +17,6 @@ Inv-loop b at r₀ k₀ r k = (k ≤ cells) × ((length r ≡ cells) × (take k 
 
 abbrev μ-loop : tie.MeasureT-loop
 μ-loop b at r₀ k₀ r k = cells - k
-
-loop-holds : tie.Need-loop-holds Inv-loop μ-loop
-loop-holds c = (search needs, (search needs, none _))
-
-add-r : tie.Need-add-r Inv-loop μ-loop
-add-r c = search needs
-
-element-copy-out-r : tie.Need-element-copy-out-r Inv-loop μ-loop
-element-copy-out-r c = search needs
-
-array-write-r : tie.Need-array-write-r Inv-loop μ-loop
-array-write-r c = search needs
-
-add-k : tie.Need-add-k Inv-loop μ-loop
-add-k c = search needs
-
-loop-less : tie.Need-loop-less Inv-loop μ-loop
-loop-less c = search needs
 
 loop-again : tie.Need-loop-again Inv-loop μ-loop
 loop-again c =
@@ -55,11 +37,11 @@ levels-in-spec =
     (tie.spec
     Inv-loop
     μ-loop
-    loop-holds
-    add-r
-    element-copy-out-r
-    array-write-r
-    add-k
-    loop-less
+    (λ c. (search needs, (search needs, none _)))
+    (λ c. search needs)
+    (λ c. search needs)
+    (λ c. search needs)
+    (λ c. search needs)
+    (λ c. search needs)
     loop-again
     returns)

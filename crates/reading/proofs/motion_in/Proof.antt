@@ -1,36 +1,9 @@
--- `reading::motion_in` meets its contract, field by field. Assumes nothing.
+-- `reading::motion_in` meets its contract, field by field.
 use mir.Syntax.{w32}
 use Rattle.arith.proofs.Range.{got}
 use borrow.Author.Needs.{needs}
 use Rattle.reading.proofs.motion_in.Statement.{statement}
 use Rattle.reading.proofs.motion_in.Tie as tie
-
-signed-requires : tie.Need-signed-requires
-signed-requires c κs = search needs
-
-add-word : tie.Need-add-word
-add-word c = search needs
-
-word-requires : tie.Need-word-requires
-word-requires c κs = search needs
-
-add-word-2 : tie.Need-add-word-2
-add-word-2 c = search needs
-
-word-requires-2 : tie.Need-word-requires-2
-word-requires-2 c κs = search needs
-
-add-word-3 : tie.Need-add-word-3
-add-word-3 c = search needs
-
-word-requires-3 : tie.Need-word-requires-3
-word-requires-3 c κs = search needs
-
-add-byte : tie.Need-add-byte
-add-byte c = search needs
-
-byte-requires : tie.Need-byte-requires
-byte-requires c κs = search needs
 
 returns : tie.Need-returns
 returns c =
@@ -53,13 +26,13 @@ pub motion-in-spec : {M : Type 1} → statement M
 motion-in-spec =
     tie.close
     (tie.spec
-    signed-requires
-    add-word
-    word-requires
-    add-word-2
-    word-requires-2
-    add-word-3
-    word-requires-3
-    add-byte
-    byte-requires
+    (λ c κs. search needs)
+    (λ c. search needs)
+    (λ c κs. search needs)
+    (λ c. search needs)
+    (λ c κs. search needs)
+    (λ c. search needs)
+    (λ c κs. search needs)
+    (λ c. search needs)
+    (λ c κs. search needs)
     returns)

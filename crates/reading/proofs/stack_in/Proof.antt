@@ -1,4 +1,4 @@
--- `reading::stack_in` meets its contract: a table filled from the front. Assumes nothing.
+-- `reading::stack_in` meets its contract: a table filled from the front.
 use Prim.Native.Nat.{ℕ, _+_, _*_, _-_, _≤_}
 use native.Mathlib.Omega.{arith}
 use mathlib.Core.Path.{_≡_}
@@ -17,33 +17,6 @@ Inv-loop b at r₀ i₀ r i = (i ≤ mostDepth) × ((length r ≡ mostDepth) × 
 
 abbrev μ-loop : tie.MeasureT-loop
 μ-loop b at r₀ i₀ r i = mostDepth - i
-
-loop-holds : tie.Need-loop-holds Inv-loop μ-loop
-loop-holds c = (search needs, (search needs, none _))
-
-cast-word : tie.Need-cast-word Inv-loop μ-loop
-cast-word c = search needs
-
-mul-word : tie.Need-mul-word Inv-loop μ-loop
-mul-word c = search needs
-
-add-word : tie.Need-add-word Inv-loop μ-loop
-add-word c = search needs
-
-word-requires : tie.Need-word-requires Inv-loop μ-loop
-word-requires c κs = search needs
-
-mul-r : tie.Need-mul-r Inv-loop μ-loop
-mul-r c = search needs
-
-array-write-r : tie.Need-array-write-r Inv-loop μ-loop
-array-write-r c = search needs
-
-add-i : tie.Need-add-i Inv-loop μ-loop
-add-i c = search needs
-
-loop-less : tie.Need-loop-less Inv-loop μ-loop
-loop-less c = search needs
 
 loop-again : tie.Need-loop-again Inv-loop μ-loop
 loop-again c =
@@ -64,14 +37,14 @@ stack-in-spec =
     (tie.spec
     Inv-loop
     μ-loop
-    loop-holds
-    cast-word
-    mul-word
-    add-word
-    word-requires
-    mul-r
-    array-write-r
-    add-i
-    loop-less
+    (λ c. (search needs, (search needs, none _)))
+    (λ c. search needs)
+    (λ c. search needs)
+    (λ c. search needs)
+    (λ c κs. search needs)
+    (λ c. search needs)
+    (λ c. search needs)
+    (λ c. search needs)
+    (λ c. search needs)
     loop-again
     returns)

@@ -1,4 +1,4 @@
--- `reading::variables_in` meets its contract: a table filled from the front. Assumes nothing.
+-- `reading::variables_in` meets its contract: a table filled from the front.
 use Prim.Native.Nat.{ℕ, _+_, _*_, _-_, _≤_}
 use native.Mathlib.Omega.{arith}
 use mathlib.Core.Path.{_≡_}
@@ -20,33 +20,6 @@ Inv-loop b at r₀ k₀ r k = (k ≤ cells) × ((length r ≡ cells) × (take k 
 abbrev μ-loop : tie.MeasureT-loop
 μ-loop b at r₀ k₀ r k = cells - k
 
-loop-holds : tie.Need-loop-holds Inv-loop μ-loop
-loop-holds c = (search needs, (search needs, none _))
-
-cast-signed : tie.Need-cast-signed Inv-loop μ-loop
-cast-signed c = search needs
-
-mul-signed : tie.Need-mul-signed Inv-loop μ-loop
-mul-signed c = search needs
-
-add-signed : tie.Need-add-signed Inv-loop μ-loop
-add-signed c = search needs
-
-signed-requires : tie.Need-signed-requires Inv-loop μ-loop
-signed-requires c κs = search needs
-
-mul-r : tie.Need-mul-r Inv-loop μ-loop
-mul-r c = search needs
-
-array-set-from-r : tie.Need-array-set-from-r Inv-loop μ-loop
-array-set-from-r c = search needs
-
-add-k : tie.Need-add-k Inv-loop μ-loop
-add-k c = search needs
-
-loop-less : tie.Need-loop-less Inv-loop μ-loop
-loop-less c = search needs
-
 loop-again : tie.Need-loop-again Inv-loop μ-loop
 loop-again c =
     let l = c .before .before .loop in
@@ -66,14 +39,14 @@ variables-in-spec =
     (tie.spec
     Inv-loop
     μ-loop
-    loop-holds
-    cast-signed
-    mul-signed
-    add-signed
-    signed-requires
-    mul-r
-    array-set-from-r
-    add-k
-    loop-less
+    (λ c. (search needs, (search needs, none _)))
+    (λ c. search needs)
+    (λ c. search needs)
+    (λ c. search needs)
+    (λ c κs. search needs)
+    (λ c. search needs)
+    (λ c. search needs)
+    (λ c. search needs)
+    (λ c. search needs)
     loop-again
     returns)

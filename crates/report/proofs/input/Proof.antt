@@ -1,4 +1,4 @@
--- `report::input` meets its contract: the array is made of zeros. Assumes nothing.
+-- `report::input` meets its contract: the array is made of zeros.
 use mathlib.Core.Path.{refl}
 use Rattle.report.specs.Input.{zeros}
 use Rattle.report.proofs.input.Statement.{statement}

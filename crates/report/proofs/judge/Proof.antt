@@ -1,22 +1,9 @@
 -- `report::judge` meets its contract: it gives the loader's verdict, with marks of the length that 13 asks for, and the line of that verdict.
--- Assumes nothing.
 use mathlib.Core.Path.{sym, ap, _∙_}
 use Rattle.walk.specs.Verdict.{verdictOf}
 use borrow.Author.Needs.{needs}
 use Rattle.report.proofs.judge.Statement.{statement}
 use Rattle.report.proofs.judge.Tie as tie
-
-marks-requires : tie.Need-marks-requires
-marks-requires c κs = search needs
-
-slice-aggregate-judge : tie.Need-slice-aggregate-judge
-slice-aggregate-judge c = search needs
-
-judge-requires : tie.Need-judge-requires
-judge-requires c κs = search needs
-
-write-line-requires : tie.Need-write-line-requires
-write-line-requires c κs = search needs
 
 returns : tie.Need-returns
 returns c =
@@ -26,4 +13,9 @@ returns c =
 pub judge-spec : {M : Type 1} → statement M
 judge-spec =
     tie.close
-    (tie.spec marks-requires slice-aggregate-judge judge-requires write-line-requires returns)
+    (tie.spec
+    (λ c κs. search needs)
+    (λ c. search needs)
+    (λ c κs. search needs)
+    (λ c κs. search needs)
+    returns)

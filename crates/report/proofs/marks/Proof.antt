@@ -1,4 +1,4 @@
--- `report::marks` meets its contract: the array is made of zeros. Assumes nothing.
+-- `report::marks` meets its contract: the array is made of zeros.
 use mathlib.Core.Path.{refl}
 use Rattle.report.specs.Input.{zeros}
 use Rattle.report.proofs.marks.Statement.{statement}

@@ -1,4 +1,4 @@
--- `find` meets its contract: each arm of the match is the row of its code, and a code of no arm is in no row. Assumes nothing.
+-- `find` meets its contract: each arm of the match is the row of its code, and a code of no arm is in no row.
 use Prim.Native.Nat.{ℕ}
 use mathlib.Core.Path.{_≡_, sym, ap, _∙_}
 use Rattle.rows.specs.Rows.{rows, rowIn, rowOf}

@@ -1,4 +1,4 @@
--- `run::bias_run` meets its contract: the load decides, and where it answers 0 the run is one that the theorem speaks of. Assumes nothing.
+-- `run::bias_run` meets its contract: the load decides, and where it answers 0 the run is one that the theorem speaks of.
 use borrow.Author.Needs.{needs}
 use denote.Ref.{now}
 use lib.ListN.{length}
@@ -11,15 +11,6 @@ use Rattle.run.proofs.Laws.{refused, accepted, theorem}
 use Rattle.run.proofs.bias_run.Statement.{statement}
 use Rattle.run.proofs.bias_run.Tie as tie
 
-bias-load-requires : tie.Need-bias-load-requires
-bias-load-requires c κs = search needs
-
-same-length : tie.Need-same-length
-same-length c = search needs
-
-same-length-2 : tie.Need-same-length-2
-same-length-2 c = search needs
-
 returns : tie.Need-returns
 returns c =
     let a = c .before .before .before .before .before .before .before .before .before .before .before .before .before .args in
@@ -31,15 +22,6 @@ returns c =
         (l .1 .1, theorem (now (a .image)) n (now (a .state)) (now (a .steps)) _ (l .0) (λ k. c .before .before .before .before .before .before .before .before .before .before .before .before .shared-slice-known .given k .fits)),
       ),
     )
-
-run-steps-requires : tie.Need-run-steps-requires
-run-steps-requires c κs = search needs
-
-same-length-3 : tie.Need-same-length-3
-same-length-3 c = search needs
-
-same-length-4 : tie.Need-same-length-4
-same-length-4 c = search needs
 
 returns-2 : tie.Need-returns-2
 returns-2 c =
@@ -59,11 +41,11 @@ pub bias-run-spec : {M : Type 1} → statement M
 bias-run-spec =
     tie.close
     (tie.spec
-    bias-load-requires
-    same-length
-    same-length-2
+    (λ c κs. search needs)
+    (λ c. search needs)
+    (λ c. search needs)
     returns
-    run-steps-requires
-    same-length-3
-    same-length-4
+    (λ c κs. search needs)
+    (λ c. search needs)
+    (λ c. search needs)
     returns-2)

@@ -1,5 +1,5 @@
 -- `run::run_steps` meets its contract: what is left of the steps, from the buffer as it is, ends where all of them from the first buffer end. The measure is
--- how many steps there can still be. Assumes nothing.
+-- how many steps there can still be.
 use borrow.Author.Needs.{needs}
 use borrow.Author.Tests.{not-true}
 use denote.Ref.{now}
@@ -20,16 +20,6 @@ Inv-loop image steps state₀ at₀ left₀ state at left =
 abbrev μ-loop : tie.MeasureT-loop
 μ-loop image steps state₀ at₀ left₀ state at left = left
 
-loop-holds : tie.Need-loop-holds Inv-loop μ-loop
-unfolding stepsOf
-loop-holds c = (search needs, refl, refl)
-
-whole-at-requires : tie.Need-whole-at-requires Inv-loop μ-loop
-whole-at-requires c κs = search needs
-
-same-length : tie.Need-same-length Inv-loop μ-loop
-same-length c = search needs
-
 returns : tie.Need-returns Inv-loop μ-loop
 returns c =
     let l = c .before .before .before .loop in
@@ -49,12 +39,6 @@ add-next-2 c = let whole = stands (now (c .before .before .before .before .befor
 step-at-requires : tie.Need-step-at-requires Inv-loop μ-loop
 step-at-requires c κs = stands (now (c .before .before .before .before .before .before .before .before .before .args .steps)) (c .before .before .before .before .before .loop .at) _ (c .before .before .before .whole-at .ensures) (c .before .before .if1 .left)
 
-sub-left : tie.Need-sub-left Inv-loop μ-loop
-sub-left c = search needs
-
-loop-less : tie.Need-loop-less Inv-loop μ-loop
-loop-less c = search needs
-
 loop-again : tie.Need-loop-again Inv-loop μ-loop
 loop-again c =
     let l = c .before .before .before .before .before .before .before .before .loop in
@@ -64,9 +48,6 @@ loop-again c =
     let stepped = c .before .before .step-at .ensures in
     (omega arith, search needs, (λ ι. bufferAfter (now (a .image)) (stepped ι) (stepsFrom (now (a .steps)) (next ι) (l .left - 1))) ∙ one-more (now (a .image)) (l .state) (now (a .steps)) (l .at) (l .left) (omega arith) whole ∙ l .inv .2)
 
-same-length-2 : tie.Need-same-length-2 Inv-loop μ-loop
-same-length-2 c = search needs
-
 returns-2 : tie.Need-returns-2 Inv-loop μ-loop
 returns-2 c =
     let l = c .before .loop in
@@ -74,21 +55,22 @@ returns-2 c =
     sym (none-left (now (a .image)) (l .state) (now (a .steps)) (l .at) (l .left) (omega arith)) ∙ l .inv .2
 
 pub run-steps-spec : {M : Type 1} → statement M
+unfolding stepsOf
 run-steps-spec =
     tie.close
     (tie.spec
     Inv-loop
     μ-loop
-    loop-holds
-    whole-at-requires
-    same-length
+    (λ c. (search needs, refl, refl))
+    (λ c κs. search needs)
+    (λ c. search needs)
     returns
     add-next
     length-at-requires
     add-next-2
     step-at-requires
-    sub-left
-    loop-less
+    (λ c. search needs)
+    (λ c. search needs)
     loop-again
-    same-length-2
+    (λ c. search needs)
     returns-2)

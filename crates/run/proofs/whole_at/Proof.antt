@@ -1,4 +1,4 @@
--- `run::whole_at` meets its contract: the head fits, and then the levels behind it. Assumes nothing.
+-- `run::whole_at` meets its contract: the head fits, and then the levels behind it.
 use borrow.Author.Needs.{needs}
 use borrow.Author.Tests.{lt-leb}
 use denote.Ref.{now}
@@ -12,16 +12,10 @@ use Rattle.run.proofs.Laws.{fits-is}
 use Rattle.run.proofs.whole_at.Statement.{statement}
 use Rattle.run.proofs.whole_at.Tie as tie
 
-sub-left : tie.Need-sub-left
-sub-left c = search needs
-
 returns : tie.Need-returns
 returns c =
     let a = c .before .before .args in
     sym (lt-leb (nextAt (now (a .steps)) (a .at)) (length (now (a .steps))) (omega arith))
-
-length-at-requires : tie.Need-length-at-requires
-length-at-requires c κs = search needs
 
 returns-2 : tie.Need-returns-2
 returns-2 c =
@@ -30,4 +24,10 @@ returns-2 c =
     ap (λ (l : ℕ). leb l (n - a .at - headLength)) (c .length-at .ensures) ∙ fits-is (a .at) (lengthAt (now (a .steps)) (a .at)) n (omega arith)
 
 pub whole-at-spec : {M : Type 1} → statement M
-whole-at-spec = tie.close (tie.spec sub-left returns length-at-requires returns-2)
+whole-at-spec =
+    tie.close
+    (tie.spec
+    (λ c. search needs)
+    returns
+    (λ c κs. search needs)
+    returns-2)

@@ -1,4 +1,4 @@
--- `after` meets its contract, outcome by outcome. Assumes nothing.
+-- `after` meets its contract, outcome by outcome.
 use mathlib.Core.Path.{sym, ap, ap₂, subst, _∙_}
 use mathlib.Core.List.{List}
 use native.Mathlib.Omega.{arith}

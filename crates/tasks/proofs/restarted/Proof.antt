@@ -1,4 +1,4 @@
--- `restarted` meets its contract: a task anew at its start. Assumes nothing.
+-- `restarted` meets its contract: a task anew at its start.
 use borrow.Author.Needs.{needs}
 use Rattle.tasks.proofs.restarted.Statement.{statement}
 use Rattle.tasks.proofs.restarted.Tie as tie

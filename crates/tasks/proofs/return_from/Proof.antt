@@ -1,4 +1,4 @@
--- `return_from` meets its contract: its stores are those of the definition, field by field. Assumes nothing.
+-- `return_from` meets its contract: its stores are those of the definition, field by field.
 use mathlib.Core.Path.{refl}
 use borrow.Author.Needs.{needs}
 use Rattle.tasks.proofs.return_from.Statement.{statement}

@@ -1,4 +1,4 @@
--- `start_anew` meets its contract, by whether the task is BIAS. Assumes nothing.
+-- `start_anew` meets its contract, by whether the task is BIAS.
 use mathlib.Core.Path.{refl}
 use borrow.Author.Tests.{eq-eqb, ne-eqb}
 use Rattle.tasks.proofs.start_anew.Statement.{statement}

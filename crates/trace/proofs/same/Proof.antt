@@ -1,4 +1,4 @@
--- `same` meets its contract: after k turns the first k bytes are compared. Assumes nothing.
+-- `same` meets its contract: after k turns the first k bytes are compared.
 use borrow.Author.Needs.{needs}
 use Rattle.places.proofs.Has.{one-byte}
 use Rattle.trace.specs.Changes.{same}
@@ -15,28 +15,6 @@ Inv-loop a b at width pass₀ k₀ pass k = (k ≤ width) × (pass ≡ same a b 
 
 abbrev μ-loop : tie.MeasureT-loop
 μ-loop a b at width pass₀ k₀ pass k = width - k
-
-loop-holds : tie.Need-loop-holds Inv-loop μ-loop
-unfolding same
-loop-holds c = (search needs, refl)
-
-add-byte : tie.Need-add-byte Inv-loop μ-loop
-add-byte c = search needs
-
-byte-requires : tie.Need-byte-requires Inv-loop μ-loop
-byte-requires c κs = search needs
-
-add-byte-2 : tie.Need-add-byte-2 Inv-loop μ-loop
-add-byte-2 c = search needs
-
-byte-requires-2 : tie.Need-byte-requires-2 Inv-loop μ-loop
-byte-requires-2 c κs = search needs
-
-add-k : tie.Need-add-k Inv-loop μ-loop
-add-k c = search needs
-
-loop-less : tie.Need-loop-less Inv-loop μ-loop
-loop-less c = search needs
 
 loop-again : tie.Need-loop-again Inv-loop μ-loop
 unfolding same
@@ -55,17 +33,18 @@ returns c =
     l .inv .1 ∙ ap (same (a .a .now) (a .b .now) (a .at)) e
 
 pub same-spec : {M : Type 1} → statement M
+unfolding same
 same-spec =
     tie.close
     (tie.spec
     Inv-loop
     μ-loop
-    loop-holds
-    add-byte
-    byte-requires
-    add-byte-2
-    byte-requires-2
-    add-k
-    loop-less
+    (λ c. (search needs, refl))
+    (λ c. search needs)
+    (λ c κs. search needs)
+    (λ c. search needs)
+    (λ c κs. search needs)
+    (λ c. search needs)
+    (λ c. search needs)
     loop-again
     returns)

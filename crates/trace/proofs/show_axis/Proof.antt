@@ -1,4 +1,4 @@
--- `show_axis` meets its contract: six parts, one behind the other. Assumes nothing.
+-- `show_axis` meets its contract: six parts, one behind the other.
 use borrow.Author.Needs.{needs}
 use Rattle.layout.specs.Layout.{motionAt, notesAt}
 use denote.Ref.{now}
@@ -8,54 +8,6 @@ use Rattle.trace.proofs.Shown.{then}
 use Rattle.trace.specs.Changes.{same, sameAxis}
 use Rattle.trace.proofs.show_axis.Statement.{statement}
 use Rattle.trace.proofs.show_axis.Tie as tie
-
-slice-aggregate-show-part : tie.Need-slice-aggregate-show-part
-slice-aggregate-show-part c = search needs
-
-show-part-requires : tie.Need-show-part-requires
-show-part-requires c κs = search needs
-
-add-show-part : tie.Need-add-show-part
-add-show-part c = search needs
-
-slice-aggregate-show-part-2 : tie.Need-slice-aggregate-show-part-2
-slice-aggregate-show-part-2 c = search needs
-
-show-part-requires-2 : tie.Need-show-part-requires-2
-show-part-requires-2 c κs = search needs
-
-add-show-part-2 : tie.Need-add-show-part-2
-add-show-part-2 c = search needs
-
-slice-aggregate-show-part-3 : tie.Need-slice-aggregate-show-part-3
-slice-aggregate-show-part-3 c = search needs
-
-show-part-requires-3 : tie.Need-show-part-requires-3
-show-part-requires-3 c κs = search needs
-
-add-show-part-3 : tie.Need-add-show-part-3
-add-show-part-3 c = search needs
-
-slice-aggregate-show-part-4 : tie.Need-slice-aggregate-show-part-4
-slice-aggregate-show-part-4 c = search needs
-
-show-part-requires-4 : tie.Need-show-part-requires-4
-show-part-requires-4 c κs = search needs
-
-add-show-part-4 : tie.Need-add-show-part-4
-add-show-part-4 c = search needs
-
-slice-aggregate-show-part-5 : tie.Need-slice-aggregate-show-part-5
-slice-aggregate-show-part-5 c = search needs
-
-show-part-requires-5 : tie.Need-show-part-requires-5
-show-part-requires-5 c κs = search needs
-
-slice-aggregate-show-part-6 : tie.Need-slice-aggregate-show-part-6
-slice-aggregate-show-part-6 c = search needs
-
-show-part-requires-6 : tie.Need-show-part-requires-6
-show-part-requires-6 c κs = search needs
 
 returns : tie.Need-returns
 unfolding sameAxis
@@ -72,20 +24,20 @@ pub show-axis-spec : {M : Type 1} → statement M
 show-axis-spec =
     tie.close
     (tie.spec
-    slice-aggregate-show-part
-    show-part-requires
-    add-show-part
-    slice-aggregate-show-part-2
-    show-part-requires-2
-    add-show-part-2
-    slice-aggregate-show-part-3
-    show-part-requires-3
-    add-show-part-3
-    slice-aggregate-show-part-4
-    show-part-requires-4
-    add-show-part-4
-    slice-aggregate-show-part-5
-    show-part-requires-5
-    slice-aggregate-show-part-6
-    show-part-requires-6
+    (λ c. search needs)
+    (λ c κs. search needs)
+    (λ c. search needs)
+    (λ c. search needs)
+    (λ c κs. search needs)
+    (λ c. search needs)
+    (λ c. search needs)
+    (λ c κs. search needs)
+    (λ c. search needs)
+    (λ c. search needs)
+    (λ c κs. search needs)
+    (λ c. search needs)
+    (λ c. search needs)
+    (λ c κs. search needs)
+    (λ c. search needs)
+    (λ c κs. search needs)
     returns)

@@ -1,4 +1,4 @@
--- `show_cells` meets its contract: after k turns the first k cells are compared. Assumes nothing.
+-- `show_cells` meets its contract: after k turns the first k cells are compared.
 use borrow.Author.Needs.{needs}
 use Rattle.limits.specs.Limits.{cells}
 use Rattle.trace.proofs.Shown.{is-same, then, within}
@@ -17,13 +17,6 @@ Inv-loop a b at width text nothing left₀ k₀ left k = (k ≤ cells) × (left 
 abbrev μ-loop : tie.MeasureT-loop
 μ-loop a b at width text nothing left₀ k₀ left k = cells - k
 
-loop-holds : tie.Need-loop-holds Inv-loop μ-loop
-unfolding sameCells
-loop-holds c = (search needs, is-same _ true refl)
-
-cast-loop : tie.Need-cast-loop Inv-loop μ-loop
-cast-loop c = search needs
-
 mul-show-cell : tie.Need-mul-show-cell Inv-loop μ-loop
 mul-show-cell c = let w = within (c .before .before .before .args .width) (c .before .loop .k) cells (let h : c .before .loop .k < cells = omega arith in h) in record { fits = omega arith }
 
@@ -32,12 +25,6 @@ add-show-cell c = let w = within (c .before .before .before .args .width) (c .be
 
 show-cell-requires : tie.Need-show-cell-requires Inv-loop μ-loop
 show-cell-requires c κs = let w = within (c .before .before .before .args .width) (c .before .loop .k) cells (let h : c .before .loop .k < cells = omega arith in h) in omega arith
-
-add-k : tie.Need-add-k Inv-loop μ-loop
-add-k c = search needs
-
-loop-less : tie.Need-loop-less Inv-loop μ-loop
-loop-less c = search needs
 
 loop-again : tie.Need-loop-again Inv-loop μ-loop
 unfolding sameCells
@@ -54,17 +41,18 @@ returns c =
     l .inv .1 ∙ ap (λ (k : ℕ). a .nothing && sameCells (a .a .now) (a .b .now) (a .at) (a .width) k) e
 
 pub show-cells-spec : {M : Type 1} → statement M
+unfolding sameCells
 show-cells-spec =
     tie.close
     (tie.spec
     Inv-loop
     μ-loop
-    loop-holds
-    cast-loop
+    (λ c. (search needs, is-same _ true refl))
+    (λ c. search needs)
     mul-show-cell
     add-show-cell
     show-cell-requires
-    add-k
-    loop-less
+    (λ c. search needs)
+    (λ c. search needs)
     loop-again
     returns)

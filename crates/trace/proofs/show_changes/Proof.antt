@@ -1,4 +1,4 @@
--- `show_changes` meets its contract: eight groups, one behind the other. Assumes nothing.
+-- `show_changes` meets its contract: eight groups, one behind the other.
 use borrow.Author.Needs.{needs}
 use Rattle.limits.specs.Limits.{bias, plc, mathematics, cells}
 use Rattle.trace.proofs.Shown.{then}
@@ -10,42 +10,6 @@ use mathlib.Core.Bool.{true}
 use mathlib.Core.Path.{_∙_}
 use Rattle.trace.proofs.show_changes.Statement.{statement}
 use Rattle.trace.proofs.show_changes.Tie as tie
-
-slice-aggregate-show-cells : tie.Need-slice-aggregate-show-cells
-slice-aggregate-show-cells c = search needs
-
-show-cells-requires : tie.Need-show-cells-requires
-show-cells-requires c κs = search needs
-
-slice-aggregate-show-cells-2 : tie.Need-slice-aggregate-show-cells-2
-slice-aggregate-show-cells-2 c = search needs
-
-show-cells-requires-2 : tie.Need-show-cells-requires-2
-show-cells-requires-2 c κs = search needs
-
-slice-aggregate-show-cells-3 : tie.Need-slice-aggregate-show-cells-3
-slice-aggregate-show-cells-3 c = search needs
-
-show-cells-requires-3 : tie.Need-show-cells-requires-3
-show-cells-requires-3 c κs = search needs
-
-show-axis-requires : tie.Need-show-axis-requires
-show-axis-requires c κs = search needs
-
-show-starts-requires : tie.Need-show-starts-requires
-show-starts-requires c κs = search needs
-
-show-task-requires : tie.Need-show-task-requires
-show-task-requires c κs = search needs
-
-show-task-requires-2 : tie.Need-show-task-requires-2
-show-task-requires-2 c κs = search needs
-
-show-task-requires-3 : tie.Need-show-task-requires-3
-show-task-requires-3 c κs = search needs
-
-show-nothing-requires : tie.Need-show-nothing-requires
-show-nothing-requires c κs = search needs
 
 returns : tie.Need-returns
 unfolding unchanged
@@ -65,16 +29,16 @@ pub show-changes-spec : {M : Type 1} → statement M
 show-changes-spec =
     tie.close
     (tie.spec
-    slice-aggregate-show-cells
-    show-cells-requires
-    slice-aggregate-show-cells-2
-    show-cells-requires-2
-    slice-aggregate-show-cells-3
-    show-cells-requires-3
-    show-axis-requires
-    show-starts-requires
-    show-task-requires
-    show-task-requires-2
-    show-task-requires-3
-    show-nothing-requires
+    (λ c. search needs)
+    (λ c κs. search needs)
+    (λ c. search needs)
+    (λ c κs. search needs)
+    (λ c. search needs)
+    (λ c κs. search needs)
+    (λ c κs. search needs)
+    (λ c κs. search needs)
+    (λ c κs. search needs)
+    (λ c κs. search needs)
+    (λ c κs. search needs)
+    (λ c κs. search needs)
     returns)

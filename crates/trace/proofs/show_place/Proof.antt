@@ -1,4 +1,4 @@
--- `show_place` meets its contract, test by test. Assumes nothing.
+-- `show_place` meets its contract, test by test.
 use borrow.Author.Needs.{needs}
 use Rattle.limits.specs.Limits.{taskCount}
 use Rattle.layout.specs.Layout.{taskPlace}
@@ -11,32 +11,11 @@ use mathlib.Core.Path.{sym, ap, _∙_}
 use Rattle.trace.proofs.show_place.Statement.{statement}
 use Rattle.trace.proofs.show_place.Tie as tie
 
-returns : tie.Need-returns
-returns c = rw (le-ltb (c .before .before .args .task) taskCount (c .if1 .taken))
-
-cast-task-at : tie.Need-cast-task-at
-cast-task-at c = search needs
-
-task-at-requires : tie.Need-task-at-requires
-task-at-requires c κs = search needs
-
-byte-requires : tie.Need-byte-requires
-byte-requires c κs = search needs
-
 returns-2 : tie.Need-returns-2
 returns-2 c =
     let a = c .before .before .before .before .before .args in
     let e = c .before .byte .ensures ∙ ap (λ (p : ℕ). numberAt 1 (now (a .a)) p) (c .before .before .task-at .ensures) in
     rw (lt-ltb (a .task) taskCount (c .before .before .before .if1 .left), ne-eqb (numberAt 1 (now (a .a)) (taskPlace (a .task))) runs (λ i. c .if2 .taken (e ∙ i)))
-
-add-word : tie.Need-add-word
-add-word c = search needs
-
-word-requires : tie.Need-word-requires
-word-requires c κs = search needs
-
-show-block-requires : tie.Need-show-block-requires
-show-block-requires c κs = search needs
 
 returns-3 : tie.Need-returns-3
 returns-3 c =
@@ -48,12 +27,12 @@ pub show-place-spec : {M : Type 1} → statement M
 show-place-spec =
     tie.close
     (tie.spec
-    returns
-    cast-task-at
-    task-at-requires
-    byte-requires
+    (λ c. rw (le-ltb (c .before .before .args .task) taskCount (c .if1 .taken)))
+    (λ c. search needs)
+    (λ c κs. search needs)
+    (λ c κs. search needs)
     returns-2
-    add-word
-    word-requires
-    show-block-requires
+    (λ c. search needs)
+    (λ c κs. search needs)
+    (λ c κs. search needs)
     returns-3)

@@ -1,4 +1,4 @@
--- `add_value` meets its contract. Assumes nothing.
+-- `add_value` meets its contract.
 use mathlib.Core.Path.{refl, ap, ap₂, _∙_}
 use lib.IntN.{ℤ, _+ℤ_}
 use mir.Syntax.{w32}

@@ -1,4 +1,4 @@
--- `add_variable` meets its contract. Assumes nothing.
+-- `add_variable` meets its contract.
 use mathlib.Core.Path.{ap, ap₂, _∙_}
 use lib.IntN.{ℤ, _+ℤ_}
 use mir.Syntax.{w32}

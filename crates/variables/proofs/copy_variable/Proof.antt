@@ -1,4 +1,4 @@
--- `copy_variable` meets its contract: what is stored is variable y of the state that it was given. Assumes nothing.
+-- `copy_variable` meets its contract: what is stored is variable y of the state that it was given.
 use mir.Syntax.{w32}
 use Rattle.arith.proofs.Range.{got}
 use Rattle.variables.proofs.copy_variable.Statement.{statement}

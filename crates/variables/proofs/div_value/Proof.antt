@@ -1,4 +1,4 @@
--- `div_value` meets its contract. Assumes nothing.
+-- `div_value` meets its contract.
 use mathlib.Core.Path.{refl, ap, ap₂, _∙_}
 use mir.Syntax.{w32}
 use Rattle.arith.proofs.Range.{got}

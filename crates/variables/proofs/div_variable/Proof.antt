@@ -1,4 +1,4 @@
--- `div_variable` meets its contract. Assumes nothing.
+-- `div_variable` meets its contract.
 use mathlib.Core.Path.{ap, ap₂, _∙_}
 use mir.Syntax.{w32}
 use Rattle.arith.proofs.Range.{got}

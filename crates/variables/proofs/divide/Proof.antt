@@ -1,4 +1,4 @@
--- `divide` meets its contract, by what the quotient is. Assumes nothing.
+-- `divide` meets its contract, by what the quotient is.
 use mathlib.Core.Path.{refl, sym, ap, _∙_}
 use lib.IntN.{ℤ}
 use borrow.Author.Needs.{needs}

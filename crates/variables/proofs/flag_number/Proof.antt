@@ -1,4 +1,4 @@
--- `flag_number` meets its contract: the flags from the last one down. Assumes nothing.
+-- `flag_number` meets its contract: the flags from the last one down.
 use Prim.Native.Nat.{ℕ, _+_, _-_, _*_, _≤_}
 use mathlib.Core.Path.{_≡_, ap, _∙_}
 use native.Mathlib.Omega.{arith}
@@ -16,27 +16,6 @@ Inv-loop first count flags number₀ left₀ number left = (left ≤ count) × (
 
 abbrev μ-loop : tie.MeasureT-loop
 μ-loop first count flags number₀ left₀ number left = left
-
-loop-holds : tie.Need-loop-holds Inv-loop μ-loop
-loop-holds c = let a = c .before .args in (omega arith, none w32 (a .v .cells .flags) (a .first) (a .count))
-
-sub-left : tie.Need-sub-left Inv-loop μ-loop
-sub-left c = search needs
-
-slice-aggregate-level-at : tie.Need-slice-aggregate-level-at Inv-loop μ-loop
-slice-aggregate-level-at c = search needs
-
-add-level-at : tie.Need-add-level-at Inv-loop μ-loop
-add-level-at c = search needs
-
-level-at-requires : tie.Need-level-at-requires Inv-loop μ-loop
-level-at-requires c κs = tt
-
-with-flag-requires : tie.Need-with-flag-requires Inv-loop μ-loop
-with-flag-requires c κs = tt
-
-loop-less : tie.Need-loop-less Inv-loop μ-loop
-loop-less c = omega arith
 
 loop-again : tie.Need-loop-again Inv-loop μ-loop
 loop-again c =
@@ -59,12 +38,12 @@ flag-number-spec =
     (tie.spec
     Inv-loop
     μ-loop
-    loop-holds
-    sub-left
-    slice-aggregate-level-at
-    add-level-at
-    level-at-requires
-    with-flag-requires
-    loop-less
+    (λ c. let a = c .before .args in (omega arith, none w32 (a .v .cells .flags) (a .first) (a .count)))
+    (λ c. search needs)
+    (λ c. search needs)
+    (λ c. search needs)
+    (λ c κs. tt)
+    (λ c κs. tt)
+    (λ c. omega arith)
     loop-again
     returns)

@@ -1,4 +1,4 @@
--- `flags_as_number` meets its contract. Assumes nothing.
+-- `flags_as_number` meets its contract.
 use mathlib.Core.Path.{ap, _∙_}
 use lib.IntN.{ℤ}
 use mir.Val.{toZ}

@@ -1,4 +1,4 @@
--- `set_variable` meets its contract. Assumes nothing.
+-- `set_variable` meets its contract.
 use mathlib.Core.Path.{refl, ap, _∙_}
 use lib.IntN.{ℤ}
 use mir.Syntax.{w32}

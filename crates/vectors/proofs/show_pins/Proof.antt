@@ -1,4 +1,4 @@
--- `vectors::show_pins` meets its contract. The loop's invariant: n counts the pins passed. Assumes nothing.
+-- `vectors::show_pins` meets its contract. The loop's invariant: n counts the pins passed.
 use borrow.Author.Needs.{needs}
 use mathlib.Core.Path.{_≡_, refl, ap₂}
 use Prim.Native.Nat.{_≤_, _+_, _-_}
@@ -15,27 +15,11 @@ Inv-loop d kind n₀ pin₀ n pin = (n ≡ presentPins d kind pin) × (pin ≤ 2
 abbrev μ-loop : tie.MeasureT-loop
 μ-loop d kind n₀ pin₀ n pin = 256 - pin
 
-loop-holds : tie.Need-loop-holds Inv-loop μ-loop
-unfolding presentPins
-loop-holds c = (refl, omega arith)
-
-cast-show-pin : tie.Need-cast-show-pin Inv-loop μ-loop
-cast-show-pin c = search needs
-
-show-pin-requires : tie.Need-show-pin-requires Inv-loop μ-loop
-show-pin-requires c κs = search needs
-
 add-n : tie.Need-add-n Inv-loop μ-loop
 add-n c =
     let l = c .before .before .loop in
     let st = c .before .before .before in
     omega (arith, l .inv .0, l .inv .1, c .show-pin .ensures, at-most (st .args .d) (st .args .kind) (l .pin), at-most-one (st .args .d) (st .args .kind) (l .pin))
-
-add-pin : tie.Need-add-pin Inv-loop μ-loop
-add-pin c = search needs
-
-loop-less : tie.Need-loop-less Inv-loop μ-loop
-loop-less c = search needs
 
 loop-again : tie.Need-loop-again Inv-loop μ-loop
 unfolding presentPins
@@ -48,16 +32,17 @@ returns c =
     rw h at (l .inv .0)
 
 pub show-pins-spec : {M : Type 1} → statement M
+unfolding presentPins
 show-pins-spec =
     tie.close
     (tie.spec
     Inv-loop
     μ-loop
-    loop-holds
-    cast-show-pin
-    show-pin-requires
+    (λ c. (refl, omega arith))
+    (λ c. search needs)
+    (λ c κs. search needs)
     add-n
-    add-pin
-    loop-less
+    (λ c. search needs)
+    (λ c. search needs)
     loop-again
     returns)

@@ -1,4 +1,4 @@
--- `vectors::write_rows` meets its contract: the writer's definition computes at each header and length. Assumes nothing.
+-- `vectors::write_rows` meets its contract: the writer's definition computes at each header and length.
 use borrow.Author.Needs.{needs}
 use mathlib.Core.Path.{refl}
 use Rattle.drive.specs.Types.{takes}
@@ -9,36 +9,6 @@ use Rattle.writer.specs.Writer.{written, fitted, writtenWith, roomOutcome}
 use Rattle.vectors.proofs.Rows.{_◂_}
 use Rattle.vectors.proofs.write_rows.Statement.{statement}
 use Rattle.vectors.proofs.write_rows.Tie as tie
-
-write-outcome-requires : tie.Need-write-outcome-requires
-write-outcome-requires c κs = search needs
-
-write-outcome-requires-2 : tie.Need-write-outcome-requires-2
-write-outcome-requires-2 c κs = search needs
-
-write-outcome-requires-3 : tie.Need-write-outcome-requires-3
-write-outcome-requires-3 c κs = search needs
-
-write-outcome-requires-4 : tie.Need-write-outcome-requires-4
-write-outcome-requires-4 c κs = search needs
-
-write-outcome-requires-5 : tie.Need-write-outcome-requires-5
-write-outcome-requires-5 c κs = search needs
-
-write-outcome-requires-6 : tie.Need-write-outcome-requires-6
-write-outcome-requires-6 c κs = search needs
-
-slice-aggregate-write-outcome : tie.Need-slice-aggregate-write-outcome
-slice-aggregate-write-outcome c = search needs
-
-write-outcome-requires-7 : tie.Need-write-outcome-requires-7
-write-outcome-requires-7 c κs = search needs
-
-slice-aggregate-write-outcome-2 : tie.Need-slice-aggregate-write-outcome-2
-slice-aggregate-write-outcome-2 c = search needs
-
-write-outcome-requires-8 : tie.Need-write-outcome-requires-8
-write-outcome-requires-8 c κs = search needs
 
 returns : tie.Need-returns
 unfolding written fitted writtenWith roomOutcome numberBytes scan more taken judged checked standsAt takes firstRefusal
@@ -56,14 +26,14 @@ pub write-rows-spec : {M : Type 1} → statement M
 write-rows-spec =
     tie.close
     (tie.spec
-    write-outcome-requires
-    write-outcome-requires-2
-    write-outcome-requires-3
-    write-outcome-requires-4
-    write-outcome-requires-5
-    write-outcome-requires-6
-    slice-aggregate-write-outcome
-    write-outcome-requires-7
-    slice-aggregate-write-outcome-2
-    write-outcome-requires-8
+    (λ c κs. search needs)
+    (λ c κs. search needs)
+    (λ c κs. search needs)
+    (λ c κs. search needs)
+    (λ c κs. search needs)
+    (λ c κs. search needs)
+    (λ c. search needs)
+    (λ c κs. search needs)
+    (λ c. search needs)
+    (λ c κs. search needs)
     returns)

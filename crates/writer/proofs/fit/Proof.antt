@@ -1,5 +1,4 @@
 -- `writer::fit` meets its contract: the refusal of the numbers comes first; blocks that fit the room are counted without overflow.
--- Assumes nothing.
 use borrow.Author.Needs.{needs}
 use mathlib.Core.Path.{sym, ap, _∙_}
 use native.Mathlib.Omega.{arith}
@@ -11,21 +10,6 @@ use Rattle.image.proofs.Read.{neither}
 use Rattle.writer.proofs.Judged.{room-right}
 use Rattle.writer.proofs.fit.Statement.{statement}
 use Rattle.writer.proofs.fit.Tie as tie
-
-array-read-judge-room : tie.Need-array-read-judge-room
-array-read-judge-room c = search needs
-
-judge-room-requires : tie.Need-judge-room-requires
-judge-room-requires c κs = let p = c .before .pre in (p .0, p .1 .count)
-
-first-refusal-requires : tie.Need-first-refusal-requires
-first-refusal-requires c κs = search needs
-
-is-done-requires : tie.Need-is-done-requires
-is-done-requires c κs = search needs
-
-not-written-requires : tie.Need-not-written-requires
-not-written-requires c κs = search needs
 
 returns : tie.Need-returns
 unfolding fitted writtenWith
@@ -62,11 +46,11 @@ pub fit-spec : {M : Type 1} → statement M
 fit-spec =
     tie.close
     (tie.spec
-    array-read-judge-room
-    judge-room-requires
-    first-refusal-requires
-    is-done-requires
-    not-written-requires
+    (λ c. search needs)
+    (λ c κs. let p = c .before .pre in (p .0, p .1 .count))
+    (λ c κs. search needs)
+    (λ c κs. search needs)
+    (λ c κs. search needs)
     returns
     add-t14
     returns-2)

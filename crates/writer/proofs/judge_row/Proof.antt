@@ -1,4 +1,4 @@
--- `writer::judge_row` meets its contract: a refusal stays, else the number is judged where it would stand. Assumes nothing.
+-- `writer::judge_row` meets its contract: a refusal stays, else the number is judged where it would stand.
 use borrow.Author.Needs.{needs}
 use mathlib.Core.Path.{refl, sym, ap, _∙_}
 use Prim.Native.Nat.{ℕ, _+_}
@@ -11,25 +11,16 @@ use Rattle.image.proofs.Scanning.{stays, takes}
 use Rattle.writer.proofs.judge_row.Statement.{statement}
 use Rattle.writer.proofs.judge_row.Tie as tie
 
-is-done-requires : tie.Need-is-done-requires
-is-done-requires c κs = search needs
-
 returns : tie.Need-returns
 returns c =
     let st = c .before .before in
     let d = c .before .is-done in
     sym (stays 0 (λ k. standing (st .args .v)) (st .args .row) (st .args .s) (sym (d .ensures) ∙ not-true (d .result) (c .if1 .taken)))
 
-size-requires : tie.Need-size-requires
-size-requires c κs = search needs
-
 add-next : tie.Need-add-next
 add-next c =
     let st = c .before .before .before .before in
     omega (arith, size-most (st .args .v), c .before .size .ensures, st .pre .0)
-
-judge-requires : tie.Need-judge-requires
-judge-requires c κs = search needs
 
 returns-2 : tie.Need-returns-2
 unfolding taken
@@ -42,4 +33,11 @@ returns-2 c =
 
 pub judge-row-spec : {M : Type 1} → statement M
 judge-row-spec =
-    tie.close (tie.spec is-done-requires returns size-requires add-next judge-requires returns-2)
+    tie.close
+    (tie.spec
+    (λ c κs. search needs)
+    returns
+    (λ c κs. search needs)
+    add-next
+    (λ c κs. search needs)
+    returns-2)

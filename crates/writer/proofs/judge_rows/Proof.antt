@@ -1,4 +1,4 @@
--- `writer::judge_rows` meets its contract. The loop's invariant: the scan is that of the numbers passed. Assumes nothing.
+-- `writer::judge_rows` meets its contract. The loop's invariant: the scan is that of the numbers passed.
 use borrow.Author.Needs.{needs}
 use mathlib.Core.Path.{_≡_, ap, _∙_}
 use Prim.Native.Nat.{_≤_, _-_}
@@ -18,19 +18,6 @@ Inv-loop numbers s₀ row₀ s row = (s ≡ scan 0 (given numbers) row) × (row 
 abbrev μ-loop : tie.MeasureT-loop
 μ-loop numbers s₀ row₀ s row = rowCount - row
 
-begin-requires : tie.Need-begin-requires Inv-loop μ-loop
-begin-requires c κs = search needs
-
-loop-holds : tie.Need-loop-holds Inv-loop μ-loop
-unfolding scan
-loop-holds c = (c .begin .ensures, omega arith)
-
-mul-judge-row : tie.Need-mul-judge-row Inv-loop μ-loop
-mul-judge-row c = omega arith
-
-array-read-judge-row : tie.Need-array-read-judge-row Inv-loop μ-loop
-array-read-judge-row c = search needs
-
 judge-row-requires : tie.Need-judge-row-requires Inv-loop μ-loop
 judge-row-requires c κs =
     let i = c .before .loop .inv in
@@ -39,12 +26,6 @@ judge-row-requires c κs =
     let e : c .before .loop .s .at ≡ scan 0 (given ns) (c .before .loop .row) .at = ap (λ (s : Scan). s .at) (i .0) in
     let l = c .loop-test .taken in
     omega arith
-
-add-row : tie.Need-add-row Inv-loop μ-loop
-add-row c = omega arith
-
-loop-less : tie.Need-loop-less Inv-loop μ-loop
-loop-less c = omega arith
 
 loop-again : tie.Need-loop-again Inv-loop μ-loop
 loop-again c =
@@ -59,17 +40,18 @@ returns c =
     rw h at (c .before .loop .inv .0)
 
 pub judge-rows-spec : {M : Type 1} → statement M
+unfolding scan
 judge-rows-spec =
     tie.close
     (tie.spec
     Inv-loop
     μ-loop
-    begin-requires
-    loop-holds
-    mul-judge-row
-    array-read-judge-row
+    (λ c κs. search needs)
+    (λ c. (c .begin .ensures, omega arith))
+    (λ c. omega arith)
+    (λ c. search needs)
     judge-row-requires
-    add-row
-    loop-less
+    (λ c. omega arith)
+    (λ c. omega arith)
     loop-again
     returns)

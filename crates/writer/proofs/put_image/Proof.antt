@@ -1,5 +1,4 @@
 -- `writer::put_image` meets its contract: the numbers, and the blocks right behind them, are one run of stores from the front.
--- Assumes nothing.
 use borrow.Author.Needs.{needs}
 use mathlib.Core.Path.{_≡_, ap, _∙_}
 use native.Mathlib.Omega.{arith}
@@ -39,9 +38,6 @@ part-copy-start c =
     let a = called .ensures .0 in
     omega arith
 
-part-copy-end : tie.Need-part-copy-end
-part-copy-end c = search needs
-
 copy-requires : tie.Need-copy-requires
 copy-requires c κs =
     let st = c .before .before .before .before .before .before .before in
@@ -51,9 +47,6 @@ copy-requires c κs =
     let e : length (called .last .1 .0) ≡ length (st .args .out .now) = ap length (called .ensures .1) ∙ length-sets (st .args .out .now) 0 (firstNumbers (st .args .numbers) rowCount) in
     let a = called .ensures .0 in
     simp (length-take, length-drop) (omega arith)
-
-same-length : tie.Need-same-length
-same-length c = search needs
 
 returns : tie.Need-returns
 returns c =
@@ -73,7 +66,7 @@ put-image-spec =
     put-numbers-requires
     sub-copy
     part-copy-start
-    part-copy-end
+    (λ c. search needs)
     copy-requires
-    same-length
+    (λ c. search needs)
     returns)

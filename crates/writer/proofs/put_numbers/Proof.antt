@@ -1,4 +1,4 @@
--- `writer::put_numbers` meets its contract. The loop's invariant: the numbers passed stand at the front. Assumes nothing.
+-- `writer::put_numbers` meets its contract. The loop's invariant: the numbers passed stand at the front.
 use mathlib.Core.Path.{_≡_, refl, ap, _∙_}
 use Prim.Native.Nat.{_≤_, _<_, _-_}
 use native.Mathlib.Omega.{arith}
@@ -17,16 +17,6 @@ Inv-loop out₀ numbers at₀ row₀ out at row = (at ≡ length (firstNumbers n
 abbrev μ-loop : tie.MeasureT-loop
 μ-loop out₀ numbers at₀ row₀ out at row = rowCount - row
 
-loop-holds : tie.Need-loop-holds Inv-loop μ-loop
-unfolding firstNumbers
-loop-holds c = (refl, refl, omega arith)
-
-mul-put : tie.Need-mul-put Inv-loop μ-loop
-mul-put c = omega arith
-
-array-read-put : tie.Need-array-read-put Inv-loop μ-loop
-array-read-put c = omega arith
-
 put-requires : tie.Need-put-requires Inv-loop μ-loop
 put-requires c κs =
     let at-loop = c .before .before in
@@ -39,12 +29,6 @@ put-requires c κs =
     let i = at-loop .loop .inv .0 in
     let h = st .pre .1 in
     (st .pre .0 row l, omega arith)
-
-add-row : tie.Need-add-row Inv-loop μ-loop
-add-row c = omega arith
-
-loop-less : tie.Need-loop-less Inv-loop μ-loop
-loop-less c = omega arith
 
 loop-again : tie.Need-loop-again Inv-loop μ-loop
 loop-again c =
@@ -71,17 +55,18 @@ returns c =
     (rw h at (c .before .loop .inv .0), rw h at (c .before .loop .inv .1))
 
 pub put-numbers-spec : {M : Type 1} → statement M
+unfolding firstNumbers
 put-numbers-spec =
     tie.close
     (tie.spec
     Inv-loop
     μ-loop
-    loop-holds
-    mul-put
-    array-read-put
+    (λ c. (refl, refl, omega arith))
+    (λ c. omega arith)
+    (λ c. omega arith)
     put-requires
-    add-row
-    loop-less
+    (λ c. omega arith)
+    (λ c. omega arith)
     loop-again
     same-length
     returns)

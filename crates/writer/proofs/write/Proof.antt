@@ -1,5 +1,4 @@
 -- `writer::write` meets its contract: a refusal comes before any store, and an image that is written has room.
--- Assumes nothing.
 use borrow.Author.Needs.{needs}
 use mathlib.Core.Path.{_≡_, ap, _∙_}
 use mathlib.Core.Bool.{true, false}
@@ -16,16 +15,10 @@ use Rattle.writer.proofs.Judged.{small-numbers, written-fine, has-room,
 use Rattle.writer.proofs.write.Statement.{statement}
 use Rattle.writer.proofs.write.Tie as tie
 
-judge-rows-requires : tie.Need-judge-rows-requires
-judge-rows-requires c κs = search needs
-
 fit-requires : tie.Need-fit-requires
 fit-requires c κs =
     let ns = c .before .before .before .args .numbers in
     rw (c .judge-rows .ensures) (at-most 0 (given ns) (given-near ns) rowCount, scan-narrow 0 (given ns))
-
-is-done-requires : tie.Need-is-done-requires
-is-done-requires c κs = search needs
 
 returns : tie.Need-returns
 unfolding written
@@ -50,9 +43,6 @@ put-image-requires c κs =
     let ok = answered ns l o (c .before .before .before .fit .result) t (d .result) true (d .ensures) (not-false (d .result) (c .before .if1 .left)) in
     (small-numbers ns (written-fine ns l (length o) ok .judged), has-room ns l (length o) ok)
 
-same-length : tie.Need-same-length
-same-length c = search needs
-
 returns-2 : tie.Need-returns-2
 unfolding written
 returns-2 c =
@@ -69,10 +59,10 @@ pub write-spec : {M : Type 1} → statement M
 write-spec =
     tie.close
     (tie.spec
-    judge-rows-requires
+    (λ c κs. search needs)
     fit-requires
-    is-done-requires
+    (λ c κs. search needs)
     returns
     put-image-requires
-    same-length
+    (λ c. search needs)
     returns-2)

@@ -1,4 +1,4 @@
--- `writing::put_layout` meets its contract: a record of one number. Assumes nothing.
+-- `writing::put_layout` meets its contract: a record of one number.
 use mathlib.Core.Path.{refl}
 use mathlib.Core.List.{[], _∷_}
 use Rattle.sections.proofs.Sections.{put, done}
@@ -9,11 +9,9 @@ use borrow.Author.Needs.{needs}
 use Rattle.writing.proofs.put_layout.Statement.{statement}
 use Rattle.writing.proofs.put_layout.Tie as tie
 
-put-byte-requires : tie.Need-put-byte-requires
-put-byte-requires c κs = search needs
-
-returns : tie.Need-returns
-returns c = record-put layoutWidths (layoutNumber ∷ []) layoutAt refl (put (c .put-byte .ensures) done)
-
 pub put-layout-spec : {M : Type 1} → statement M
-put-layout-spec = tie.close (tie.spec put-byte-requires returns)
+put-layout-spec =
+    tie.close
+    (tie.spec
+    (λ c κs. search needs)
+    (λ c. record-put layoutWidths (layoutNumber ∷ []) layoutAt refl (put (c .put-byte .ensures) done)))

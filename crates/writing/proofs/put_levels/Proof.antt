@@ -1,4 +1,4 @@
--- `writing::put_levels` meets its contract: after k turns the first k levels are put. Assumes nothing.
+-- `writing::put_levels` meets its contract: after k turns the first k levels are put.
 use Prim.Native.Nat.{_-_, _≤_}
 use native.Mathlib.Omega.{arith}
 use mathlib.Core.Path.{_≡_, refl}
@@ -14,24 +14,6 @@ Inv-loop b₀ at levels k₀ b k = (k ≤ length levels) × (b ≡ puts b₀ at 
 
 abbrev μ-loop : tie.MeasureT-loop
 μ-loop b₀ at levels k₀ b k = length levels - k
-
-loop-holds : tie.Need-loop-holds Inv-loop μ-loop
-loop-holds c = (search needs, puts-none _ _ (c .args .levels .now))
-
-shared-slice-read-b : tie.Need-shared-slice-read-b Inv-loop μ-loop
-shared-slice-read-b c = search needs
-
-add-b : tie.Need-add-b Inv-loop μ-loop
-add-b c = search needs
-
-element-write-b : tie.Need-element-write-b Inv-loop μ-loop
-element-write-b c = search needs
-
-add-k : tie.Need-add-k Inv-loop μ-loop
-add-k c = search needs
-
-loop-less : tie.Need-loop-less Inv-loop μ-loop
-loop-less c = search needs
 
 loop-again : tie.Need-loop-again Inv-loop μ-loop
 loop-again c =
@@ -51,11 +33,11 @@ put-levels-spec =
     (tie.spec
     Inv-loop
     μ-loop
-    loop-holds
-    shared-slice-read-b
-    add-b
-    element-write-b
-    add-k
-    loop-less
+    (λ c. (search needs, puts-none _ _ (c .args .levels .now)))
+    (λ c. search needs)
+    (λ c. search needs)
+    (λ c. search needs)
+    (λ c. search needs)
+    (λ c. search needs)
     loop-again
     returns)

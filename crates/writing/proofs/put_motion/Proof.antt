@@ -1,4 +1,4 @@
--- `writing::put_motion` meets its contract: one number put behind the other. Assumes nothing.
+-- `writing::put_motion` meets its contract: one number put behind the other.
 use Prim.Native.Nat.{_<_}
 use native.Mathlib.Omega.{arith}
 use mathlib.Core.Path.{refl, ap, _∙_}
@@ -15,33 +15,6 @@ use Rattle.layout.specs.Layout.{motionAt}
 use borrow.Author.Needs.{needs}
 use Rattle.writing.proofs.put_motion.Statement.{statement}
 use Rattle.writing.proofs.put_motion.Tie as tie
-
-put-signed-requires : tie.Need-put-signed-requires
-put-signed-requires c κs = search needs
-
-add-put-word : tie.Need-add-put-word
-add-put-word c = search needs
-
-put-word-requires : tie.Need-put-word-requires
-put-word-requires c κs = search needs
-
-add-put-word-2 : tie.Need-add-put-word-2
-add-put-word-2 c = search needs
-
-put-word-requires-2 : tie.Need-put-word-requires-2
-put-word-requires-2 c κs = search needs
-
-add-put-word-3 : tie.Need-add-put-word-3
-add-put-word-3 c = search needs
-
-put-word-requires-3 : tie.Need-put-word-requires-3
-put-word-requires-3 c κs = search needs
-
-add-put-byte : tie.Need-add-put-byte
-add-put-byte c = search needs
-
-put-byte-requires : tie.Need-put-byte-requires
-put-byte-requires c κs = search needs
 
 returns : tie.Need-returns
 returns c =
@@ -66,13 +39,13 @@ pub put-motion-spec : {M : Type 1} → statement M
 put-motion-spec =
     tie.close
     (tie.spec
-    put-signed-requires
-    add-put-word
-    put-word-requires
-    add-put-word-2
-    put-word-requires-2
-    add-put-word-3
-    put-word-requires-3
-    add-put-byte
-    put-byte-requires
+    (λ c κs. search needs)
+    (λ c. search needs)
+    (λ c κs. search needs)
+    (λ c. search needs)
+    (λ c κs. search needs)
+    (λ c. search needs)
+    (λ c κs. search needs)
+    (λ c. search needs)
+    (λ c κs. search needs)
     returns)

@@ -1,4 +1,4 @@
--- `writing::put_stack` meets its contract: after i turns the bytes of i blocks are put. Assumes nothing.
+-- `writing::put_stack` meets its contract: after i turns the bytes of i blocks are put.
 use Prim.Native.Nat.{ℕ, _-_, _≤_}
 use mathlib.Core.Path.{_≡_, refl, _∙_}
 use lib.ListN.{getD}
@@ -16,33 +16,6 @@ Inv-loop b₀ at stack i₀ b i = (i ≤ mostDepth) × (b ≡ puts b₀ at (runs
 
 abbrev μ-loop : tie.MeasureT-loop
 μ-loop b₀ at stack i₀ b i = mostDepth - i
-
-loop-holds : tie.Need-loop-holds Inv-loop μ-loop
-loop-holds c = (search needs, runs-none _ _ _)
-
-cast-put-word : tie.Need-cast-put-word Inv-loop μ-loop
-cast-put-word c = search needs
-
-mul-put-word : tie.Need-mul-put-word Inv-loop μ-loop
-mul-put-word c = search needs
-
-add-put-word : tie.Need-add-put-word Inv-loop μ-loop
-add-put-word c = search needs
-
-mul-put-word-2 : tie.Need-mul-put-word-2 Inv-loop μ-loop
-mul-put-word-2 c = search needs
-
-element-copy-out-put-word : tie.Need-element-copy-out-put-word Inv-loop μ-loop
-element-copy-out-put-word c = search needs
-
-put-word-requires : tie.Need-put-word-requires Inv-loop μ-loop
-put-word-requires c κs = search needs
-
-add-i : tie.Need-add-i Inv-loop μ-loop
-add-i c = search needs
-
-loop-less : tie.Need-loop-less Inv-loop μ-loop
-loop-less c = search needs
 
 loop-again : tie.Need-loop-again Inv-loop μ-loop
 loop-again c =
@@ -66,14 +39,14 @@ put-stack-spec =
     (tie.spec
     Inv-loop
     μ-loop
-    loop-holds
-    cast-put-word
-    mul-put-word
-    add-put-word
-    mul-put-word-2
-    element-copy-out-put-word
-    put-word-requires
-    add-i
-    loop-less
+    (λ c. (search needs, runs-none _ _ _))
+    (λ c. search needs)
+    (λ c. search needs)
+    (λ c. search needs)
+    (λ c. search needs)
+    (λ c. search needs)
+    (λ c κs. search needs)
+    (λ c. search needs)
+    (λ c. search needs)
     loop-again
     returns)

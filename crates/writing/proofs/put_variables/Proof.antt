@@ -1,4 +1,4 @@
--- `writing::put_variables` meets its contract: after k turns the bytes of k variables are put. Assumes nothing.
+-- `writing::put_variables` meets its contract: after k turns the bytes of k variables are put.
 use Prim.Native.Nat.{ℕ, _+_, _*_, _-_, _≤_}
 use mathlib.Core.Path.{_≡_, refl, ap, _∙_}
 use lib.ListN.{getD}
@@ -18,33 +18,6 @@ Inv-loop b₀ at variables k₀ b k = (k ≤ cells) × (b ≡ puts b₀ at (runs
 
 abbrev μ-loop : tie.MeasureT-loop
 μ-loop b₀ at variables k₀ b k = cells - k
-
-loop-holds : tie.Need-loop-holds Inv-loop μ-loop
-loop-holds c = (search needs, runs-none _ _ _)
-
-cast-put-signed : tie.Need-cast-put-signed Inv-loop μ-loop
-cast-put-signed c = search needs
-
-mul-put-signed : tie.Need-mul-put-signed Inv-loop μ-loop
-mul-put-signed c = search needs
-
-add-put-signed : tie.Need-add-put-signed Inv-loop μ-loop
-add-put-signed c = search needs
-
-mul-put-signed-2 : tie.Need-mul-put-signed-2 Inv-loop μ-loop
-mul-put-signed-2 c = search needs
-
-element-copy-out-put-signed : tie.Need-element-copy-out-put-signed Inv-loop μ-loop
-element-copy-out-put-signed c = search needs
-
-put-signed-requires : tie.Need-put-signed-requires Inv-loop μ-loop
-put-signed-requires c κs = search needs
-
-add-k : tie.Need-add-k Inv-loop μ-loop
-add-k c = search needs
-
-loop-less : tie.Need-loop-less Inv-loop μ-loop
-loop-less c = search needs
 
 loop-again : tie.Need-loop-again Inv-loop μ-loop
 loop-again c =
@@ -70,14 +43,14 @@ put-variables-spec =
     (tie.spec
     Inv-loop
     μ-loop
-    loop-holds
-    cast-put-signed
-    mul-put-signed
-    add-put-signed
-    mul-put-signed-2
-    element-copy-out-put-signed
-    put-signed-requires
-    add-k
-    loop-less
+    (λ c. (search needs, runs-none _ _ _))
+    (λ c. search needs)
+    (λ c. search needs)
+    (λ c. search needs)
+    (λ c. search needs)
+    (λ c. search needs)
+    (λ c κs. search needs)
+    (λ c. search needs)
+    (λ c. search needs)
     loop-again
     returns)

@@ -1,4 +1,4 @@
--- `presence` meets its contract, device by device. Assumes nothing.
+-- `presence` meets its contract, device by device.
 use borrow.Author.Needs.{needs}
 use mathlib.Core.Path.{refl}
 use Rattle.number.proofs.Choice.{arm}

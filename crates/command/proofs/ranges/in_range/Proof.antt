@@ -1,4 +1,4 @@
--- `in_range` meets its contract, test by test. Assumes nothing.
+-- `in_range` meets its contract, test by test.
 use borrow.Author.Needs.{needs}
 use mathlib.Core.Bool.{not}
 use mathlib.Core.Path.{_≡_, refl, ap}

@@ -1,4 +1,4 @@
--- `image::reader::accepts` meets its contract: after k turns the first k rows let the header pass. Assumes nothing.
+-- `image::reader::accepts` meets its contract: after k turns the first k rows let the header pass.
 use borrow.Author.Needs.{needs}
 use mathlib.Core.Path.{_≡_, refl, ap, _∙_}
 use Prim.Native.Nat.{ℕ, _-_, _≤_}
@@ -16,25 +16,6 @@ Inv-loop numbers pass₀ row₀ pass row = (row ≤ rowCount) × (pass ≡ first
 abbrev μ-loop : tie.MeasureT-loop
 μ-loop numbers pass₀ row₀ pass row = rowCount - row
 
-numbers-of-requires : tie.Need-numbers-of-requires Inv-loop μ-loop
-numbers-of-requires c κs = search needs
-
-loop-holds : tie.Need-loop-holds Inv-loop μ-loop
-unfolding firstPass
-loop-holds c = (search needs, refl)
-
-check-row-requires : tie.Need-check-row-requires Inv-loop μ-loop
-check-row-requires c κs = search needs
-
-passed-requires : tie.Need-passed-requires Inv-loop μ-loop
-passed-requires c κs = search needs
-
-add-row : tie.Need-add-row Inv-loop μ-loop
-add-row c = search needs
-
-loop-less : tie.Need-loop-less Inv-loop μ-loop
-loop-less c = search needs
-
 loop-again : tie.Need-loop-again Inv-loop μ-loop
 unfolding firstPass
 loop-again c = (search needs, rw (add-one, c .passed .ensures, c .before .check-row .ensures, ← c .before .before .before .loop .inv .1))
@@ -48,16 +29,17 @@ returns c =
     ∙ ap (λ (ns : List ℕ). firstPass rowCount (headerFrom ns)) (c .before .before .numbers-of .ensures)
 
 pub accepts-spec : {M : Type 1} → statement M
+unfolding firstPass
 accepts-spec =
     tie.close
     (tie.spec
     Inv-loop
     μ-loop
-    numbers-of-requires
-    loop-holds
-    check-row-requires
-    passed-requires
-    add-row
-    loop-less
+    (λ c κs. search needs)
+    (λ c. (search needs, refl))
+    (λ c κs. search needs)
+    (λ c κs. search needs)
+    (λ c. search needs)
+    (λ c. search needs)
     loop-again
     returns)

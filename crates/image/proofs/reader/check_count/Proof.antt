@@ -1,4 +1,4 @@
--- `image::reader::check_count` meets its contract, test by test. Assumes nothing.
+-- `image::reader::check_count` meets its contract, test by test.
 use borrow.Author.Needs.{needs}
 use mathlib.Core.Path.{sym, _∙_}
 use lib.ListN.{getD}
@@ -7,22 +7,6 @@ use borrow.Author.Tests.{not-true, not-false}
 use Rattle.image.specs.Rows.{checked}
 use Rattle.image.proofs.reader.check_count.Statement.{statement}
 use Rattle.image.proofs.reader.check_count.Tie as tie
-
-array-read-count-in-range : tie.Need-array-read-count-in-range
-array-read-count-in-range c = search needs
-
-count-in-range-requires : tie.Need-count-in-range-requires
-count-in-range-requires c κs = search needs
-
-array-read-start-fits : tie.Need-array-read-start-fits
-array-read-start-fits c = search needs
-
-array-read-start-fits-2 : tie.Need-array-read-start-fits-2
-array-read-start-fits-2 c = search needs
-
-returns : tie.Need-returns
-unfolding checked
-returns c = let e = sym (c .before .count-in-range .ensures) ∙ not-true _ (c .if1 .taken) in rw e
 
 returns-2 : tie.Need-returns-2
 unfolding checked
@@ -41,13 +25,14 @@ returns-3 c =
     rw (e, f)
 
 pub check-count-spec : {M : Type 1} → statement M
+unfolding checked
 check-count-spec =
     tie.close
     (tie.spec
-    array-read-count-in-range
-    count-in-range-requires
-    array-read-start-fits
-    array-read-start-fits-2
-    returns
+    (λ c. search needs)
+    (λ c κs. search needs)
+    (λ c. search needs)
+    (λ c. search needs)
+    (λ c. let e = sym (c .before .count-in-range .ensures) ∙ not-true _ (c .if1 .taken) in rw e)
     returns-2
     returns-3)

@@ -1,4 +1,4 @@
--- `image::reader::close` meets its contract: the refusal of the numbers comes before that of the length. Assumes nothing.
+-- `image::reader::close` meets its contract: the refusal of the numbers comes before that of the length.
 use borrow.Author.Needs.{needs}
 use mathlib.Core.Path.{sym, ap, _∙_}
 use borrow.Author.Tests.{not-true, not-false}
@@ -6,21 +6,6 @@ use Rattle.image.specs.Scan.{firstRefusal, lengthOutcome, readWith, clos
 use Rattle.image.specs.declared.Header.{Header}
 use Rattle.image.proofs.reader.close.Statement.{statement}
 use Rattle.image.proofs.reader.close.Tie as tie
-
-header-from-requires : tie.Need-header-from-requires
-header-from-requires c κs = search needs
-
-judge-length-requires : tie.Need-judge-length-requires
-judge-length-requires c κs = search needs
-
-first-refusal-requires : tie.Need-first-refusal-requires
-first-refusal-requires c κs = search needs
-
-is-done-requires : tie.Need-is-done-requires
-is-done-requires c κs = search needs
-
-refuse-requires : tie.Need-refuse-requires
-refuse-requires c κs = search needs
 
 returns : tie.Need-returns
 unfolding closed readWith
@@ -46,10 +31,10 @@ pub close-spec : {M : Type 1} → statement M
 close-spec =
     tie.close
     (tie.spec
-    header-from-requires
-    judge-length-requires
-    first-refusal-requires
-    is-done-requires
-    refuse-requires
+    (λ c κs. search needs)
+    (λ c κs. search needs)
+    (λ c κs. search needs)
+    (λ c κs. search needs)
+    (λ c κs. search needs)
     returns
     returns-2)

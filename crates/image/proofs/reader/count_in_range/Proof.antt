@@ -1,4 +1,4 @@
--- `image::reader::count_in_range` meets its contract: its tests are the definition's. Assumes nothing.
+-- `image::reader::count_in_range` meets its contract: its tests are the definition's.
 use mathlib.Core.Path.{refl}
 use Rattle.image.proofs.reader.count_in_range.Statement.{statement}
 use Rattle.image.proofs.reader.count_in_range.Tie as tie

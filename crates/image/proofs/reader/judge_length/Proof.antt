@@ -1,4 +1,4 @@
--- `image::reader::judge_length` meets its contract, by its tests: each is read as what it says of the length. Assumes nothing.
+-- `image::reader::judge_length` meets its contract, by its tests: each is read as what it says of the length.
 use Prim.Native.Nat.{_+_, _*_}
 use native.Mathlib.Omega.{arith}
 use borrow.Author.Needs.{needs}
@@ -7,16 +7,6 @@ use Rattle.limits.specs.Limits.{blockLength}
 use Rattle.image.specs.Scan.{lengthOutcome}
 use Rattle.image.proofs.reader.judge_length.Statement.{statement}
 use Rattle.image.proofs.reader.judge_length.Tie as tie
-
-mul-end : tie.Need-mul-end
-mul-end c = search needs
-
-add-end : tie.Need-add-end
-add-end c = search needs
-
-returns : tie.Need-returns
-unfolding lengthOutcome
-returns c = rw (lt-ltb _ _ (c .if1 .taken))
 
 returns-2 : tie.Need-returns-2
 unfolding lengthOutcome
@@ -35,4 +25,12 @@ returns-3 c =
     rw (le-ltb (a .length) (a .at + blockLength * a .count) (omega arith), le-ltb (a .at + blockLength * a .count) (a .length) (omega arith))
 
 pub judge-length-spec : {M : Type 1} → statement M
-judge-length-spec = tie.close (tie.spec mul-end add-end returns returns-2 returns-3)
+unfolding lengthOutcome
+judge-length-spec =
+    tie.close
+    (tie.spec
+    (λ c. search needs)
+    (λ c. search needs)
+    (λ c. rw (lt-ltb _ _ (c .if1 .taken)))
+    returns-2
+    returns-3)

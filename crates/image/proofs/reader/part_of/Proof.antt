@@ -1,5 +1,4 @@
 -- `image::reader::part_of` meets its contract: the blocks of an image that is read begin within it, and are all that follows.
--- Assumes nothing.
 use borrow.Author.Needs.{needs}
 use mathlib.Core.Bool.{true, false}
 use denote.Ref.{now}
@@ -7,12 +6,6 @@ use borrow.Author.Tests.{not-true, not-false}
 use Rattle.image.proofs.Read.{asked, no-blocks, inside, all-blocks}
 use Rattle.image.proofs.reader.part_of.Statement.{statement}
 use Rattle.image.proofs.reader.part_of.Tie as tie
-
-is-done-requires : tie.Need-is-done-requires
-is-done-requires c κs = search needs
-
-slice-aggregate-result : tie.Need-slice-aggregate-result
-slice-aggregate-result c = search needs
 
 returns : tie.Need-returns
 returns c =
@@ -38,9 +31,6 @@ part-result-start c =
     let d = c .before .is-done in
     inside l r (st .pre) (asked l r (st .pre) (d .result) true (d .ensures) (not-false (d .result) (c .if1 .left)))
 
-part-result-end : tie.Need-part-result-end
-part-result-end c = search needs
-
 returns-2 : tie.Need-returns-2
 returns-2 c =
     let st = c .before .before .before .before in
@@ -53,10 +43,10 @@ pub part-of-spec : {M : Type 1} → statement M
 part-of-spec =
     tie.close
     (tie.spec
-    is-done-requires
-    slice-aggregate-result
+    (λ c κs. search needs)
+    (λ c. search needs)
     returns
     sub-result
     part-result-start
-    part-result-end
+    (λ c. search needs)
     returns-2)

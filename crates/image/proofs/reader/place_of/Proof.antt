@@ -1,4 +1,4 @@
--- `image::reader::place_of` meets its contract: after j turns the bytes of the first j numbers are counted, two at most for each. Assumes nothing.
+-- `image::reader::place_of` meets its contract: after j turns the bytes of the first j numbers are counted, two at most for each.
 use borrow.Author.Needs.{needs}
 use mathlib.Core.Path.{_≡_, refl, ap, _∙_}
 use Prim.Native.Nat.{_-_, _*_, _≤_}
@@ -16,30 +16,11 @@ Inv-loop k n at₀ j₀ at j = (j ≤ k) × ((at ≡ standsAt n j) × (at ≤ 2 
 abbrev μ-loop : tie.MeasureT-loop
 μ-loop k n at₀ j₀ at j = k - j
 
-loop-holds : tie.Need-loop-holds Inv-loop μ-loop
-unfolding standsAt
-loop-holds c = (omega arith, (refl, omega arith))
-
-mul-size : tie.Need-mul-size Inv-loop μ-loop
-mul-size c = let l = c .before .before .pre in omega arith
-
-array-read-size : tie.Need-array-read-size Inv-loop μ-loop
-array-read-size c = let l = c .before .before .pre in omega arith
-
-size-requires : tie.Need-size-requires Inv-loop μ-loop
-size-requires c κs = search needs
-
 add-at : tie.Need-add-at Inv-loop μ-loop
 add-at c =
     let i = c .before .before .loop .inv in
     let p = c .before .before .before .pre in
     omega (arith, size-most (getD (c .before .before .before .args .t1) (c .before .before .loop .j) 0), c .size .ensures, i .1 .1)
-
-add-j : tie.Need-add-j Inv-loop μ-loop
-add-j c = let p = c .before .before .before .pre in omega arith
-
-loop-less : tie.Need-loop-less Inv-loop μ-loop
-loop-less c = search needs
 
 loop-again : tie.Need-loop-again Inv-loop μ-loop
 unfolding standsAt
@@ -58,17 +39,18 @@ returns c =
     l .inv .1 .0 ∙ ap (standsAt (a .t1)) e
 
 pub place-of-spec : {M : Type 1} → statement M
+unfolding standsAt
 place-of-spec =
     tie.close
     (tie.spec
     Inv-loop
     μ-loop
-    loop-holds
-    mul-size
-    array-read-size
-    size-requires
+    (λ c. (omega arith, (refl, omega arith)))
+    (λ c. let l = c .before .before .pre in omega arith)
+    (λ c. let l = c .before .before .pre in omega arith)
+    (λ c κs. search needs)
     add-at
-    add-j
-    loop-less
+    (λ c. let p = c .before .before .before .pre in omega arith)
+    (λ c. search needs)
     loop-again
     returns)

@@ -1,4 +1,4 @@
--- `image::reader::read` meets its contract: the numbers take at most two bytes each, and fit their widths, as `close` asks. Assumes nothing.
+-- `image::reader::read` meets its contract: the numbers take at most two bytes each, and fit their widths, as `close` asks.
 use borrow.Author.Needs.{needs}
 use mathlib.Core.Path.{ap, _∙_}
 use denote.Ref.{now}

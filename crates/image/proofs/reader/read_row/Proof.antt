@@ -1,4 +1,4 @@
--- `image::reader::read_row` meets its contract: a refusal stays, else what `number::read` finds is taken. Assumes nothing.
+-- `image::reader::read_row` meets its contract: a refusal stays, else what `number::read` finds is taken.
 use borrow.Author.Needs.{needs}
 use mathlib.Core.Path.{sym, _∙_}
 use denote.Ref.{now}
@@ -9,20 +9,11 @@ use Rattle.image.proofs.Scanning.{stays, takes}
 use Rattle.image.proofs.reader.read_row.Statement.{statement}
 use Rattle.image.proofs.reader.read_row.Tie as tie
 
-is-done-requires : tie.Need-is-done-requires
-is-done-requires c κs = search needs
-
 returns : tie.Need-returns
 returns c =
     let st = c .before .before .before in
     let l = now (st .args .image) in
     sym (stays (length l) (fromImage l) (st .args .row) (st .args .s) (sym (c .before .is-done .ensures) ∙ not-true (c .before .is-done .result) (c .if1 .taken)))
-
-read-requires : tie.Need-read-requires
-read-requires c κs = search needs
-
-take-row-requires : tie.Need-take-row-requires
-take-row-requires c κs = search needs
 
 returns-2 : tie.Need-returns-2
 returns-2 c =
@@ -34,4 +25,10 @@ returns-2 c =
 
 pub read-row-spec : {M : Type 1} → statement M
 read-row-spec =
-    tie.close (tie.spec is-done-requires returns read-requires take-row-requires returns-2)
+    tie.close
+    (tie.spec
+    (λ c κs. search needs)
+    returns
+    (λ c κs. search needs)
+    (λ c κs. search needs)
+    returns-2)

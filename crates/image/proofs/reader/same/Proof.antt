@@ -1,4 +1,4 @@
--- `image::reader::same` meets its contract: after k turns the first k numbers are compared. Assumes nothing.
+-- `image::reader::same` meets its contract: after k turns the first k numbers are compared.
 use borrow.Author.Needs.{needs}
 use mathlib.Core.Path.{_≡_, refl, ap, _∙_}
 use mathlib.Core.List.{List}
@@ -15,38 +15,6 @@ Inv-loop p q same₀ row₀ same row = (row ≤ rowCount) × (same ≡ firstSame
 abbrev μ-loop : tie.MeasureT-loop
 μ-loop p q same₀ row₀ same row = rowCount - row
 
-numbers-of-requires : tie.Need-numbers-of-requires Inv-loop μ-loop
-numbers-of-requires c κs = search needs
-
-numbers-of-requires-2 : tie.Need-numbers-of-requires-2 Inv-loop μ-loop
-numbers-of-requires-2 c κs = search needs
-
-loop-holds : tie.Need-loop-holds Inv-loop μ-loop
-unfolding firstSame
-loop-holds c = (search needs, refl)
-
-mul-same : tie.Need-mul-same Inv-loop μ-loop
-mul-same c = search needs
-
-array-read-same : tie.Need-array-read-same Inv-loop μ-loop
-array-read-same c = search needs
-
-mul-same-2 : tie.Need-mul-same-2 Inv-loop μ-loop
-mul-same-2 c = search needs
-
-array-read-same-2 : tie.Need-array-read-same-2 Inv-loop μ-loop
-array-read-same-2 c = search needs
-
-add-row : tie.Need-add-row Inv-loop μ-loop
-add-row c = search needs
-
-loop-less : tie.Need-loop-less Inv-loop μ-loop
-loop-less c = search needs
-
-loop-again : tie.Need-loop-again Inv-loop μ-loop
-unfolding firstSame
-loop-again c = (search needs, rw (add-one, ← c .before .loop .inv .1))
-
 returns : tie.Need-returns Inv-loop μ-loop
 unfolding sameHeader
 returns c =
@@ -58,19 +26,20 @@ returns c =
     ∙ ap (firstSame rowCount _) (c .before .before .numbers-of2 .ensures)
 
 pub same-spec : {M : Type 1} → statement M
+unfolding firstSame
 same-spec =
     tie.close
     (tie.spec
     Inv-loop
     μ-loop
-    numbers-of-requires
-    numbers-of-requires-2
-    loop-holds
-    mul-same
-    array-read-same
-    mul-same-2
-    array-read-same-2
-    add-row
-    loop-less
-    loop-again
+    (λ c κs. search needs)
+    (λ c κs. search needs)
+    (λ c. (search needs, refl))
+    (λ c. search needs)
+    (λ c. search needs)
+    (λ c. search needs)
+    (λ c. search needs)
+    (λ c. search needs)
+    (λ c. search needs)
+    (λ c. (search needs, rw (add-one, ← c .before .loop .inv .1)))
     returns)

@@ -1,4 +1,4 @@
--- `clear` meets its contract: the marks before i are 0 at each turn. Assumes nothing.
+-- `clear` meets its contract: the marks before i are 0 at each turn.
 use Prim.Native.Nat.{ℕ, _-_, _<_, _≤_}
 use mathlib.Core.Path.{_≡_, _∙_}
 use native.Mathlib.Omega.{arith}
@@ -16,18 +16,6 @@ Inv-loop marks₀ first i₀ marks i = (length marks ≡ marksLength) × (i ≤ 
 abbrev μ-loop : tie.MeasureT-loop
 μ-loop marks₀ first i₀ marks i = marksLength - i
 
-loop-holds : tie.Need-loop-holds Inv-loop μ-loop
-loop-holds c = (c .pre .0, omega arith, λ k h. omega arith)
-
-slice-write-marks : tie.Need-slice-write-marks Inv-loop μ-loop
-slice-write-marks c = omega arith
-
-add-i : tie.Need-add-i Inv-loop μ-loop
-add-i c = omega arith
-
-loop-less : tie.Need-loop-less Inv-loop μ-loop
-loop-less c = omega arith
-
 loop-again : tie.Need-loop-again Inv-loop μ-loop
 loop-again c =
     let v = c .before .loop in
@@ -36,12 +24,6 @@ loop-again c =
       omega arith,
       below-more _ _ (λ k h. getD-set-other (v .marks) (v .i) k 0 0 (λ e. omega arith) ∙ v .inv .2 k h) (getD-set-same (v .marks) (v .i) 0 0 w),
     )
-
-slice-write-marks-2 : tie.Need-slice-write-marks-2 Inv-loop μ-loop
-slice-write-marks-2 c = omega arith
-
-same-length : tie.Need-same-length Inv-loop μ-loop
-same-length c = simp length-set (omega arith)
 
 returns : tie.Need-returns Inv-loop μ-loop
 returns c =
@@ -54,11 +36,11 @@ clear-spec =
     (tie.spec
     Inv-loop
     μ-loop
-    loop-holds
-    slice-write-marks
-    add-i
-    loop-less
+    (λ c. (c .pre .0, omega arith, λ k h. omega arith))
+    (λ c. omega arith)
+    (λ c. omega arith)
+    (λ c. omega arith)
     loop-again
-    slice-write-marks-2
-    same-length
+    (λ c. omega arith)
+    (λ c. simp length-set (omega arith))
     returns)

@@ -1,4 +1,4 @@
--- `judge_walks` meets its contract: the search works in the part at the front, and what stands behind it comes back. Assumes nothing.
+-- `judge_walks` meets its contract: the search works in the part at the front, and what stands behind it comes back.
 use mathlib.Core.Path.{sym, _∙_}
 use lib.Seq.{length-take-le}
 use denote.Ref.{now}
@@ -6,9 +6,6 @@ use Rattle.loader.proofs.Front.{after-front}
 use borrow.Author.Needs.{needs}
 use Rattle.loader.proofs.search.judge_walks.Statement.{statement}
 use Rattle.loader.proofs.search.judge_walks.Tie as tie
-
-slice-relend-prefix-search : tie.Need-slice-relend-prefix-search
-slice-relend-prefix-search c = search needs
 
 slice-aggregate-search : tie.Need-slice-aggregate-search
 slice-aggregate-search c =
@@ -20,9 +17,6 @@ search-requires c κs =
     let s = c .before .before .before in
     (s .pre .0, length-take-le _ (now (s .args .marks)) (s .pre .1 .1) ∙ s .pre .1 .0)
 
-same-length : tie.Need-same-length
-same-length c = search needs
-
 returns : tie.Need-returns
 returns c =
     let s = c .before .before .before .before .before .before in
@@ -33,8 +27,8 @@ pub judge-walks-spec : {M : Type 1} → statement M
 judge-walks-spec =
     tie.close
     (tie.spec
-    slice-relend-prefix-search
+    (λ c. search needs)
     slice-aggregate-search
     search-requires
-    same-length
+    (λ c. search needs)
     returns)

@@ -1,4 +1,4 @@
--- `least_bad` meets its contract: no marked point before i is bad at each turn. Assumes nothing.
+-- `least_bad` meets its contract: no marked point before i is bad at each turn.
 use Rattle.flow.specs.Terms.{under}
 use Prim.Native.Nat.{_-_, _≤_}
 use mathlib.Core.Path.{_≡_, sym, _∙_}
@@ -21,33 +21,12 @@ Inv-loop header blocks marks i₀ i = (i ≤ marksLength) × LeastSo marks (badA
 abbrev μ-loop : tie.MeasureT-loop
 μ-loop header blocks marks i₀ i = marksLength - i
 
-loop-holds : tie.Need-loop-holds Inv-loop μ-loop
-loop-holds c = (omega arith, least-begun _ _ _ _)
-
-shared-slice-read-if1 : tie.Need-shared-slice-read-if1 Inv-loop μ-loop
-shared-slice-read-if1 c = omega (arith, c .before .before .before .before .before .pre .1 .long)
-
-point-at-requires : tie.Need-point-at-requires Inv-loop μ-loop
-point-at-requires c κs = search needs
-
-fault-at-requires : tie.Need-fault-at-requires Inv-loop μ-loop
-fault-at-requires c κs = tt
-
-is-bad-requires : tie.Need-is-bad-requires Inv-loop μ-loop
-is-bad-requires c κs = tt
-
 returns : tie.Need-returns Inv-loop μ-loop
 returns c =
     let v = c .before .before .before .before .before .before .before .loop in
     let s = c .before .before .before .before .before .before .before .before .before .before in
     first-bad (under (s .args .header)) (now (s .args .blocks)) (s .pre .0) (now (s .args .marks)) (s .pre .1) (v .i) (v .inv .1) (c .before .before .before .before .if1 .taken)
     (fault-bad (under (s .args .header)) (now (s .args .blocks)) (v .i) _ _ (c .before .before .before .point-at .ensures) (c .before .before .fault-at .ensures) (sym (c .before .is-bad .ensures) ∙ c .if2 .taken))
-
-add-i : tie.Need-add-i Inv-loop μ-loop
-add-i c = omega arith
-
-loop-less : tie.Need-loop-less Inv-loop μ-loop
-loop-less c = omega arith
 
 loop-again : tie.Need-loop-again Inv-loop μ-loop
 loop-again c =
@@ -69,13 +48,13 @@ least-bad-spec =
     (tie.spec
     Inv-loop
     μ-loop
-    loop-holds
-    shared-slice-read-if1
-    point-at-requires
-    fault-at-requires
-    is-bad-requires
+    (λ c. (omega arith, least-begun _ _ _ _))
+    (λ c. omega (arith, c .before .before .before .before .before .pre .1 .long))
+    (λ c κs. search needs)
+    (λ c κs. tt)
+    (λ c κs. tt)
     returns
-    add-i
-    loop-less
+    (λ c. omega arith)
+    (λ c. omega arith)
     loop-again
     returns-2)

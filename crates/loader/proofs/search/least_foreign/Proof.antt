@@ -1,4 +1,4 @@
--- `least_foreign` meets its contract: found is the least of the marked points before i at each turn. Assumes nothing.
+-- `least_foreign` meets its contract: found is the least of the marked points before i at each turn.
 use Rattle.flow.specs.Terms.{under}
 use Prim.Native.Nat.{_-_, _≤_}
 use mathlib.Core.Path.{_≡_, _∙_}
@@ -18,24 +18,6 @@ Inv-loop header blocks marks found₀ i₀ found i = (i ≤ marksLength) × Leas
 
 abbrev μ-loop : tie.MeasureT-loop
 μ-loop header blocks marks found₀ i₀ found i = marksLength - i
-
-cast-found : tie.Need-cast-found Inv-loop μ-loop
-cast-found c = search needs
-
-loop-holds : tie.Need-loop-holds Inv-loop μ-loop
-loop-holds c = (omega arith, least-begun _ _ _ _)
-
-shared-slice-read-if1 : tie.Need-shared-slice-read-if1 Inv-loop μ-loop
-shared-slice-read-if1 c = omega (arith, c .before .before .before .before .before .pre .1 .long)
-
-lower-requires : tie.Need-lower-requires Inv-loop μ-loop
-lower-requires c κs = search needs
-
-add-i : tie.Need-add-i Inv-loop μ-loop
-add-i c = omega arith
-
-loop-less : tie.Need-loop-less Inv-loop μ-loop
-loop-less c = omega arith
 
 loop-again : tie.Need-loop-again Inv-loop μ-loop
 loop-again c =
@@ -59,11 +41,11 @@ least-foreign-spec =
     (tie.spec
     Inv-loop
     μ-loop
-    cast-found
-    loop-holds
-    shared-slice-read-if1
-    lower-requires
-    add-i
-    loop-less
+    (λ c. search needs)
+    (λ c. (omega arith, least-begun _ _ _ _))
+    (λ c. omega (arith, c .before .before .before .before .before .pre .1 .long))
+    (λ c κs. search needs)
+    (λ c. omega arith)
+    (λ c. omega arith)
     loop-again
     returns)

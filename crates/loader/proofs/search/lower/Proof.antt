@@ -1,4 +1,4 @@
--- `lower` meets its contract by its tests. Assumes nothing.
+-- `lower` meets its contract by its tests.
 use mathlib.Core.Path.{sym, ap, _∙_}
 use borrow.Author.Tests.{not-true, not-false}
 use denote.Ref.{now}
@@ -11,18 +11,6 @@ use Rattle.loader.proofs.Minima.{lower-less, lower-not}
 use borrow.Author.Tests.{not-true}
 use Rattle.loader.proofs.search.lower.Statement.{statement}
 use Rattle.loader.proofs.search.lower.Tie as tie
-
-point-at-requires : tie.Need-point-at-requires
-point-at-requires c κs = search needs
-
-cast-block : tie.Need-cast-block
-cast-block c = search needs
-
-fault-at-requires : tie.Need-fault-at-requires
-fault-at-requires c κs = search needs
-
-is-foreign-requires : tie.Need-is-foreign-requires
-is-foreign-requires c κs = search needs
 
 returns : tie.Need-returns
 unfolding lowered
@@ -42,10 +30,10 @@ pub lower-spec : {M : Type 1} → statement M
 lower-spec =
     tie.close
     (tie.spec
-    point-at-requires
-    cast-block
-    fault-at-requires
-    is-foreign-requires
+    (λ c κs. search needs)
+    (λ c. search needs)
+    (λ c κs. search needs)
+    (λ c κs. search needs)
     returns
     returns-2
     returns-3)

@@ -1,4 +1,4 @@
--- `search` meets its contract: the marks begin with the first point alone, are walked to the end, and the least is told. Assumes nothing.
+-- `search` meets its contract: the marks begin with the first point alone, are walked to the end, and the least is told.
 use denote.Ref.{now}
 use Rattle.flow.specs.Terms.{under}
 use Rattle.walk.specs.Verdict.{rootOf}
@@ -8,9 +8,6 @@ use borrow.Author.Needs.{needs}
 use Rattle.walk.specs.Graph.{Reach}
 use Rattle.loader.proofs.search.search.Statement.{statement}
 use Rattle.loader.proofs.search.search.Tie as tie
-
-root-requires : tie.Need-root-requires
-root-requires c κs = search needs
 
 clear-requires : tie.Need-clear-requires
 clear-requires c κs =
@@ -25,16 +22,13 @@ walk-requires c κs =
     let e = rw (c .before .before .before .before .before .root .ensures) at (c .before .before .before .before .clear .ensures) in
     (s .pre .0, (all-dirty _ (e .long), begun _ _ _ e))
 
-least-requires : tie.Need-least-requires
-least-requires c κs = search needs
-
-same-length : tie.Need-same-length
-same-length c = search needs
-
-returns : tie.Need-returns
-returns c = search needs
-
 pub search-spec : {M : Type 1} → statement M
 search-spec =
     tie.close
-    (tie.spec root-requires clear-requires walk-requires least-requires same-length returns)
+    (tie.spec
+    (λ c κs. search needs)
+    clear-requires
+    walk-requires
+    (λ c κs. search needs)
+    (λ c. search needs)
+    (λ c. search needs))

@@ -1,5 +1,4 @@
 -- `visit` meets its contract: the points that follow are touched, one after the other, and the point is done. The loop's invariant: k of them are touched.
--- Assumes nothing.
 use borrow.Author.Needs.{needs}
 use Prim.Native.Nat.{ℕ, _-_, _≤_, _<_}
 use mathlib.Core.Path.{_≡_, refl, sym, ap, _∙_}

@@ -1,4 +1,4 @@
--- `walk` meets its contract: at each turn the search is under way with this cursor; each visit leaves one point fewer to do, and else the cursor goes up. Assumes nothing.
+-- `walk` meets its contract: at each turn the search is under way with this cursor; each visit leaves one point fewer to do, and else the cursor goes up.
 use Prim.Native.Nat.{_+_, _-_, _*_, _/_, _≤_}
 use mathlib.Core.Path.{_≡_}
 use native.Mathlib.Omega.{arith}
@@ -19,41 +19,17 @@ Inv-loop header blocks marks₀ dirty₀ cursor₀ marks dirty cursor = Going (n
 abbrev μ-loop : tie.MeasureT-loop
 μ-loop header blocks marks₀ dirty₀ cursor₀ marks dirty cursor = (marksLength + 1) * undone marks + (marksLength - cursor)
 
-loop-holds : tie.Need-loop-holds Inv-loop μ-loop
-loop-holds c = (c .before .before .pre .1 .1, omega arith, c .before .before .pre .1 .0)
-
-element-copy-out-if1 : tie.Need-element-copy-out-if1 Inv-loop μ-loop
-element-copy-out-if1 c = omega arith
-
-sub-if2 : tie.Need-sub-if2 Inv-loop μ-loop
-sub-if2 c = omega arith
-
-mul-cursor : tie.Need-mul-cursor Inv-loop μ-loop
-mul-cursor c = omega arith
-
-add-cursor : tie.Need-add-cursor Inv-loop μ-loop
-add-cursor c = omega arith
-
-loop-less : tie.Need-loop-less Inv-loop μ-loop
-loop-less c = omega arith
-
 loop-again : tie.Need-loop-again Inv-loop μ-loop
 loop-again c =
     let v = c .before .before .before .before .loop in
     let k = skipped _ _ _ _ _ (v .cursor / pageLength * pageLength + pageLength) (v .inv .0) (v .inv .2) (c .before .if1 .taken) (omega arith) in
     (k .0, omega arith, k .1)
 
-loop-less-2 : tie.Need-loop-less-2 Inv-loop μ-loop
-loop-less-2 c = omega arith
-
 loop-again-2 : tie.Need-loop-again-2 Inv-loop μ-loop
 loop-again-2 c =
     let v = c .before .before .before .before .loop in
     let k = skipped _ _ _ _ _ marksLength (v .inv .0) (v .inv .2) (c .before .if1 .taken) (omega arith) in
     (k .0, omega arith, k .1)
-
-slice-read-if3 : tie.Need-slice-read-if3 Inv-loop μ-loop
-slice-read-if3 c = omega (arith, c .before .before .before .before .loop .inv .0 .long)
 
 visit-requires : tie.Need-visit-requires Inv-loop μ-loop
 visit-requires c κs =
@@ -76,31 +52,16 @@ loop-again-3 c =
     let k = visit-keeps _ _ i (v .marks) (v .dirty) (v .cursor) (v .inv .0) (c .before .before .before .before .before .if3 .taken) (v .inv .2) _ (c .before .before .visit .ensures) in
     (k .going, omega (arith, k .low, v .inv .1), k .paged)
 
-add-cursor-2 : tie.Need-add-cursor-2 Inv-loop μ-loop
-add-cursor-2 c = omega arith
-
-element-write-dirty : tie.Need-element-write-dirty Inv-loop μ-loop
-element-write-dirty c = omega arith
-
-loop-less-4 : tie.Need-loop-less-4 Inv-loop μ-loop
-loop-less-4 c = omega arith
-
 loop-again-4 : tie.Need-loop-again-4 Inv-loop μ-loop
 loop-again-4 c =
     let v = c .before .before .before .before .before .before .loop in
     let g = onward _ _ _ _ (v .inv .0) (c .before .if3 .left) in
     (g, omega arith, passed _ _ _ _ _ g (v .inv .2) (c .if4 .taken) (omega arith))
 
-loop-less-5 : tie.Need-loop-less-5 Inv-loop μ-loop
-loop-less-5 c = omega arith
-
 loop-again-5 : tie.Need-loop-again-5 Inv-loop μ-loop
 loop-again-5 c =
     let v = c .before .before .before .before .before .before .loop in
     (onward _ _ _ _ (v .inv .0) (c .before .if3 .left), omega arith, stayed _ _ _ (v .inv .2) (c .if4 .left))
-
-same-length : tie.Need-same-length Inv-loop μ-loop
-same-length c = omega (arith, c .before .loop .inv .0 .long, c .before .before .before .before .pre .1 .1 .long)
 
 returns : tie.Need-returns Inv-loop μ-loop
 returns c =
@@ -115,24 +76,24 @@ walk-spec =
     (tie.spec
     Inv-loop
     μ-loop
-    loop-holds
-    element-copy-out-if1
-    sub-if2
-    mul-cursor
-    add-cursor
-    loop-less
+    (λ c. (c .before .before .pre .1 .1, omega arith, c .before .before .pre .1 .0))
+    (λ c. omega arith)
+    (λ c. omega arith)
+    (λ c. omega arith)
+    (λ c. omega arith)
+    (λ c. omega arith)
     loop-again
-    loop-less-2
+    (λ c. omega arith)
     loop-again-2
-    slice-read-if3
+    (λ c. omega (arith, c .before .before .before .before .loop .inv .0 .long))
     visit-requires
     loop-less-3
     loop-again-3
-    add-cursor-2
-    element-write-dirty
-    loop-less-4
+    (λ c. omega arith)
+    (λ c. omega arith)
+    (λ c. omega arith)
     loop-again-4
-    loop-less-5
+    (λ c. omega arith)
     loop-again-5
-    same-length
+    (λ c. omega (arith, c .before .loop .inv .0 .long, c .before .before .before .before .pre .1 .1 .long))
     returns)

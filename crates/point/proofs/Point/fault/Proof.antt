@@ -1,4 +1,4 @@
--- `Point::fault` meets its contract: its tests are the definition's, in its order. Assumes nothing.
+-- `Point::fault` meets its contract: its tests are the definition's, in its order.
 use mathlib.Core.Path.{sym, _∙_}
 use borrow.Author.Tests.{not-true, not-false}
 use Rattle.flow.specs.Tasks.{foreign, permitted}
@@ -7,38 +7,23 @@ use borrow.Author.Needs.{needs}
 use Rattle.point.proofs.Point.fault.Statement.{statement}
 use Rattle.point.proofs.Point.fault.Tie as tie
 
-foreign-requires : tie.Need-foreign-requires
-foreign-requires c κs = search needs
-
-returns : tie.Need-returns
-unfolding faultOf
-returns c = rw (sym (c .before .foreign .ensures) ∙ c .if1 .taken)
-
-permitted-requires : tie.Need-permitted-requires
-permitted-requires c κs = search needs
-
 returns-2 : tie.Need-returns-2
 unfolding faultOf
 returns-2 c = rw (sym (c .before .before .before .foreign .ensures) ∙ c .before .before .if1 .left, sym (c .before .permitted .ensures) ∙ not-true _ (c .if2 .taken))
-
-of-requires : tie.Need-of-requires
-of-requires c κs = search needs
-
-flow-fault-requires : tie.Need-flow-fault-requires
-flow-fault-requires c κs = search needs
 
 returns-3 : tie.Need-returns-3
 unfolding faultOf
 returns-3 c = rw (sym (c .before .before .before .before .before .foreign .ensures) ∙ c .before .before .before .before .if1 .left, sym (c .before .before .before .permitted .ensures) ∙ not-false _ (c .before .before .if2 .left), ← c .before .of .ensures) (c .flow-fault .ensures)
 
 pub fault-spec : {M : Type 1} → statement M
+unfolding faultOf
 fault-spec =
     tie.close
     (tie.spec
-    foreign-requires
-    returns
-    permitted-requires
+    (λ c κs. search needs)
+    (λ c. rw (sym (c .before .foreign .ensures) ∙ c .if1 .taken))
+    (λ c κs. search needs)
     returns-2
-    of-requires
-    flow-fault-requires
+    (λ c κs. search needs)
+    (λ c κs. search needs)
     returns-3)

@@ -1,4 +1,4 @@
--- `Values::fresh` meets its contract: the fields are the definition's. Assumes nothing.
+-- `Values::fresh` meets its contract: the fields are the definition's.
 use mathlib.Core.Path.{refl}
 use Rattle.state.specs.State.{freshValues}
 use Rattle.state.proofs.Values.fresh.Statement.{statement}
