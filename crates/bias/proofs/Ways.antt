@@ -7,21 +7,21 @@ use lib.ListN.{length}
 use lib.Dec.{eqb}
 use borrow.Author.Tests.{lt-ltb, le-ltb, eq-eqb, ne-eqb, eqb-true, eqb-false}
 use Rattle.limits.specs.Limits.{taskCount, marksLength, stateLength, inputsLength}
-use Rattle.number.proofs.Choice.{by}
+use Rattle.image_number.proofs.Choice.{by}
 use Rattle.state.specs.declared.State.{State}
 use Rattle.walk.specs.Verdict.{verdictOf, isAccepted}
 use Rattle.walk.specs.declared.Verdict.{Verdict}
 use Rattle.walk.specs.declared.Verdict.the-variants.{MarksShort}
-use Rattle.layout.specs.Layout.{decoded, encoded}
-use Rattle.layout.specs.Test.{frameIs, stateIs, isState}
+use Rattle.state_layout.specs.Layout.{decoded, encoded}
+use Rattle.state_layout.specs.Test.{frameIs, stateIs, isState}
 use Rattle.machine.specs.Given.{Inputs}
 use Rattle.machine.specs.Engine.{step}
 use Rattle.machine.specs.Theorem.{loaded}
 use Rattle.machine.specs.declared.Request.the-variants.{None}
 use Rattle.machine.specs.declared.Answer.the-variants.{NoTask, Inputs as BadInputs}
-use Rattle.border.specs.Border.{noState, numbered, verdictFor, noStateAnswer, answerFor}
-use Rattle.border.specs.declared.BiasVerdict.{BiasVerdict}
-use Rattle.border.specs.declared.BiasAnswer.{BiasAnswer}
+use Rattle.bias_results.specs.Border.{noState, numbered, verdictFor, noStateAnswer, answerFor}
+use Rattle.bias_results.specs.declared.BiasVerdict.{BiasVerdict}
+use Rattle.bias_results.specs.declared.BiasAnswer.{BiasAnswer}
 use Rattle.bias.specs.Load.{Load, refuseLoad, judgedLoad, load}
 use Rattle.bias.specs.Step.{Stepped, refuse, handed, stepState, stepped}
 

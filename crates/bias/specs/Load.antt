@@ -8,10 +8,10 @@ use Rattle.limits.specs.Limits.{marksLength, stateLength}
 use Rattle.walk.specs.Verdict.{verdictOf, isAccepted}
 use Rattle.walk.specs.declared.Verdict.{Verdict}
 use Rattle.walk.specs.declared.Verdict.the-variants.{MarksShort}
-use Rattle.layout.specs.Layout.{encoded}
+use Rattle.state_layout.specs.Layout.{encoded}
 use Rattle.machine.specs.Theorem.{loaded}
-use Rattle.border.specs.Border.{noState, numbered, verdictFor}
-use Rattle.border.specs.declared.BiasVerdict.{BiasVerdict}
+use Rattle.bias_results.specs.Border.{noState, numbered, verdictFor}
+use Rattle.bias_results.specs.declared.BiasVerdict.{BiasVerdict}
 
 pub record Load : Type 0 where
   pub verdict : BiasVerdict

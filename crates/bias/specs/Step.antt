@@ -6,15 +6,15 @@ use mathlib.Core.List.{List}
 use lib.Dec.{eqb, ltb}
 use lib.ListN.{length}
 use Rattle.limits.specs.Limits.{taskCount, inputsLength}
-use Rattle.layout.specs.Layout.{decoded, encoded}
-use Rattle.layout.specs.Test.{isState}
+use Rattle.state_layout.specs.Layout.{decoded, encoded}
+use Rattle.state_layout.specs.Test.{isState}
 use Rattle.machine.specs.Given.{Inputs}
 use Rattle.machine.specs.Engine.{step}
 use Rattle.machine.specs.declared.Out.{Out}
 use Rattle.machine.specs.declared.Request.the-variants.{None}
 use Rattle.machine.specs.declared.Answer.the-variants.{NoTask, Inputs as BadInputs}
-use Rattle.border.specs.Border.{noStateAnswer, answerFor}
-use Rattle.border.specs.declared.BiasAnswer.{BiasAnswer}
+use Rattle.bias_results.specs.Border.{noStateAnswer, answerFor}
+use Rattle.bias_results.specs.declared.BiasAnswer.{BiasAnswer}
 
 pub record Stepped : Type 0 where
   pub answer : BiasAnswer

@@ -1,8 +1,8 @@
 // The functions that C calls (include/bias.h). C passes a pointer and a length for each slice, of any length, so none of them has a precondition:
 // each answers whatever bytes a host lends.
-use border::BiasAnswer;
-use border::BiasVerdict;
-use image::reader;
+use bias_results::BiasAnswer;
+use bias_results::BiasVerdict;
+use image_header::reader;
 use limits::INPUTS_LENGTH;
 use limits::MARKS_LENGTH;
 use limits::STATE_LENGTH;
@@ -16,14 +16,14 @@ ghost use mathlib.Core.List.{[], _∷_};
 ghost use lib.ListN.{length};
 ghost use Rattle.limits.specs.Limits.{marksLength, stateLength};
 ghost use Rattle.walk.specs.Verdict.{verdictOf};
-ghost use Rattle.loader.specs.After.{After};
-ghost use Rattle.writer.specs.Writer.{written, outAfter};
+ghost use Rattle.walk_search.specs.After.{After};
+ghost use Rattle.image_writer.specs.Writer.{written, outAfter};
 ghost use Rattle.state.specs.Good.{Good};
-ghost use Rattle.layout.specs.Layout.{encoded};
+ghost use Rattle.state_layout.specs.Layout.{encoded};
 ghost use Rattle.machine.specs.Given.{inputsOf};
 ghost use Rattle.machine.specs.Engine.{step};
 ghost use Rattle.machine.specs.Theorem.{loaded};
-ghost use Rattle.border.specs.Border.{writtenFor};
+ghost use Rattle.bias_results.specs.Border.{writtenFor};
 ghost use Rattle.bias.specs.Load.{load, judgedLoad};
 ghost use Rattle.bias.specs.Step.{handed, stepState, stepped};
 
@@ -36,10 +36,10 @@ pub extern "C" fn bias_load(image: &[u8], marks: &mut [u8], state: &mut [u8]) ->
 {
     let n = marks.len();
     if n < MARKS_LENGTH {
-        return border::verdict(Verdict::MarksShort(n));
+        return bias_results::verdict(Verdict::MarksShort(n));
     }
     if state.len() != STATE_LENGTH {
-        return border::numbered(border::NO_STATE, 0);
+        return bias_results::numbered(bias_results::NO_STATE, 0);
     }
     load_image(image, marks, state)
 }
@@ -51,12 +51,12 @@ fn load_image(image: &[u8], marks: &mut [u8], state: &mut [u8]) -> BiasVerdict
     ensures { λ _. ⌜ now (state .exit) ≡ judgedLoad (now (image .entry)) (verdictOf (now (image .entry)) (length (now (marks .entry)))) (now (state .entry)) .buffer ⌝ }
     ensures { λ _. ⌜ After marksLength (now (marks .entry)) (now (marks .exit)) ⌝ }
 {
-    let verdict = loader::judge(image, marks);
-    if !refusal::is_accepted(verdict) {
-        return border::verdict(verdict);
+    let verdict = walk_search::judge(image, marks);
+    if !walk_verdict::is_accepted(verdict) {
+        return bias_results::verdict(verdict);
     }
     put_state(state, fresh(image));
-    border::verdict(verdict)
+    bias_results::verdict(verdict)
 }
 
 // The state that an accepted image begins with.
@@ -72,8 +72,8 @@ fn put_state(state: &mut [u8], s: State)
     requires { ⌜ length (now state) ≡ stateLength ⌝ }
     ensures { λ _. ⌜ now (state .exit) ≡ encoded s ⌝ }
 {
-    let b = writing::encode(s);
-    lend::copy_out(state, &b);
+    let b = state_encode::encode(s);
+    state_copy::copy_out(state, &b);
 }
 
 // Steps a task: 15, then 16, then 18, 17 or the command.
@@ -90,14 +90,14 @@ pub extern "C" fn bias_step(
     ensures { λ _. ⌜ now (state .exit) ≡ stepped (now (image .entry)) (now (state .entry)) (inputsOf task (now (inputs .entry)) start reached) .buffer ⌝ }
 {
     if task >= TASK_COUNT {
-        return border::answer(Request::None, Answer::NoTask(task));
+        return bias_results::answer(Request::None, Answer::NoTask(task));
     }
     let n = inputs.len();
     if n != INPUTS_LENGTH {
-        return border::answer(Request::None, Answer::Inputs(n));
+        return bias_results::answer(Request::None, Answer::Inputs(n));
     }
     if state.len() != STATE_LENGTH {
-        return border::no_state();
+        return bias_results::no_state();
     }
     step_buffer(image, state, task, inputs, start, reached)
 }
@@ -115,13 +115,13 @@ fn step_buffer(
     ensures { λ r. ⌜ r ≡ stepState (now (image .entry)) (now (state .entry)) (inputsOf task (now (inputs .entry)) start reached) .answer ⌝ }
     ensures { λ _. ⌜ now (state .exit) ≡ stepState (now (image .entry)) (now (state .entry)) (inputsOf task (now (inputs .entry)) start reached) .buffer ⌝ }
 {
-    let b = lend::copy_in(state);
-    let s = reading::decode(&b);
-    if !buffer::frame_is(&b) {
-        return border::no_state();
+    let b = state_copy::copy_in(state);
+    let s = state_decode::decode(&b);
+    if !state_judge::frame_is(&b) {
+        return bias_results::no_state();
     }
-    if !buffer::state_is(s) {
-        return border::no_state();
+    if !state_judge::state_is(s) {
+        return bias_results::no_state();
     }
     step_state(image, state, s, task, inputs, start, reached)
 }
@@ -141,11 +141,11 @@ fn step_state(
     ensures { λ r. ⌜ r ≡ handed (step (now (image .entry)) s (inputsOf task (now (inputs .entry)) start reached)) .answer ⌝ }
     ensures { λ _. ⌜ now (state .exit) ≡ handed (step (now (image .entry)) s (inputsOf task (now (inputs .entry)) start reached)) .buffer ⌝ }
 {
-    let out = engine::step(image, s, task, inputs, start, reached);
+    let out = exec_step::step(image, s, task, inputs, start, reached);
     let request = out.request;
     let answer = out.answer;
     put_state(state, out.state);
-    border::answer(request, answer)
+    bias_results::answer(request, answer)
 }
 
 // Writes the image of these header numbers and blocks to the front of out.
@@ -164,5 +164,5 @@ pub extern "C" fn bias_write(
     ensures { λ _. ⌜ now (out .exit) ≡ outAfter (format ∷ model ∷ b ∷ c ∷ start ∷ count ∷ []) (now (blocks .entry)) (now (out .entry)) ⌝ }
 {
     let numbers = [format, model, b, c, start, count];
-    border::written(writer::write(numbers, blocks, out))
+    bias_results::written(image_writer::write(numbers, blocks, out))
 }

@@ -8,11 +8,11 @@ use mathlib.Core.Logic.{_↔_}
 use mathlib.Core.List.{List, [], _∷_}
 use lib.Dec.{T, eqb, ltb, leb}
 use borrow.Author.Tests.{eqb-true, eq-eqb, ltb-true}
-use Rattle.pins.specs.Homes.{Row, homeIn, homeOf, inputs, outputsWritten, outputsRead}
-use Rattle.pins.specs.declared.Home.{Home}
-use Rattle.pins.specs.declared.Home.the-variants.{Nowhere, Only631, Others, SlotB, SlotC}
-use Rattle.pins.specs.declared.PinKind.{PinKind}
-use Rattle.pins.specs.declared.PinKind.the-variants.{Input, OutputWritten, OutputRead}
+use Rattle.drive_pins.specs.Homes.{Row, homeIn, homeOf, inputs, outputsWritten, outputsRead}
+use Rattle.drive_pins.specs.declared.Home.{Home}
+use Rattle.drive_pins.specs.declared.Home.the-variants.{Nowhere, Only631, Others, SlotB, SlotC}
+use Rattle.drive_pins.specs.declared.PinKind.{PinKind}
+use Rattle.drive_pins.specs.declared.PinKind.the-variants.{Input, OutputWritten, OutputRead}
 use Rattle.drive.specs.Types.{types, type631, slotB, slotC, takesB, takesC}
 use Rattle.drive.specs.Pins.{onBoard, presence, pinOf}
 use Rattle.drive.specs.Boards.{mayCarry, withBoards, fitted, Carries, Missing, NeverThere}

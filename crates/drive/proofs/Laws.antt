@@ -8,18 +8,18 @@ use lib.ListN.{length, getD}
 use lib.Dec.{T, eqb, ltb, leb, leb·zero}
 use borrow.Author.Tests.{ltb-true, leb-true, eqb-true, eqb-false, eq-eqb, ne-eqb, lt-ltb, le-ltb, le-leb}
 use Rattle.drive.specs.Types.{types, cycles, slotB, slotC, cycleOf, takes, takesB, takesC}
-use Rattle.pins.specs.Homes.{homeIn, homeOf, inputs, outputsWritten, outputsRead}
+use Rattle.drive_pins.specs.Homes.{homeIn, homeOf, inputs, outputsWritten, outputsRead}
 use Rattle.drive.specs.Pins.{onBoard, presence, pinOf}
 use Rattle.drive.specs.declared.Drive.{Drive}
-use Rattle.pins.specs.declared.Home.{Home}
-use Rattle.pins.specs.declared.Home.the-variants.{Nowhere, Only631, Others, SlotB, SlotC}
-use Rattle.pins.specs.declared.PinKind.{PinKind}
-use Rattle.pins.specs.declared.PinKind.the-variants.{Input, OutputWritten, OutputRead}
+use Rattle.drive_pins.specs.declared.Home.{Home}
+use Rattle.drive_pins.specs.declared.Home.the-variants.{Nowhere, Only631, Others, SlotB, SlotC}
+use Rattle.drive_pins.specs.declared.PinKind.{PinKind}
+use Rattle.drive_pins.specs.declared.PinKind.the-variants.{Input, OutputWritten, OutputRead}
 use Rattle.drive.specs.declared.Presence.{Presence}
 use Rattle.drive.specs.declared.Presence.the-variants.{Present, Never}
 use Rattle.drive.proofs.Cases.{no-cycle, past-types, by-least}
 use Rattle.drive.proofs.Below.{both, left, right, at}
-use Rattle.pins.proofs.Homes.{read-other}
+use Rattle.drive_pins.proofs.Homes.{read-other}
 
 -- ---- boards
 

@@ -3,10 +3,10 @@ use Prim.Native.Nat.{ℕ}
 use mathlib.Core.Path.{_≡_}
 use mathlib.Core.Bool.{Bool, true, false, _&&_, not}
 use lib.Dec.{eqb}
-use Rattle.pins.specs.declared.Home.{Home}
-use Rattle.pins.specs.declared.Home.the-variants.{Nowhere, Only631, Others, SlotB, SlotC}
-use Rattle.pins.specs.Homes.{homeOf}
-use Rattle.pins.specs.declared.PinKind.{PinKind}
+use Rattle.drive_pins.specs.declared.Home.{Home}
+use Rattle.drive_pins.specs.declared.Home.the-variants.{Nowhere, Only631, Others, SlotB, SlotC}
+use Rattle.drive_pins.specs.Homes.{homeOf}
+use Rattle.drive_pins.specs.declared.PinKind.{PinKind}
 use Rattle.drive.specs.Types.{takesB, takesC}
 use Rattle.drive.specs.Pins.{pinOf}
 use Rattle.drive.specs.declared.Drive.{Drive}

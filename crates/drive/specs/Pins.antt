@@ -2,10 +2,10 @@
 use Prim.Native.Nat.{ℕ}
 use mathlib.Core.Bool.{Bool, cond}
 use lib.Dec.{eqb, ltb}
-use Rattle.pins.specs.Homes.{homeOf}
-use Rattle.pins.specs.declared.Home.{Home}
-use Rattle.pins.specs.declared.Home.the-variants.{Nowhere, Only631, Others, SlotB, SlotC}
-use Rattle.pins.specs.declared.PinKind.{PinKind}
+use Rattle.drive_pins.specs.Homes.{homeOf}
+use Rattle.drive_pins.specs.declared.Home.{Home}
+use Rattle.drive_pins.specs.declared.Home.the-variants.{Nowhere, Only631, Others, SlotB, SlotC}
+use Rattle.drive_pins.specs.declared.PinKind.{PinKind}
 use Rattle.drive.specs.Types.{types, type631, takesB, takesC}
 use Rattle.drive.specs.declared.Drive.{Drive}
 use Rattle.drive.specs.declared.Presence.{Presence}

@@ -1,6 +1,6 @@
 // The drives and their pins and option boards: document 01, "Drive and pins". Crate `pins` has the rows of pins.
-use pins::Home;
-use pins::PinKind;
+use drive_pins::Home;
+use drive_pins::PinKind;
 ghost use mathlib.Core.Path.{_≡_};
 ghost use Rattle.drive.specs.Types.{cycleOf, takes, takesB, takesC};
 ghost use Rattle.drive.specs.Pins.{onBoard, presence, pinOf};
@@ -76,7 +76,7 @@ impl Drive {
     pub fn pin(self, kind: PinKind, pin: u8) -> Presence
         ensures { λ r. ⌜ r ≡ pinOf self kind pin ⌝ }
     {
-        found(self, pins::home_of(kind, pin))
+        found(self, drive_pins::home_of(kind, pin))
     }
 }
 

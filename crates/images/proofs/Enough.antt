@@ -4,12 +4,12 @@ use mathlib.Core.List.{List}
 use Prim.Native.Nat.{ℕ, _/_, _≤_, min}
 use native.Mathlib.Omega.{arith}
 use lib.ListN.{length, take}
-use Rattle.number.proofs.Choice.{by}
-use Rattle.report.proofs.Beginning.{beginning, beginning-blocks}
-use Rattle.report.specs.Input.{inputLength}
+use Rattle.image_number.proofs.Choice.{by}
+use Rattle.text_verdict.proofs.Beginning.{beginning, beginning-blocks}
+use Rattle.text_verdict.specs.Input.{inputLength}
 use Rattle.walk.specs.Verdict.{verdictOf, acceptedBlocks}
-use Rattle.hex.specs.Hex.{bytesOf, allBytes}
-use Rattle.hex.proofs.Bytes.{first-bytes}
+use Rattle.text_hex.specs.Hex.{bytesOf, allBytes}
+use Rattle.text_hex.proofs.Bytes.{first-bytes}
 
 -- as many bytes as there is room for: all of them, or the first of more than any image has
 module _ {A : Type 0} (f : List ℕ → A) (begins : (image : List ℕ) (n : ℕ) → inputLength ≤ n → f (take n image) ≡ f image) where

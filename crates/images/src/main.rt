@@ -9,9 +9,9 @@ ghost use Prim.Native.Nat.{_+_, _*_, _%_, _<_};
 ghost use lib.ListN.{length};
 ghost use Rattle.limits.specs.Limits.{marksLength};
 ghost use Rattle.walk.specs.Verdict.{verdictOf, acceptedBlocks};
-ghost use Rattle.hex.specs.Hex.{allBytes};
-ghost use Rattle.hex.specs.Lines.{linesOf};
-ghost use Rattle.report.specs.Input.{zeros};
+ghost use Rattle.text_hex.specs.Hex.{allBytes};
+ghost use Rattle.text_hex.specs.Lines.{linesOf};
+ghost use Rattle.text_verdict.specs.Input.{zeros};
 ghost use Rattle.images.specs.Part.{partOf};
 
 // Room for the whole input.
@@ -67,9 +67,9 @@ fn row(line: &[u8]) -> Shown
     ensures { λ r. ⌜ r .verdict ≡ verdictOf (allBytes (now (line .entry))) marksLength ⌝ }
     ensures { λ r. ⌜ r .blocks ≡ partOf (acceptedBlocks (allBytes (now (line .entry))) marksLength) ⌝ }
 {
-    let mut image = report::input();
-    let n = hex::decode(line, &mut image);
-    let judged = report::judge(&image[..n]);
+    let mut image = text_verdict::input();
+    let n = text_hex::decode(line, &mut image);
+    let judged = text_verdict::judge(&image[..n]);
     let verdict = judged.verdict;
     let blocks = show_blocks(blocks_of(&image[..n]));
     Shown { verdict, blocks }
@@ -79,8 +79,8 @@ fn row(line: &[u8]) -> Shown
 fn blocks_of(image: &[u8]) -> Blocks
     ensures { λ r. ⌜ r ≡ partOf (acceptedBlocks (now (image .entry)) marksLength) ⌝ }
 {
-    let mut marks = report::marks();
-    summed(loader::blocks(image, &mut marks))
+    let mut marks = text_verdict::marks();
+    summed(walk_search::blocks(image, &mut marks))
 }
 
 // How many bytes, and their sum.
@@ -109,8 +109,8 @@ fn show_blocks(b: Blocks) -> Blocks
     ensures { λ r. ⌜ r ≡ b ⌝ }
 {
     if 0 < b.length {
-        print::show(b"blocks ", b.length as u64);
-        print::show(b" sum ", b.check);
+        text_print::show(b"blocks ", b.length as u64);
+        text_print::show(b" sum ", b.check);
         io::write_all(STDOUT_FILENO, b"\n");
     }
     b

@@ -1,5 +1,5 @@
 -- The limits, each once, as the definitions have them; src/lib.rt has the code's. The reference machine has document 01's own numbers of tasks, cells and
--- inputs, the table of cases those that it names, so that a wrong limit is not wrong on both sides; cases/proofs/Limits.antt holds each.
+-- inputs, the table of cases those that it names, so that a wrong limit is not wrong on both sides; proved_cases/proofs/Limits.antt holds each.
 use Prim.Native.Nat.{ℕ, _+_, _*_}
 use mathlib.Core.Bool.{Bool, _&&_}
 use lib.Dec.{ltb, leb}

@@ -1,5 +1,5 @@
 // The limits, each once: the code's here, the definitions' beside them in specs/Limits.antt. A crate that has one of these numbers takes it from here;
-// the contracts, which name the definitions, hold the two together, and cases/proofs/Limits.antt holds each against document 01's number.
+// the contracts, which name the definitions, hold the two together, and proved_cases/proofs/Limits.antt holds each against document 01's number.
 ghost use mathlib.Core.Path.{_≡_};
 ghost use Rattle.limits.specs.Limits.{upTo};
 

@@ -4,16 +4,16 @@ use mathlib.Core.Path.{_≡_, refl, sym, ap}
 use mathlib.Core.Bool.{true}
 use mathlib.Core.List.{List, _∷_}
 use Rattle.limits.specs.Limits.{mostBlocks}
-use Rattle.outcome.specs.Outcome.{done}
-use Rattle.image.specs.Scan.{headerOf, blocksOf}
-use Rattle.flow.specs.Terms.{Terms, termsOf}
-use Rattle.number.proofs.Choice.{clash}
-use Rattle.image.proofs.HeaderLaws.{header-good}
-use Rattle.fault.specs.Fault.{isForeign, isBad}
-use Rattle.flow.specs.Flow.{flowOf}
-use Rattle.point.specs.declared.Point.{Point}
-use Rattle.fault.specs.declared.Fault.{Fault}
-use Rattle.fault.specs.declared.Fault.the-variants.{Fine, Foreign, Forbidden, TooDeep, NoCall, PastEnd}
+use Rattle.image_result.specs.Outcome.{done}
+use Rattle.image_header.specs.Scan.{headerOf, blocksOf}
+use Rattle.walk_flow.specs.Terms.{Terms, termsOf}
+use Rattle.image_number.proofs.Choice.{clash}
+use Rattle.image_header.proofs.HeaderLaws.{header-good}
+use Rattle.walk_fault.specs.Fault.{isForeign, isBad}
+use Rattle.walk_flow.specs.Flow.{flowOf}
+use Rattle.walk_point.specs.declared.Point.{Point}
+use Rattle.walk_fault.specs.declared.Fault.{Fault}
+use Rattle.walk_fault.specs.declared.Fault.the-variants.{Fine, Foreign, Forbidden, TooDeep, NoCall, PastEnd}
 use Rattle.walk.specs.Program.{commandAt, faultAt, blockNumber}
 use Rattle.walk.specs.Walk.{Walk, Reaches}
 use Rattle.walk.specs.Graph.{In}

@@ -10,11 +10,11 @@ use lib.Dec.{eqb}
 use lib.ListN.{length, getD}
 use borrow.Author.Tests.{eqb-true, eq-eqb}
 use Rattle.limits.specs.Limits.{taskCount, mostDepth}
-use Rattle.flow.specs.Terms.{termsOf}
-use Rattle.image.specs.Scan.{headerOf, blocksOf}
-use Rattle.number.proofs.Choice.{clash}
-use Rattle.fault.specs.Fault.{faultNumber}
-use Rattle.fault.specs.declared.Fault.{Fault}
+use Rattle.walk_flow.specs.Terms.{termsOf}
+use Rattle.image_header.specs.Scan.{headerOf, blocksOf}
+use Rattle.image_number.proofs.Choice.{clash}
+use Rattle.walk_fault.specs.Fault.{faultNumber}
+use Rattle.walk_fault.specs.declared.Fault.{Fault}
 use Rattle.walk.specs.Walk.{starts}
 use Rattle.state.specs.State.{runs, ended, halted, taskAt}
 use Rattle.state.specs.declared.Task.{Task}

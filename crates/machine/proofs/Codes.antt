@@ -7,18 +7,18 @@ use native.Mathlib.Decide.{ℕ-discrete}
 use lib.Dec.{eqb}
 use borrow.Author.Tests.{eqb-true, eqb-false, eq-eqb, not-true}
 use Rattle.limits.specs.Limits.{bias, plc, mathematics}
-use Rattle.number.proofs.Choice.{clash, both}
-use Rattle.rows.specs.Rows.{rowOf}
-use Rattle.rows.specs.declared.FlowKind.{FlowKind}
-use Rattle.rows.specs.declared.FlowKind.the-variants as kind
-use Rattle.rows.proofs.FlowKinds.{is, is-true}
-use Rattle.operands.specs.declared.Command.{Command}
-use Rattle.flow.specs.Terms.{Terms}
-use Rattle.flow.specs.Flow.{flowBy, flowOf}
-use Rattle.flow.specs.Tasks.{foreign}
-use Rattle.flow.specs.declared.Flow.{Flow}
-use Rattle.flow.specs.declared.Flow.the-variants as flow
-use Rattle.flow.proofs.Laws.{foreign-exactly}
+use Rattle.image_number.proofs.Choice.{clash, both}
+use Rattle.command_table.specs.Rows.{rowOf}
+use Rattle.command_table.specs.declared.FlowKind.{FlowKind}
+use Rattle.command_table.specs.declared.FlowKind.the-variants as kind
+use Rattle.command_table.proofs.FlowKinds.{is, is-true}
+use Rattle.command_operands.specs.declared.Command.{Command}
+use Rattle.walk_flow.specs.Terms.{Terms}
+use Rattle.walk_flow.specs.Flow.{flowBy, flowOf}
+use Rattle.walk_flow.specs.Tasks.{foreign}
+use Rattle.walk_flow.specs.declared.Flow.{Flow}
+use Rattle.walk_flow.specs.declared.Flow.the-variants as flow
+use Rattle.walk_flow.proofs.Laws.{foreign-exactly}
 use Rattle.walk.specs.Walk.{starts}
 use Rattle.walk.proofs.Moves.{Flows, flowing, startF}
 use Rattle.machine.specs.Each.{Calls, noCalls, withCalls, withoutLatest, counts}

@@ -8,16 +8,16 @@ use lib.IntN.{pos}
 use mir.Syntax.{w32}
 use mir.Val.{SFits}
 use mir.ValLaws.{toZ-fits}
-use Rattle.le.specs.LittleEndian.{leNumber}
-use Rattle.image.specs.declared.Header.{Header}
-use Rattle.rows.specs.Rows.{rowOf}
-use Rattle.rows.specs.declared.Row.{Row}
-use Rattle.rows.specs.declared.Layout.{Layout}
-use Rattle.rows.specs.declared.Layout.the-variants.{Bare, Byte, Word, Pair, Triple, TripleWord, ByteWord, Value, ByteValue, PairValue, ValueJump}
-use Rattle.operands.specs.Operands.{byteAt, wordAt, valueAt, laidOut, operands, unusedZero}
-use Rattle.command.specs.Judged.{blockFault, rowFault, commandFault, operandFault, ifPresent, blockFaultNumber, inRange, devicePresence}
-use Rattle.operands.specs.declared.Command.{Command}
-use Rattle.command.specs.declared.BlockFault.the-variants.{Fine, NotCarried, OutOfRange, NotZero}
+use Rattle.num_le.specs.LittleEndian.{leNumber}
+use Rattle.image_header.specs.declared.Header.{Header}
+use Rattle.command_table.specs.Rows.{rowOf}
+use Rattle.command_table.specs.declared.Row.{Row}
+use Rattle.command_table.specs.declared.Layout.{Layout}
+use Rattle.command_table.specs.declared.Layout.the-variants.{Bare, Byte, Word, Pair, Triple, TripleWord, ByteWord, Value, ByteValue, PairValue, ValueJump}
+use Rattle.command_operands.specs.Operands.{byteAt, wordAt, valueAt, laidOut, operands, unusedZero}
+use Rattle.command_judge.specs.Judged.{blockFault, rowFault, commandFault, operandFault, ifPresent, blockFaultNumber, inRange, devicePresence}
+use Rattle.command_operands.specs.declared.Command.{Command}
+use Rattle.command_judge.specs.declared.BlockFault.the-variants.{Fine, NotCarried, OutOfRange, NotZero}
 use Rattle.drive.specs.declared.Presence.{Presence}
 use Rattle.drive.specs.declared.Presence.the-variants as presence
 use Rattle.machine.proofs.Laws.{Ranged, Fit}

@@ -3,9 +3,9 @@ use Prim.Native.Nat.{ℕ}
 use mathlib.Core.Path.{_≡_, subst}
 use mathlib.Core.Bool.{true}
 use mathlib.Core.Logic.{_↔_}
-use Rattle.rows.specs.Rows.{rowOf}
-use Rattle.arith.specs.Ops.{quotient}
-use Rattle.operands.specs.declared.Command.{Command}
+use Rattle.command_table.specs.Rows.{rowOf}
+use Rattle.num_arith.specs.Ops.{quotient}
+use Rattle.command_operands.specs.declared.Command.{Command}
 use Rattle.state.specs.declared.Values.{Values}
 use Rattle.machine.specs.Given.{Given}
 use Rattle.machine.specs.Effect.{divides, deedIn, effectOf}

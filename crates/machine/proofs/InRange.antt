@@ -9,7 +9,7 @@ use borrow.Author.Tests.{leb-true, ltb-true}
 use mir.Syntax.{w32}
 use mir.Val.{SFits}
 use Rattle.limits.specs.Limits.{mostLevel, mostRamp, upTo}
-use Rattle.number.proofs.Choice.{clash, both}
+use Rattle.image_number.proofs.Choice.{clash, both}
 use Rattle.state.specs.Good.{InRange}
 use Rattle.machine.specs.Given.{level}
 use Rattle.machine.specs.Effect.{bit, natural, within}

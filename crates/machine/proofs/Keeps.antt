@@ -10,17 +10,17 @@ use lib.ListN.{length, getD, set, drop, length-set}
 use lib.Seq.{getD-set-same, getD-set-other, getD-drop}
 use borrow.Author.Tests.{eqb-true, eqb-false, leb-false, ltb-true}
 use Rattle.limits.specs.Limits.{bias, taskCount, mostDepth, inputsLength}
-use Rattle.le.specs.LittleEndian.{Bytes}
-use Rattle.outcome.specs.Outcome.{done}
-use Rattle.image.specs.Scan.{headerOf, blocksOf}
-use Rattle.image.specs.declared.Header.{Header}
-use Rattle.number.proofs.Choice.{both}
-use Rattle.operands.specs.declared.Command.{Command}
-use Rattle.flow.specs.Flow.{flowOf}
-use Rattle.fault.specs.Fault.{faultNumber}
-use Rattle.point.specs.declared.Point.{Point}
-use Rattle.fault.specs.declared.Fault.{Fault}
-use Rattle.fault.specs.declared.Fault.the-variants.{Fine, Foreign, Forbidden, TooDeep, NoCall, PastEnd}
+use Rattle.num_le.specs.LittleEndian.{Bytes}
+use Rattle.image_result.specs.Outcome.{done}
+use Rattle.image_header.specs.Scan.{headerOf, blocksOf}
+use Rattle.image_header.specs.declared.Header.{Header}
+use Rattle.image_number.proofs.Choice.{both}
+use Rattle.command_operands.specs.declared.Command.{Command}
+use Rattle.walk_flow.specs.Flow.{flowOf}
+use Rattle.walk_fault.specs.Fault.{faultNumber}
+use Rattle.walk_point.specs.declared.Point.{Point}
+use Rattle.walk_fault.specs.declared.Fault.{Fault}
+use Rattle.walk_fault.specs.declared.Fault.the-variants.{Fine, Foreign, Forbidden, TooDeep, NoCall, PastEnd}
 use Rattle.walk.specs.Program.{blockAt, commandAt, faultAt, blockNumber}
 use Rattle.walk.specs.Graph.{In}
 use Rattle.walk.specs.Successors.{goes as walked, flowAt, successors}
@@ -32,7 +32,7 @@ use Rattle.state.specs.declared.Task.{Task}
 use Rattle.state.specs.declared.Values.{Values}
 use Rattle.state.specs.declared.State.{State}
 use Rattle.state.proofs.Fresh.{getD-replicate}
-use Rattle.flow.specs.Terms.{under}
+use Rattle.walk_flow.specs.Terms.{under}
 use Rattle.machine.specs.Given.{Inputs, level}
 use Rattle.machine.specs.Effect.{effectOf}
 use Rattle.machine.specs.Engine.{goTo, stayWith, callTo, returnFrom, startAnew, restarted, stopped, tasksAfter, pointOf, given, performed, isLoaded, blockFits, waitFits, fits, refuse, taskStep, step, termsHeld}

@@ -11,16 +11,16 @@ use borrow.Author.Tests.{eqb-true, eqb-false, not-false}
 use mir.Syntax.{w32}
 use mir.Val.{SFits}
 use Rattle.limits.specs.Limits.{mostTime, longestWait}
-use Rattle.arith.specs.Wrap.{wrap}
-use Rattle.arith.specs.Ops.{quotient, eqZ}
-use Rattle.arith.proofs.Cut.{wrap-fits}
-use Rattle.arith.specs.declared.Quotient.the-variants.{Value, ByZero}
-use Rattle.number.proofs.Choice.{clash}
+use Rattle.num_arith.specs.Wrap.{wrap}
+use Rattle.num_arith.specs.Ops.{quotient, eqZ}
+use Rattle.num_arith.proofs.Cut.{wrap-fits}
+use Rattle.num_arith.specs.declared.Quotient.the-variants.{Value, ByZero}
+use Rattle.image_number.proofs.Choice.{clash}
 use Rattle.walk.proofs.Choice.{neither}
-use Rattle.rows.specs.Rows.{rowOf}
-use Rattle.operands.specs.declared.Command.{Command}
-use Rattle.command.specs.Judged.{inRange}
-use Rattle.flow.specs.Flow.{flowBy}
+use Rattle.command_table.specs.Rows.{rowOf}
+use Rattle.command_operands.specs.declared.Command.{Command}
+use Rattle.command_judge.specs.Judged.{inRange}
+use Rattle.walk_flow.specs.Flow.{flowBy}
 use Rattle.state.specs.State.{firstAxis, axisOf, withAxis, withMark}
 use Rattle.state.specs.Wait.{due}
 use Rattle.state.specs.Good.{GoodWait, GoodAxis, GoodValues, InRange}

@@ -7,9 +7,9 @@ use mathlib.Core.List.{[], _∷_}
 use lib.Dec.{eqb, leb}
 use borrow.Author.Tests.{ne-eqb}
 use Rattle.limits.specs.Limits.{mostDepth}
-use Rattle.point.specs.Fault.{point, tooDeep, noCall}
-use Rattle.point.specs.declared.Point.{Point}
-use Rattle.flow.specs.declared.Flow.{Flow}
+use Rattle.walk_point.specs.Fault.{point, tooDeep, noCall}
+use Rattle.walk_point.specs.declared.Point.{Point}
+use Rattle.walk_flow.specs.declared.Flow.{Flow}
 use Rattle.walk.specs.Graph.{In}
 use Rattle.walk.specs.Successors.{goes}
 use Rattle.machine.specs.Ways.{May}

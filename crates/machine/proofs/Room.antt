@@ -7,11 +7,11 @@ use native.Mathlib.Omega.{arith}
 use lib.Dec.{eqb}
 use borrow.Author.Tests.{eqb-true, eqb-false, leb-false}
 use Rattle.limits.specs.Limits.{mostDepth}
-use Rattle.number.proofs.Choice.{both}
-use Rattle.flow.specs.Terms.{Terms}
-use Rattle.operands.specs.declared.Command.{Command}
-use Rattle.flow.specs.Flow.{flowOf}
-use Rattle.fault.specs.Fault.{faultNumber}
+use Rattle.image_number.proofs.Choice.{both}
+use Rattle.walk_flow.specs.Terms.{Terms}
+use Rattle.command_operands.specs.declared.Command.{Command}
+use Rattle.walk_flow.specs.Flow.{flowOf}
+use Rattle.walk_fault.specs.Fault.{faultNumber}
 use Rattle.walk.specs.Program.{commandAt, faultAt, blockNumber}
 use Rattle.walk.proofs.Within.{Passes, passes}
 use Rattle.state.specs.declared.Task.{Task}

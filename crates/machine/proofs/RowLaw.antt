@@ -9,13 +9,13 @@ use lib.IntN.{ℤ, pos, negsuc, _+ℤ_, _-ℤ_, _*ℤ_}
 use borrow.Author.Tests.{leb-true}
 use mir.Syntax.{w32}
 use Rattle.limits.specs.Limits.{bias, plc, mathematics, mostLevel, mostSpeed, mostRamp, mostTime, longestWait}
-use Rattle.arith.specs.Wrap.{wrap}
-use Rattle.arith.specs.Ops.{holds, bitAt, eqZ}
-use Rattle.arith.proofs.Cut.{wrap-fits}
-use Rattle.number.proofs.Choice.{clash, both}
-use Rattle.rows.specs.Rows.{rows, rowIn, rowOf}
-use Rattle.operands.specs.declared.Command.{Command}
-use Rattle.command.specs.Judged.{inRange}
+use Rattle.num_arith.specs.Wrap.{wrap}
+use Rattle.num_arith.specs.Ops.{holds, bitAt, eqZ}
+use Rattle.num_arith.proofs.Cut.{wrap-fits}
+use Rattle.image_number.proofs.Choice.{clash, both}
+use Rattle.command_table.specs.Rows.{rows, rowIn, rowOf}
+use Rattle.command_operands.specs.declared.Command.{Command}
+use Rattle.command_judge.specs.Judged.{inRange}
 use Rattle.state.specs.State.{withFlag, withOutput, firstAxis, axisOf, withMark, withPosition, withSpeed, withAcceleration, withDeceleration}
 use Rattle.state.proofs.Setters.{flag-good, output-good, good-axis, mark-good, position-good, speed-good, acceleration-good, deceleration-good}
 use Rattle.state.specs.declared.Values.{Values}

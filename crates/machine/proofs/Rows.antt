@@ -6,11 +6,11 @@ use mathlib.Core.Logic.{⊎-elim}
 use mathlib.Core.List.{List, [], _∷_}
 use lib.Dec.{T, eqb}
 use borrow.Author.Tests.{eqb-true}
-use Rattle.number.proofs.Choice.{clash}
-use Rattle.rows.specs.Rows.{rows, rowIn, rowOf, noRow}
-use Rattle.rows.specs.declared.Row.{Row as Columns}
-use Rattle.rows.proofs.Laws.{every, every-row}
-use Rattle.operands.specs.declared.Command.{Command}
+use Rattle.image_number.proofs.Choice.{clash}
+use Rattle.command_table.specs.Rows.{rows, rowIn, rowOf, noRow}
+use Rattle.command_table.specs.declared.Row.{Row as Columns}
+use Rattle.command_table.proofs.Laws.{every, every-row}
+use Rattle.command_operands.specs.declared.Command.{Command}
 use Rattle.machine.specs.Effect.{Deed, Row, deedIn}
 use Rattle.machine.specs.Effect.{rows as deeds}
 use Rattle.machine.proofs.Every.{All}

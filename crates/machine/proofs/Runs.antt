@@ -5,7 +5,7 @@ use mathlib.Core.List.{List, [], _∷_}
 use native.Mathlib.Omega.{arith}
 use lib.ListN.{getD}
 use Rattle.limits.specs.Limits.{taskCount}
-use Rattle.le.specs.LittleEndian.{Bytes}
+use Rattle.num_le.specs.LittleEndian.{Bytes}
 use Rattle.walk.specs.Walk.{Walk}
 use Rattle.state.specs.State.{runs, noTask, taskAt, fresh, freshValues, running, neverStarted}
 use Rattle.state.specs.declared.Values.{Values}
@@ -21,7 +21,7 @@ use Rattle.machine.proofs.Accepted.{Accepted, accepted, hd, body, withi
 use Rattle.machine.proofs.Sound.{Sound, never-sound}
 use Rattle.machine.proofs.StepCase.{Agree}
 use Rattle.machine.proofs.StepAgrees.{step-same}
-use Rattle.image.proofs.HeaderLaws.{header-good}
+use Rattle.image_header.proofs.HeaderLaws.{header-good}
 use Rattle.walk.proofs.Judged.{is-done}
 use Rattle.state.specs.Good.{Good}
 use Rattle.state.proofs.Fresh.{fresh-good}

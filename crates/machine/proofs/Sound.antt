@@ -11,8 +11,8 @@ use lib.ListN.{length, getD, set, length-set}
 use lib.Seq.{getD-set-same, getD-set-other}
 use borrow.Author.Tests.{eqb-true}
 use Rattle.limits.specs.Limits.{bias, mostDepth}
-use Rattle.flow.specs.Terms.{Terms}
-use Rattle.point.specs.Fault.{point}
+use Rattle.walk_flow.specs.Terms.{Terms}
+use Rattle.walk_point.specs.Fault.{point}
 use Rattle.walk.specs.Program.{commandAt}
 use Rattle.walk.specs.Walk.{Walk, Reaches}
 use Rattle.state.specs.State.{runs, neverStarted}

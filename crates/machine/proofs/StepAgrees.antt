@@ -4,7 +4,7 @@ use mathlib.Core.Path.{_≡_, refl}
 use mathlib.Core.Bool.{true}
 use mathlib.Core.List.{List}
 use lib.ListN.{length}
-use Rattle.flow.specs.Flow.{flowOf}
+use Rattle.walk_flow.specs.Flow.{flowOf}
 use Rattle.state.specs.State.{taskAt}
 use Rattle.state.specs.declared.Task.{Task}
 use Rattle.state.specs.declared.State.{State}
@@ -12,7 +12,7 @@ use Rattle.machine.specs.Given.{Inputs}
 use Rattle.machine.specs.Engine.{pointOf, answerTo, performed, step}
 use Rattle.machine.specs.declared.Out.{Out}
 use Rattle.machine.specs.Reference.{Thread, Machine, Did, replies, does, turn}
-use Rattle.operands.specs.declared.Command.{Command}
+use Rattle.command_operands.specs.declared.Command.{Command}
 use Rattle.machine.specs.Each.{commandOf}
 use Rattle.machine.specs.Ways.{May}
 use Rattle.machine.proofs.Laws.{timeless}

@@ -9,17 +9,17 @@ use lib.Dec.{T, eqb, ltb}
 use lib.ListN.{length, getD}
 use borrow.Author.Tests.{eqb-true, eqb-false, ltb-true, ltb-false, lt-ltb, le-ltb}
 use Rattle.limits.specs.Limits.{taskCount, inputsLength}
-use Rattle.image.specs.Scan.{headerOf, blocksOf}
-use Rattle.flow.specs.Terms.{Terms}
-use Rattle.number.proofs.Choice.{clash}
-use Rattle.rows.specs.Rows.{rows, rowIn, rowOf, noRow}
-use Rattle.rows.specs.declared.Row.{Row as Columns}
-use Rattle.rows.specs.declared.FlowKind.the-variants.{Nothing}
-use Rattle.rows.proofs.Laws.{every, every-row}
-use Rattle.rows.proofs.FlowKinds.{is}
-use Rattle.operands.specs.declared.Command.{Command}
-use Rattle.flow.specs.Flow.{flowOf}
-use Rattle.flow.specs.Tasks.{permitted}
+use Rattle.image_header.specs.Scan.{headerOf, blocksOf}
+use Rattle.walk_flow.specs.Terms.{Terms}
+use Rattle.image_number.proofs.Choice.{clash}
+use Rattle.command_table.specs.Rows.{rows, rowIn, rowOf, noRow}
+use Rattle.command_table.specs.declared.Row.{Row as Columns}
+use Rattle.command_table.specs.declared.FlowKind.the-variants.{Nothing}
+use Rattle.command_table.proofs.Laws.{every, every-row}
+use Rattle.command_table.proofs.FlowKinds.{is}
+use Rattle.command_operands.specs.declared.Command.{Command}
+use Rattle.walk_flow.specs.Flow.{flowOf}
+use Rattle.walk_flow.specs.Tasks.{permitted}
 use Rattle.walk.specs.Program.{commandAt}
 use Rattle.walk.specs.Walk.{Reaches}
 use Rattle.walk.proofs.Moves.{carried}
@@ -29,7 +29,7 @@ use Rattle.state.specs.declared.Task.{Task}
 use Rattle.state.specs.declared.State.{State}
 use Rattle.machine.specs.Given.{Inputs, level}
 use Rattle.machine.specs.Effect.{effectOf}
-use Rattle.image.proofs.Numbers.{is-same}
+use Rattle.image_header.proofs.Numbers.{is-same}
 use Rattle.machine.specs.Engine.{pointOf, given, performed, fits, refuse, taskStep, step, termsHeld}
 use Rattle.machine.specs.Reference.{Thread, Machine, idle, does, stays, lost, tries, acts, turn}
 use Rattle.machine.specs.Alike.{returnsOf, SameTask}

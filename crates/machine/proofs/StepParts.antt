@@ -11,14 +11,14 @@ use lib.ListN.{length, getD, set, length-set}
 use lib.Seq.{getD-set-same, getD-set-other}
 use borrow.Author.Tests.{eqb-false, eq-eqb, ne-eqb}
 use Rattle.limits.specs.Limits.{taskCount}
-use Rattle.number.proofs.Choice.{clash}
-use Rattle.rows.specs.Rows.{rowOf}
-use Rattle.operands.specs.declared.Command.{Command}
-use Rattle.flow.specs.Flow.{flowOf}
-use Rattle.point.specs.Fault.{noCall}
-use Rattle.point.specs.declared.Point.{Point}
-use Rattle.flow.specs.declared.Flow.{Flow}
-use Rattle.flow.specs.declared.Flow.the-variants as flow
+use Rattle.image_number.proofs.Choice.{clash}
+use Rattle.command_table.specs.Rows.{rowOf}
+use Rattle.command_operands.specs.declared.Command.{Command}
+use Rattle.walk_flow.specs.Flow.{flowOf}
+use Rattle.walk_point.specs.Fault.{noCall}
+use Rattle.walk_point.specs.declared.Point.{Point}
+use Rattle.walk_flow.specs.declared.Flow.{Flow}
+use Rattle.walk_flow.specs.declared.Flow.the-variants as flow
 use Rattle.walk.specs.Program.{blockAt, commandAt}
 use Rattle.walk.specs.Walk.{starts}
 use Rattle.walk.proofs.Moves.{Flows, carried}

@@ -9,15 +9,15 @@ use lib.ListN.{length, getD, set, length-set}
 use lib.Seq.{getD-set-same, getD-set-other}
 use borrow.Author.Tests.{eqb-false, leb-false}
 use Rattle.limits.specs.Limits.{taskCount, mostDepth}
-use Rattle.flow.specs.Terms.{Terms}
-use Rattle.flow.specs.Flow.{flowOf}
-use Rattle.point.specs.Fault.{point}
-use Rattle.point.specs.declared.Point.{Point}
+use Rattle.walk_flow.specs.Terms.{Terms}
+use Rattle.walk_flow.specs.Flow.{flowOf}
+use Rattle.walk_point.specs.Fault.{point}
+use Rattle.walk_point.specs.declared.Point.{Point}
 use Rattle.walk.specs.Program.{commandAt}
 use Rattle.walk.specs.Walk.{Reaches}
 use Rattle.walk.specs.Graph.{In}
 use Rattle.walk.specs.Successors.{goes as walked}
-use Rattle.operands.specs.declared.Command.{Command}
+use Rattle.command_operands.specs.declared.Command.{Command}
 use Rattle.state.specs.State.{runs, ended, halted, noTask}
 use Rattle.state.specs.declared.Task.{Task}
 use Rattle.machine.specs.Engine.{goTo, stayWith, callTo, returnFrom, startAnew, restarted, stopped, tasksAfter, pointOf}

@@ -8,8 +8,8 @@ use mathlib.Core.List.{List, [], _∷_}
 use lib.Dec.{eqb}
 use lib.IntN.{pos}
 use Rattle.limits.specs.Limits.{bias, plc, mathematics, taskCount, mostSpeed, mostRamp, mostTime}
-use Rattle.image.specs.Scan.{blocksOf}
-use Rattle.operands.specs.declared.Command.{Command}
+use Rattle.image_header.specs.Scan.{blocksOf}
+use Rattle.command_operands.specs.declared.Command.{Command}
 use Rattle.walk.specs.Program.{commandAt}
 use Rattle.walk.specs.Walk.{starts}
 use Rattle.state.specs.State.{runs, ended, halted, taskAt}

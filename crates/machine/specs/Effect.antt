@@ -10,12 +10,12 @@ use lib.IntN.{ℤ, pos, negsuc, _+ℤ_, _-ℤ_, _*ℤ_}
 use lib.Signed.{leZ}
 use mir.Syntax.{w32}
 use Rattle.limits.specs.Limits.{bias, plc, mathematics, mostSpeed, mostRamp, mostTime}
-use Rattle.arith.specs.Wrap.{wrap}
-use Rattle.arith.specs.Ops.{quotient, holds, bitAt}
-use Rattle.arith.specs.declared.Quotient.{Quotient}
-use Rattle.arith.specs.declared.Quotient.the-variants.{Value, ByZero}
+use Rattle.num_arith.specs.Wrap.{wrap}
+use Rattle.num_arith.specs.Ops.{quotient, holds, bitAt}
+use Rattle.num_arith.specs.declared.Quotient.{Quotient}
+use Rattle.num_arith.specs.declared.Quotient.the-variants.{Value, ByZero}
 use Rattle.drive.specs.Types.{type637Plus}
-use Rattle.operands.specs.declared.Command.{Command}
+use Rattle.command_operands.specs.declared.Command.{Command}
 use Rattle.state.specs.State.{withVariable, withFlag, withOutput, firstAxis, axisOf, withAxis, withMark}
 use Rattle.state.specs.State.{withPosition, withSpeed, withAcceleration, withDeceleration}
 use Rattle.state.specs.Wait.{due}

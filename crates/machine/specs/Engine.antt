@@ -6,15 +6,15 @@ use mathlib.Core.List.{List}
 use lib.Dec.{eqb, ltb}
 use lib.ListN.{length, getD, set}
 use Rattle.limits.specs.Limits.{bias, taskCount, inputsLength}
-use Rattle.outcome.specs.Outcome.{done}
-use Rattle.image.specs.Rows.{sameHeader}
-use Rattle.image.specs.Scan.{headerOf, blocksOf}
-use Rattle.image.specs.declared.Header.{Header}
-use Rattle.image.specs.declared.reader.HeaderRead.{HeaderRead}
-use Rattle.flow.specs.Terms.{Terms, under}
-use Rattle.fault.specs.Fault.{faultNumber}
-use Rattle.point.specs.Fault.{point}
-use Rattle.point.specs.declared.Point.{Point}
+use Rattle.image_result.specs.Outcome.{done}
+use Rattle.image_header.specs.Rows.{sameHeader}
+use Rattle.image_header.specs.Scan.{headerOf, blocksOf}
+use Rattle.image_header.specs.declared.Header.{Header}
+use Rattle.image_header.specs.declared.reader.HeaderRead.{HeaderRead}
+use Rattle.walk_flow.specs.Terms.{Terms, under}
+use Rattle.walk_fault.specs.Fault.{faultNumber}
+use Rattle.walk_point.specs.Fault.{point}
+use Rattle.walk_point.specs.declared.Point.{Point}
 use Rattle.walk.specs.Program.{commandAt, faultAt, blockNumber}
 use Rattle.state.specs.State.{runs, ended, halted, emptyStack, task, taskAt, withNotes}
 use Rattle.state.specs.declared.Task.{Task}

@@ -7,8 +7,8 @@ use mathlib.Core.List.{List, [], _∷_}
 use lib.Dec.{eqb, ltb}
 use lib.ListN.{length, getD, set, replicate}
 use lib.IntN.{pos}
-use Rattle.image.specs.Scan.{headerOf, blocksOf}
-use Rattle.rows.specs.Rows.{rowOf}
+use Rattle.image_header.specs.Scan.{headerOf, blocksOf}
+use Rattle.command_table.specs.Rows.{rowOf}
 use Rattle.walk.specs.Program.{commandAt}
 use Rattle.state.specs.declared.Values.{Values}
 use Rattle.machine.specs.Given.{Inputs, level}

@@ -3,9 +3,9 @@ use Prim.Native.Nat.{ℕ, _<_, _≤_}
 use mathlib.Core.Path.{_≡_}
 use mathlib.Core.List.{List, [], _∷_}
 use Rattle.limits.specs.Limits.{mostDepth}
-use Rattle.image.specs.Scan.{headerOf, blocksOf}
-use Rattle.fault.specs.declared.Fault.the-variants.{Fine}
-use Rattle.flow.specs.Terms.{termsOf}
+use Rattle.image_header.specs.Scan.{headerOf, blocksOf}
+use Rattle.walk_fault.specs.declared.Fault.the-variants.{Fine}
+use Rattle.walk_flow.specs.Terms.{termsOf}
 use Rattle.walk.specs.Program.{faultAt, blockNumber}
 use Rattle.state.specs.declared.Task.{Task}
 use Rattle.state.specs.declared.State.{State}

@@ -5,8 +5,8 @@ use Prim.Native.Nat.{ℕ, _<_}
 use mathlib.Core.Path.{_≡_}
 use mathlib.Core.List.{List}
 use Rattle.limits.specs.Limits.{taskCount}
-use Rattle.le.specs.LittleEndian.{Bytes}
-use Rattle.image.specs.Scan.{headerOf}
+use Rattle.num_le.specs.LittleEndian.{Bytes}
+use Rattle.image_header.specs.Scan.{headerOf}
 use Rattle.walk.specs.Verdict.{verdictOf}
 use Rattle.walk.specs.declared.Verdict.the-variants as verdict
 use Rattle.state.specs.State.{runs, taskAt, fresh}

@@ -1,8 +1,8 @@
 -- Which outcomes a flow allows: what `flow` says that a command may continue with, and what the command's effect comes to. That every effect's
 -- outcome is in its flow is a law (proofs/RowLaw.antt).
 use Prim.Native.Nat.{ℕ}
-use Rattle.flow.specs.declared.Flow.{Flow}
-use Rattle.flow.specs.declared.Flow.the-variants as flow
+use Rattle.walk_flow.specs.declared.Flow.{Flow}
+use Rattle.walk_flow.specs.declared.Flow.the-variants as flow
 use Rattle.machine.specs.declared.Cause.{Cause}
 use Rattle.machine.specs.declared.Outcome.{Outcome}
 use Rattle.machine.specs.declared.Outcome.the-variants.{GoOn, Stay, Jump, Call, Return, Start, Restart, End, Halt}

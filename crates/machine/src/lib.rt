@@ -1,7 +1,7 @@
 // What a step hands out, and what a command comes to. No code here: specs/ says what commands do, what the engine's step and the reference machine
 // (document 01: plain machine) are, and proofs/ that they agree.
 use drive::Drive;
-use point::Point;
+use walk_point::Point;
 use state::Axis;
 use state::State;
 use state::Values;

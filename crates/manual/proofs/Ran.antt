@@ -5,10 +5,10 @@ use mathlib.Core.List.{List, _++_}
 use lib.ListN.{length, take, drop, replicate}
 use borrow.Author.Tests.{eq-eqb, ne-eqb}
 use Rattle.limits.specs.Limits.{marksLength, stateLength}
-use Rattle.report.specs.Input.{inputLength}
+use Rattle.text_verdict.specs.Input.{inputLength}
 use Rattle.bias.specs.Load.{Load, load}
-use Rattle.hex.specs.Hex.{bytesOf}
-use Rattle.hex.proofs.Bytes.{front}
+use Rattle.text_hex.specs.Hex.{bytesOf}
+use Rattle.text_hex.proofs.Bytes.{front}
 use Rattle.manual.specs.Run.{recordLength, after, begun, ran, fitting, spaceOf, behind, example}
 
 module _ (image steps : List ℕ) where

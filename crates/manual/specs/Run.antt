@@ -6,13 +6,13 @@ use lib.Dec.{eqb}
 use lib.ListN.{length, getD, set, replicate, take, drop}
 use Rattle.limits.specs.Limits.{cells, marksLength, stateLength}
 use Rattle.bytes.specs.Bytes.{indexOf}
-use Rattle.le.specs.LittleEndian.{leBytes}
-use Rattle.places.specs.Places.{numberAt, puts}
+use Rattle.num_le.specs.LittleEndian.{leBytes}
+use Rattle.state_bytes.specs.Places.{numberAt, puts}
 use Rattle.machine.specs.Given.{Inputs, inputsOf}
-use Rattle.report.specs.Input.{inputLength}
+use Rattle.text_verdict.specs.Input.{inputLength}
 use Rattle.bias.specs.Load.{Load, load}
 use Rattle.bias.specs.Step.{stepped}
-use Rattle.hex.specs.Hex.{bytesOf}
+use Rattle.text_hex.specs.Hex.{bytesOf}
 
 -- a record of steps: how often, the task, the start input, position reached, and four inputs that are high (0: none)
 abbrev pub recordLength : ℕ

@@ -8,7 +8,7 @@ ghost use mathlib.Core.Path.{_≡_};
 ghost use Prim.Native.Nat.{_+_, _/_, _≤_};
 ghost use lib.ListN.{length, set};
 ghost use Rattle.limits.specs.Limits.{stateLength};
-ghost use Rattle.hex.specs.Lines.{linesOf};
+ghost use Rattle.text_hex.specs.Lines.{linesOf};
 ghost use Rattle.machine.specs.Given.{inputsOf};
 ghost use Rattle.bias.specs.Step.{stepped};
 ghost use Rattle.manual.specs.Run.{recordLength, levelsAt, repeated, withByte, recorded, after, ran, spaceOf, behind, example};
@@ -36,7 +36,7 @@ fn examples(text: &[u8]) -> usize
     let mut i = 0;
     while i < text.len() {
         if text[i] == LINE_END {
-            print::show(b"example ", n as u64 + 1);
+            text_print::show(b"example ", n as u64 + 1);
             example(&text[from..i]);
             from = i + 1;
             n += 1;
@@ -51,11 +51,11 @@ fn example(line: &[u8]) -> [u8; STATE_LENGTH]
     ensures { λ r. ⌜ r ≡ example (now (line .entry)) ⌝ }
 {
     io::write_all(STDOUT_FILENO, b"\n");
-    let mut image = report::input();
+    let mut image = text_verdict::input();
     let mut steps = io::buffer();
     let k = space_of(line);
-    let n = hex::decode(&line[..k], &mut image);
-    let m = hex::decode(behind(line, k), &mut steps);
+    let n = text_hex::decode(&line[..k], &mut image);
+    let m = text_hex::decode(behind(line, k), &mut steps);
     let mut state = [0u8; STATE_LENGTH];
     run(&image[..n], &steps[..m], &mut state);
     state
@@ -84,9 +84,9 @@ fn run(image: &[u8], steps: &[u8], state: &mut [u8])
     requires { ⌜ length (now state) ≡ stateLength ⌝ }
     ensures { λ _. ⌜ now (state .exit) ≡ ran (now (image .entry)) (now (steps .entry)) (now (state .entry)) ⌝ }
 {
-    let mut marks = report::marks();
+    let mut marks = text_verdict::marks();
     let v = bias::bias_load(image, &mut marks, state);
-    if trace::show_load(v) != 0 {
+    if text_step::show_load(v) != 0 {
         return;
     }
     run_records(image, steps, state);
@@ -136,9 +136,9 @@ fn put_byte(steps: &[u8], at: usize, state: &mut [u8])
     let low = steps[at + 1];
     let high = steps[at + 2];
     let value = steps[at + 3];
-    let mut bytes = lend::copy_in(state);
-    places::put_byte(&mut bytes, le::read_u16([low, high]), value);
-    lend::copy_out(state, &bytes);
+    let mut bytes = state_copy::copy_in(state);
+    state_bytes::put_byte(&mut bytes, num_le::read_u16([low, high]), value);
+    state_copy::copy_out(state, &bytes);
 }
 
 // The input levels of the record at a place.
@@ -186,8 +186,8 @@ fn step(image: &[u8], task: u32, inputs: &[u8], start: u8, reached: u8, state: &
     requires { ⌜ length (now state) ≡ stateLength ⌝ }
     ensures { λ _. ⌜ now (state .exit) ≡ stepped (now (image .entry)) (now (state .entry)) (inputsOf task (now (inputs .entry)) start reached) .buffer ⌝ }
 {
-    let a = lend::copy_in(state);
+    let a = state_copy::copy_in(state);
     let r = bias::bias_step(image, state, task, inputs, start, reached);
-    let b = lend::copy_in(state);
-    trace::show_step(image, &a, &b, task, r);
+    let b = state_copy::copy_in(state);
+    text_step::show_step(image, &a, &b, task, r);
 }

@@ -8,8 +8,8 @@ use lib.IntN.{pos}
 use mir.Syntax.{w32}
 use mir.Val.{SFits}
 use Rattle.limits.specs.Limits.{taskCount, mostDepth, cells}
-use Rattle.image.specs.Good.{Good as GoodHeader}
-use Rattle.image.specs.declared.Header.{Header}
+use Rattle.image_header.specs.Good.{Good as GoodHeader}
+use Rattle.image_header.specs.declared.Header.{Header}
 use Rattle.state.specs.State.{noTask, fresh, freshValues, running, neverStarted}
 use Rattle.state.specs.Good.{GoodWait, GoodTask, GoodValues, Good}
 

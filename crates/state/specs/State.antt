@@ -4,7 +4,7 @@ use mathlib.Core.List.{List, [], _∷_}
 use lib.ListN.{replicate, getD, set}
 use lib.IntN.{ℤ, pos}
 use Rattle.limits.specs.Limits.{mostDepth, cells}
-use Rattle.image.specs.declared.Header.{Header}
+use Rattle.image_header.specs.declared.Header.{Header}
 use Rattle.state.specs.declared.Task.{Task}
 use Rattle.state.specs.declared.Axis.{Axis}
 use Rattle.state.specs.declared.Cells.{Cells}

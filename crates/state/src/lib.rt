@@ -1,7 +1,7 @@
 // The state of a program that runs, by value (document 01, "Running"): the values in three parts (cells, motion, notes), and a record for each task with its
 // own call stack. The buffer that firmware keeps is read and written by the crates above (docs/STATE.md).
 use drive::Drive;
-use image::Header;
+use image_header::Header;
 use limits::CELLS;
 use limits::STACK_LENGTH;
 use limits::TASKS;

@@ -12,11 +12,11 @@ use mir.Syntax.{Width}
 use mir.Val.{SFits, bits, hbits}
 use mir.ValLaws.{pow-bits}
 use borrow.Author.Tests.{lt-ltb, le-ltb, ne-eqb}
-use Rattle.number.proofs.Choice.{by}
+use Rattle.image_number.proofs.Choice.{by}
 use Rattle.io.specs.Digits.{digits, Fewest}
-use Rattle.arith.specs.Wrap.{word}
-use Rattle.arith.proofs.Cut.{word-same}
-use Rattle.hex.specs.Hex.{digitOf, byteOf, bytesOf, allBytes}
+use Rattle.num_arith.specs.Wrap.{word}
+use Rattle.num_arith.proofs.Cut.{word-same}
+use Rattle.text_hex.specs.Hex.{digitOf, byteOf, bytesOf, allBytes}
 use Rattle.text.specs.Text.{digit, digitsOf, decimalOf, minus, signedOf, hexDigit, hexOf, hexFirst, hexAll, valueFrom, valueOf, below, signedValueOf, Digits}
 
 -- ---- digits, by the fuel

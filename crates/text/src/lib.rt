@@ -42,7 +42,7 @@ pub fn put_labelled(out: &mut [u8], at: usize, word: &[u8], v: u64) -> usize
 pub fn put_signed(out: &mut [u8], at: usize, v: i32) -> usize
     ensures { λ r. ⌜ Put (now (out .entry)) at (signedOf v) r (now (out .exit)) ⌝ }
 {
-    let p = arith::pattern(v) as u64;
+    let p = num_arith::pattern(v) as u64;
     if p < 2_147_483_648 {
         return put_decimal(out, at, p);
     }

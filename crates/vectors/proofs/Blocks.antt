@@ -6,17 +6,17 @@ use Prim.Native.Nat.{ℕ}
 use lib.ListN.{length}
 use Rattle.limits.specs.Limits.{marksLength}
 use Rattle.drive.specs.Types as types
-use Rattle.pins.specs.Homes as homes
+use Rattle.drive_pins.specs.Homes as homes
 use Rattle.drive.specs.Pins as pins
-use Rattle.number.specs.Number as number
-use Rattle.image.specs.Rows as header
-use Rattle.image.specs.Scan as scan
-use Rattle.rows.specs.Rows as rows
-use Rattle.operands.specs.Operands as operands
-use Rattle.command.specs.Judged as judged
-use Rattle.flow.specs.Flow as flow
-use Rattle.flow.specs.Tasks as tasks
-use Rattle.point.specs.Fault as fault
+use Rattle.image_number.specs.Number as number
+use Rattle.image_header.specs.Rows as header
+use Rattle.image_header.specs.Scan as scan
+use Rattle.command_table.specs.Rows as rows
+use Rattle.command_operands.specs.Operands as operands
+use Rattle.command_judge.specs.Judged as judged
+use Rattle.walk_flow.specs.Flow as flow
+use Rattle.walk_flow.specs.Tasks as tasks
+use Rattle.walk_point.specs.Fault as fault
 use Rattle.walk.specs.Program as program
 use Rattle.walk.specs.Index.{indexOf, pointAt}
 use Rattle.walk.specs.Successors as successors

@@ -2,7 +2,7 @@
 use Prim.Native.Nat.{ℕ, zero, suc, _+_}
 use Rattle.drive.specs.Pins.{pinOf}
 use Rattle.drive.specs.declared.Drive.{Drive}
-use Rattle.pins.specs.declared.PinKind.{PinKind}
+use Rattle.drive_pins.specs.declared.PinKind.{PinKind}
 use Rattle.drive.specs.declared.Presence.{Presence}
 use Rattle.drive.specs.declared.Presence.the-variants.{Present, BoardMissing, Never}
 

@@ -1,15 +1,15 @@
 // Runs vectors with known answers over the crates arith, drive, image and loader, a line for each, and a table of the pins of every drive.
 // What it prints is held to the file stdout, whose answers are document 01's. Each function shows what it does, and gives it back.
-use arith::Quotient;
+use num_arith::Quotient;
 use drive::Drive;
 use drive::Presence;
-use image::reader;
-use image::reader::HeaderRead;
+use image_header::reader;
+use image_header::reader::HeaderRead;
 use libc::STDOUT_FILENO;
-use number::Number;
-use outcome::Outcome;
-use pins::PinKind;
-use writer::Written;
+use image_number::Number;
+use image_result::Outcome;
+use drive_pins::PinKind;
+use image_writer::Written;
 ghost use mathlib.Core.Path.{_≡_};
 ghost use mathlib.Core.List.{[], _∷_};
 ghost use Prim.Native.Nat.{_+_};
@@ -17,15 +17,15 @@ ghost use lib.IntN.{_+ℤ_};
 ghost use lib.ListN.{length};
 ghost use mir.Syntax.{w32};
 ghost use Rattle.limits.specs.Limits.{marksLength};
-ghost use Rattle.arith.specs.Wrap.{word, wrap};
-ghost use Rattle.le.specs.LittleEndian.{leBytes};
-ghost use Rattle.number.specs.Number.{numberAt};
-ghost use Rattle.image.specs.Scan.{headerOf};
+ghost use Rattle.num_arith.specs.Wrap.{word, wrap};
+ghost use Rattle.num_le.specs.LittleEndian.{leBytes};
+ghost use Rattle.image_number.specs.Number.{numberAt};
+ghost use Rattle.image_header.specs.Scan.{headerOf};
 ghost use Rattle.walk.specs.Verdict.{acceptedBlocks};
-ghost use Rattle.writer.specs.Writer.{written, outAfter};
-ghost use Rattle.pins.specs.declared.PinKind.the-variants.{Input, OutputWritten, OutputRead};
-ghost use Rattle.outcome.specs.declared.Outcome.the-variants.{Done, EndsEarly, NotShortest, OutOfRange, LeftOver, NoRoom};
-ghost use Rattle.number.specs.declared.Number.{Number};
+ghost use Rattle.image_writer.specs.Writer.{written, outAfter};
+ghost use Rattle.drive_pins.specs.declared.PinKind.the-variants.{Input, OutputWritten, OutputRead};
+ghost use Rattle.image_result.specs.declared.Outcome.the-variants.{Done, EndsEarly, NotShortest, OutOfRange, LeftOver, NoRoom};
+ghost use Rattle.image_number.specs.declared.Number.{Number};
 ghost use Rattle.vectors.specs.Pins.{presentPins, shownPin};
 
 fn main() {
@@ -218,17 +218,17 @@ fn pin_rows() -> u8
 fn arith_row(a: i32, b: i32) -> i32
     ensures { λ r. ⌜ r ≡ wrap w32 (a +ℤ b) ⌝ }
 {
-    print::show_signed(b"arith ", a);
-    print::show_signed(b" ", b);
-    print::show_signed(b": sum ", arith::add(a, b));
-    print::show_signed(b" difference ", arith::sub(a, b));
-    print::show_signed(b" product ", arith::mul(a, b));
-    print::show_signed(b" negation ", arith::neg(a));
-    show_quotient(arith::div(a, b));
+    text_print::show_signed(b"arith ", a);
+    text_print::show_signed(b" ", b);
+    text_print::show_signed(b": sum ", num_arith::add(a, b));
+    text_print::show_signed(b" difference ", num_arith::sub(a, b));
+    text_print::show_signed(b" product ", num_arith::mul(a, b));
+    text_print::show_signed(b" negation ", num_arith::neg(a));
+    show_quotient(num_arith::div(a, b));
     show_conditions(a, b);
     show_bits(a);
     io::write_all(STDOUT_FILENO, b"\n");
-    arith::add(a, b)
+    num_arith::add(a, b)
 }
 
 fn show_quotient(q: Quotient) -> Quotient
@@ -236,7 +236,7 @@ fn show_quotient(q: Quotient) -> Quotient
 {
     match q {
         Quotient::Value(v) => {
-            print::show_signed(b" quotient ", v);
+            text_print::show_signed(b" quotient ", v);
             q
         }
         Quotient::ByZero => {
@@ -253,7 +253,7 @@ fn show_conditions(a: i32, b: i32) -> u8
     io::write_all(STDOUT_FILENO, b" conditions ");
     let mut condition: u8 = 0;
     while condition < 9 {
-        io::print_decimal(STDOUT_FILENO, arith::compare(condition, a, b) as u64);
+        io::print_decimal(STDOUT_FILENO, num_arith::compare(condition, a, b) as u64);
         condition += 1;
     }
     condition
@@ -263,9 +263,9 @@ fn show_conditions(a: i32, b: i32) -> u8
 fn show_bits(a: i32) -> i32
     ensures { λ r. ⌜ r ≡ a ⌝ }
 {
-    print::show(b" bits ", arith::bit(a, 0) as u64);
-    print::show(b"", arith::bit(a, 31) as u64);
-    print::show(b"", arith::bit(a, 32) as u64);
+    text_print::show(b" bits ", num_arith::bit(a, 0) as u64);
+    text_print::show(b"", num_arith::bit(a, 31) as u64);
+    text_print::show(b"", num_arith::bit(a, 32) as u64);
     a
 }
 
@@ -273,8 +273,8 @@ fn show_bits(a: i32) -> i32
 fn bytes_row(v: i32) -> [u8; 4]
     ensures { λ r. ⌜ r ≡ leBytes 4 (word w32 v) ⌝ }
 {
-    print::show_signed(b"bytes ", v);
-    show_bytes(le::put_i32(v))
+    text_print::show_signed(b"bytes ", v);
+    show_bytes(num_le::put_i32(v))
 }
 
 fn show_bytes(b: [u8; 4]) -> [u8; 4]
@@ -282,10 +282,10 @@ fn show_bytes(b: [u8; 4]) -> [u8; 4]
 {
     io::write_all(STDOUT_FILENO, b":");
     show_buffer(&b);
-    print::show(b" read ", le::read_u8([b[0]]) as u64);
-    print::show(b" ", le::read_u16([b[0], b[1]]) as u64);
-    print::show(b" ", le::read_u32(b) as u64);
-    print::show_signed(b" ", le::read_i32(b));
+    text_print::show(b" read ", num_le::read_u8([b[0]]) as u64);
+    text_print::show(b" ", num_le::read_u16([b[0], b[1]]) as u64);
+    text_print::show(b" ", num_le::read_u32(b) as u64);
+    text_print::show_signed(b" ", num_le::read_i32(b));
     io::write_all(STDOUT_FILENO, b"\n");
     b
 }
@@ -294,11 +294,11 @@ fn show_bytes(b: [u8; 4]) -> [u8; 4]
 fn number_row(bytes: &[u8]) -> Number
     ensures { λ r. ⌜ r ≡ numberAt (now (bytes .entry)) 0 ⌝ }
 {
-    let n = number::read(bytes, 0);
+    let n = image_number::read(bytes, 0);
     match n {
         Number::Value(v, next) => {
-            print::show(b"number ", v as u64);
-            print::show(b" next ", next as u64);
+            text_print::show(b"number ", v as u64);
+            text_print::show(b" next ", next as u64);
             io::write_all(STDOUT_FILENO, b"\n");
             n
         }
@@ -327,7 +327,7 @@ fn header_row(image: &[u8]) -> HeaderRead
 {
     let r = reader::read(image);
     show_header(r);
-    print::show(b" blocks ", reader::block_part(image).len() as u64);
+    text_print::show(b" blocks ", reader::block_part(image).len() as u64);
     io::write_all(STDOUT_FILENO, b"\n");
     r
 }
@@ -336,9 +336,9 @@ fn header_row(image: &[u8]) -> HeaderRead
 fn block_row(image: &[u8]) -> usize
     ensures { λ r. ⌜ r ≡ length (acceptedBlocks (now (image .entry)) marksLength) ⌝ }
 {
-    report::judge(image);
-    let mut marks = report::marks();
-    show_blocks(loader::blocks(image, &mut marks))
+    text_verdict::judge(image);
+    let mut marks = text_verdict::marks();
+    show_blocks(walk_search::blocks(image, &mut marks))
 }
 
 fn show_blocks(blocks: &[u8]) -> usize
@@ -360,12 +360,12 @@ fn show_header(r: HeaderRead) -> HeaderRead
     let d = header.drive;
     io::write_all(STDOUT_FILENO, b"header ");
     show_outcome(outcome);
-    print::show(b": format ", header.format as u64);
+    text_print::show(b": format ", header.format as u64);
     io::write_all(STDOUT_FILENO, b" ");
     show_drive(d);
-    print::show(b" start ", header.start as u64);
-    print::show(b" count ", header.count as u64);
-    print::show(b" at ", r.at as u64);
+    text_print::show(b" start ", header.start as u64);
+    text_print::show(b" count ", header.count as u64);
+    text_print::show(b" at ", r.at as u64);
     r
 }
 
@@ -373,8 +373,8 @@ fn show_header(r: HeaderRead) -> HeaderRead
 fn show_outcome(outcome: Outcome) -> Outcome
     ensures { λ r. ⌜ r ≡ outcome ⌝ }
 {
-    print::show(b"refusal ", outcome.number() as u64);
-    print::show(b" place ", outcome.place() as u64);
+    text_print::show(b"refusal ", outcome.number() as u64);
+    text_print::show(b" place ", outcome.place() as u64);
     outcome
 }
 
@@ -382,9 +382,9 @@ fn show_outcome(outcome: Outcome) -> Outcome
 fn show_drive(d: Drive) -> Drive
     ensures { λ r. ⌜ r ≡ d ⌝ }
 {
-    print::show(b"type ", d.model as u64);
-    print::show(b" B ", d.b as u64);
-    print::show(b" C ", d.c as u64);
+    text_print::show(b"type ", d.model as u64);
+    text_print::show(b" B ", d.b as u64);
+    text_print::show(b" C ", d.c as u64);
     d
 }
 
@@ -402,7 +402,7 @@ fn write_row(numbers: [u32; 6], blocks: &[u8], out: &mut [u8]) -> Written
     ensures { λ r. ⌜ r ≡ written numbers (length (now (blocks .entry))) (length (now (out .entry))) ⌝ }
     ensures { λ _. ⌜ now (out .exit) ≡ outAfter numbers (now (blocks .entry)) (now (out .entry)) ⌝ }
 {
-    let w = writer::write(numbers, blocks, out);
+    let w = image_writer::write(numbers, blocks, out);
     show_written(w);
     show_buffer(out);
     io::write_all(STDOUT_FILENO, b"\n");
@@ -415,7 +415,7 @@ fn show_written(w: Written) -> Written
     let outcome = w.outcome;
     io::write_all(STDOUT_FILENO, b"write ");
     show_outcome(outcome);
-    print::show(b" length ", w.length as u64);
+    text_print::show(b" length ", w.length as u64);
     io::write_all(STDOUT_FILENO, b" out");
     w
 }
@@ -436,7 +436,7 @@ fn show_buffer(out: &[u8]) -> usize
 fn show_next(v: u8) -> u64
     ensures { λ r. ⌜ r ≡ v ⌝ }
 {
-    print::show(b" ", v as u64)
+    text_print::show(b" ", v as u64)
 }
 
 // The three kinds of pins of a drive; gives how many it has of all kinds.
@@ -455,7 +455,7 @@ fn pin_row(d: Drive, kind: PinKind) -> u32
     show_drive(d);
     show_kind(kind);
     let n = show_pins(d, kind);
-    print::show(b": ", n as u64);
+    text_print::show(b": ", n as u64);
     io::write_all(STDOUT_FILENO, b"\n");
     n
 }

@@ -11,13 +11,13 @@ pub enum Asked {
     Usage,
 }
 
-// What an input has past the room for an image is left unread: the verdict is the same without it (crates/report/proofs/Beginning.antt).
+// What an input has past the room for an image is left unread: the verdict is the same without it (crates/text_verdict/proofs/Beginning.antt).
 fn main() {
     match asked_by(os::arg_count()) {
         Asked::Judge => {
-            let mut image = report::input();
+            let mut image = text_verdict::input();
             let n = io::read_full(STDIN_FILENO, &mut image);
-            report::judge(&image[..n]);
+            text_verdict::judge(&image[..n]);
         }
         Asked::Usage => {
             io::write_all(

@@ -7,15 +7,15 @@ use mathlib.Core.Logic.{_⊎_, inl, inr, ⊎-elim, _↔_}
 use mathlib.Core.List.{List, [], _∷_}
 use lib.Dec.{eqb, leb}
 use borrow.Author.Tests.{leb-true, le-leb}
-use Rattle.flow.specs.Terms.{Terms}
-use Rattle.number.proofs.Choice.{clash}
-use Rattle.operands.specs.declared.Command.{Command}
-use Rattle.flow.specs.Flow.{flowOf, continues}
-use Rattle.flow.specs.Tasks.{permitted}
-use Rattle.point.specs.Fault.{point, anyPast}
-use Rattle.point.specs.declared.Point.{Point}
-use Rattle.flow.specs.declared.Flow.{Flow}
-use Rattle.flow.specs.declared.Flow.the-variants.{Next, Wait, Jump, Branch, Call, Return, Start, Restart, End}
+use Rattle.walk_flow.specs.Terms.{Terms}
+use Rattle.image_number.proofs.Choice.{clash}
+use Rattle.command_operands.specs.declared.Command.{Command}
+use Rattle.walk_flow.specs.Flow.{flowOf, continues}
+use Rattle.walk_flow.specs.Tasks.{permitted}
+use Rattle.walk_point.specs.Fault.{point, anyPast}
+use Rattle.walk_point.specs.declared.Point.{Point}
+use Rattle.walk_flow.specs.declared.Flow.{Flow}
+use Rattle.walk_flow.specs.declared.Flow.the-variants.{Next, Wait, Jump, Branch, Call, Return, Start, Restart, End}
 use Rattle.walk.specs.Graph.{In}
 use Rattle.walk.specs.Walk.{Step}
 use Rattle.walk.specs.Successors.{goes}

@@ -6,7 +6,7 @@ use mathlib.Core.Logic.{_⊎_, inl, inr, ⊎-elim}
 use mathlib.Core.List.{List, [], _∷_, _++_}
 use borrow.Author.Tests.{eqb-true, eq-eqb}
 use lib.Dec.{eqb}
-use Rattle.number.proofs.Choice.{clash}
+use Rattle.image_number.proofs.Choice.{clash}
 use Rattle.walk.specs.Graph.{In, has}
 
 -- one of two

@@ -4,12 +4,12 @@ use mathlib.Core.Path.{_≡_, refl}
 use mathlib.Core.List.{List, [], _∷_}
 use Prim.Native.Nat.{ℕ}
 use Rattle.limits.specs.Limits.{bias, plc, mathematics}
-use Rattle.image.specs.declared.Header.{Header}
-use Rattle.rows.specs.Rows.{rowOf, rowIn, rows}
-use Rattle.operands.specs.Operands.{operands}
-use Rattle.flow.specs.Terms.{under}
-use Rattle.point.specs.Fault.{point}
-use Rattle.point.specs.declared.Point.{Point}
+use Rattle.image_header.specs.declared.Header.{Header}
+use Rattle.command_table.specs.Rows.{rowOf, rowIn, rows}
+use Rattle.command_operands.specs.Operands.{operands}
+use Rattle.walk_flow.specs.Terms.{under}
+use Rattle.walk_point.specs.Fault.{point}
+use Rattle.walk_point.specs.declared.Point.{Point}
 use Rattle.walk.specs.Program.{commandAt}
 use Rattle.walk.specs.Walk.{Named, latest, startOf}
 

@@ -9,14 +9,14 @@ use native.Mathlib.Omega.{arith}
 use lib.Dec.{ltb}
 use borrow.Author.Tests.{ltb-true, ltb-false, le-ltb}
 use Rattle.limits.specs.Limits.{mostBlocks, marksLength}
-use Rattle.flow.specs.Terms.{Terms}
-use Rattle.point.specs.declared.Point.{Point}
+use Rattle.walk_flow.specs.Terms.{Terms}
+use Rattle.walk_point.specs.declared.Point.{Point}
 use Rattle.walk.specs.Program.{faultAt}
 use Rattle.walk.specs.Walk.{Reaches}
 use Rattle.walk.specs.Index.{indexOf, pointAt, before}
 use Rattle.walk.specs.Successors.{nextOf}
 use Rattle.walk.specs.Graph.{In, Reach}
-use Rattle.fault.specs.Fault.{isForeign, isBad}
+use Rattle.walk_fault.specs.Fault.{isForeign, isBad}
 use Rattle.walk.specs.Verdict.{rootOf, fuel, reached, leastForeign, leastBad, verdictBy, walksVerdict}
 use Rattle.walk.specs.Says.{ForeignAt, BadAt, NoForeign, Says}
 use Rattle.walk.specs.declared.Verdict.{Verdict}

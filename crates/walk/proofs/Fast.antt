@@ -10,11 +10,11 @@ use native.Mathlib.Omega.{arith}
 use lib.Dec.{eqb, ltb}
 use borrow.Author.Tests.{eqb-false, eq-eqb, ne-eqb}
 use Rattle.limits.specs.Limits.{marksLength}
-use Rattle.outcome.specs.Outcome.{done}
-use Rattle.image.specs.Scan.{headerOf, blocksOf}
-use Rattle.flow.specs.Terms.{Terms, termsIn}
-use Rattle.image.specs.declared.reader.HeaderRead.{HeaderRead}
-use Rattle.number.proofs.Choice.{clash}
+use Rattle.image_result.specs.Outcome.{done}
+use Rattle.image_header.specs.Scan.{headerOf, blocksOf}
+use Rattle.walk_flow.specs.Terms.{Terms, termsIn}
+use Rattle.image_header.specs.declared.reader.HeaderRead.{HeaderRead}
+use Rattle.image_number.proofs.Choice.{clash}
 use Rattle.walk.specs.Graph.{has, closure}
 use Rattle.walk.specs.Successors.{nextOf}
 use Rattle.walk.specs.Program.{blockFaultAt, blockNumber}

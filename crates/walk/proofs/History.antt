@@ -10,12 +10,12 @@ use lib.Dec.{eqb}
 use lib.ListN.{length}
 use borrow.Author.Tests.{eqb-true}
 use Rattle.limits.specs.Limits.{bias, plc, mathematics, mostBlocks, marksLength}
-use Rattle.flow.specs.Terms.{Terms}
-use Rattle.operands.specs.declared.Command.{Command}
-use Rattle.flow.specs.Flow.{flowOf}
-use Rattle.point.specs.Fault.{point}
-use Rattle.point.specs.declared.Point.{Point}
-use Rattle.fault.specs.declared.Fault.the-variants.{Fine}
+use Rattle.walk_flow.specs.Terms.{Terms}
+use Rattle.command_operands.specs.declared.Command.{Command}
+use Rattle.walk_flow.specs.Flow.{flowOf}
+use Rattle.walk_point.specs.Fault.{point}
+use Rattle.walk_point.specs.declared.Point.{Point}
+use Rattle.walk_fault.specs.declared.Fault.the-variants.{Fine}
 use Rattle.walk.specs.Program.{commandAt, faultAt}
 use Rattle.walk.specs.Walk.{Named, starts, latest, startOf, Walk, Reaches}
 use Rattle.walk.specs.Index.{Inside, indexOf, pointAt}

@@ -7,7 +7,7 @@ use native.Mathlib.Omega.{arith}
 use lib.Dec.{ltb}
 use borrow.Author.Tests.{lt-ltb, le-ltb, ltb-true, ltb-false}
 use Rattle.limits.specs.Limits.{taskCount, depths, marksLength}
-use Rattle.point.specs.declared.Point.{Point}
+use Rattle.walk_point.specs.declared.Point.{Point}
 use Rattle.walk.proofs.Choice.{test}
 use Rattle.walk.proofs.Order.{by-true, by-false}
 use Rattle.walk.specs.Index.{Inside, indexOf, pointAt, before}

@@ -10,13 +10,13 @@ use lib.Dec.{eqb, ltb}
 use borrow.Author.Tests.{ltb-true, ltb-false, eqb-true, eqb-false}
 use borrow.Author.Count.{below-more}
 use Rattle.limits.specs.Limits.{mostBlocks, marksLength}
-use Rattle.outcome.specs.Outcome.{done}
-use Rattle.image.specs.Scan.{headerOf, blocksOf}
-use Rattle.flow.specs.Terms.{Terms, termsOf}
-use Rattle.outcome.specs.declared.Outcome.{Outcome}
-use Rattle.outcome.specs.declared.Outcome.the-variants.{Done, EndsEarly, NotShortest, OutOfRange, LeftOver, NoRoom}
-use Rattle.number.proofs.Choice.{clash, by}
-use Rattle.image.proofs.HeaderLaws.{header-good}
+use Rattle.image_result.specs.Outcome.{done}
+use Rattle.image_header.specs.Scan.{headerOf, blocksOf}
+use Rattle.walk_flow.specs.Terms.{Terms, termsOf}
+use Rattle.image_result.specs.declared.Outcome.{Outcome}
+use Rattle.image_result.specs.declared.Outcome.the-variants.{Done, EndsEarly, NotShortest, OutOfRange, LeftOver, NoRoom}
+use Rattle.image_number.proofs.Choice.{clash, by}
+use Rattle.image_header.proofs.HeaderLaws.{header-good}
 use Rattle.walk.specs.Program.{blockFaultAt, blockNumber}
 use Rattle.walk.specs.Verdict.{walksVerdict, blocksVerdict, readVerdict, verdictOf}
 use Rattle.walk.specs.Says.{BlockPasses, Judges}

@@ -9,20 +9,20 @@ use lib.ListN.{getD}
 use lib.Dec.{T, eqb}
 use borrow.Author.Tests.{eqb-true, eqb-false, eq-eqb, ne-eqb, not-true}
 use Rattle.limits.specs.Limits.{bias, plc, mathematics}
-use Rattle.number.proofs.Choice.{clash, both}
-use Rattle.rows.specs.Rows.{noRow, rows, rowIn, rowOf}
-use Rattle.rows.specs.declared.FlowKind.{FlowKind}
-use Rattle.rows.specs.declared.FlowKind.the-variants as kind
-use Rattle.rows.specs.declared.Row.{Row}
-use Rattle.rows.proofs.Laws.{every, every-row, same, same-is}
-use Rattle.rows.proofs.FlowKinds.{is, isOneOf}
-use Rattle.flow.specs.Terms.{Terms}
-use Rattle.flow.specs.Flow.{flowBy}
-use Rattle.flow.specs.Tasks.{boxes, permitted}
-use Rattle.point.specs.Fault.{point}
-use Rattle.point.specs.declared.Point.{Point}
-use Rattle.flow.specs.declared.Flow.{Flow}
-use Rattle.flow.specs.declared.Flow.the-variants.{Next, Wait, Jump, Branch, Call, Return, Start, Restart, End}
+use Rattle.image_number.proofs.Choice.{clash, both}
+use Rattle.command_table.specs.Rows.{noRow, rows, rowIn, rowOf}
+use Rattle.command_table.specs.declared.FlowKind.{FlowKind}
+use Rattle.command_table.specs.declared.FlowKind.the-variants as kind
+use Rattle.command_table.specs.declared.Row.{Row}
+use Rattle.command_table.proofs.Laws.{every, every-row, same, same-is}
+use Rattle.command_table.proofs.FlowKinds.{is, isOneOf}
+use Rattle.walk_flow.specs.Terms.{Terms}
+use Rattle.walk_flow.specs.Flow.{flowBy}
+use Rattle.walk_flow.specs.Tasks.{boxes, permitted}
+use Rattle.walk_point.specs.Fault.{point}
+use Rattle.walk_point.specs.declared.Point.{Point}
+use Rattle.walk_flow.specs.declared.Flow.{Flow}
+use Rattle.walk_flow.specs.declared.Flow.the-variants.{Next, Wait, Jump, Branch, Call, Return, Start, Restart, End}
 use Rattle.walk.specs.Graph.{In}
 use Rattle.walk.specs.Walk.{jumps, stays}
 use Rattle.walk.specs.Successors.{goes}

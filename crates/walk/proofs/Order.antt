@@ -6,8 +6,8 @@ use mathlib.Core.Logic.{⊎-elim}
 use native.Mathlib.Omega.{arith}
 use lib.Dec.{eqb, ltb}
 use borrow.Author.Tests.{ltb-true, ltb-false, eqb-true, eqb-false}
-use Rattle.point.specs.declared.Point.{Point}
-use Rattle.number.proofs.Choice.{by, both}
+use Rattle.walk_point.specs.declared.Point.{Point}
+use Rattle.image_number.proofs.Choice.{by, both}
 use Rattle.walk.proofs.Choice.{or-is, neither, not-both}
 use Rattle.walk.specs.Index.{byNumber, before}
 

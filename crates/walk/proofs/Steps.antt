@@ -6,13 +6,13 @@ use mathlib.Core.Logic.{_⊎_, inl, inr, ⊎-elim}
 use mathlib.Core.List.{List}
 use lib.Dec.{eqb}
 use borrow.Author.Tests.{eqb-true, eqb-false, eq-eqb}
-use Rattle.flow.specs.Terms.{Terms}
-use Rattle.rows.specs.Rows.{rowOf}
-use Rattle.operands.specs.declared.Command.{Command}
-use Rattle.flow.specs.Flow.{flowOf}
-use Rattle.flow.specs.Tasks.{permitted}
-use Rattle.point.specs.Fault.{point}
-use Rattle.point.specs.declared.Point.{Point}
+use Rattle.walk_flow.specs.Terms.{Terms}
+use Rattle.command_table.specs.Rows.{rowOf}
+use Rattle.command_operands.specs.declared.Command.{Command}
+use Rattle.walk_flow.specs.Flow.{flowOf}
+use Rattle.walk_flow.specs.Tasks.{permitted}
+use Rattle.walk_point.specs.Fault.{point}
+use Rattle.walk_point.specs.declared.Point.{Point}
 use Rattle.walk.specs.Graph.{In}
 use Rattle.walk.specs.Walk.{Named, starts, goesOn, startOf, Step}
 use Rattle.walk.specs.Walk.{stays as waits}

@@ -10,20 +10,20 @@ use lib.ListN.{length}
 use lib.Dec.{eqb, leb}
 use borrow.Author.Tests.{leb-false}
 use Rattle.limits.specs.Limits.{taskCount, mostDepth}
-use Rattle.flow.specs.Terms.{Terms}
-use Rattle.number.proofs.Choice.{clash}
-use Rattle.rows.specs.Rows.{rowOf}
-use Rattle.rows.specs.declared.FlowKind.{FlowKind}
-use Rattle.rows.specs.declared.FlowKind.the-variants as flowKind
-use Rattle.operands.specs.declared.Command.{Command}
-use Rattle.flow.specs.Flow.{flowBy, flowOf, continues}
-use Rattle.flow.specs.Tasks.{foreign, permitted}
-use Rattle.point.specs.Fault.{point, tooDeep, noCall, anyPast, flowFault, faultOf}
-use Rattle.point.specs.declared.Point.{Point}
-use Rattle.flow.specs.declared.Flow.{Flow}
-use Rattle.flow.specs.declared.Flow.the-variants.{Next, Wait, Jump, Branch, Call, Return, Start, Restart, End}
-use Rattle.fault.specs.declared.Fault.{Fault}
-use Rattle.fault.specs.declared.Fault.the-variants.{Fine, Foreign, Forbidden, TooDeep, NoCall, PastEnd}
+use Rattle.walk_flow.specs.Terms.{Terms}
+use Rattle.image_number.proofs.Choice.{clash}
+use Rattle.command_table.specs.Rows.{rowOf}
+use Rattle.command_table.specs.declared.FlowKind.{FlowKind}
+use Rattle.command_table.specs.declared.FlowKind.the-variants as flowKind
+use Rattle.command_operands.specs.declared.Command.{Command}
+use Rattle.walk_flow.specs.Flow.{flowBy, flowOf, continues}
+use Rattle.walk_flow.specs.Tasks.{foreign, permitted}
+use Rattle.walk_point.specs.Fault.{point, tooDeep, noCall, anyPast, flowFault, faultOf}
+use Rattle.walk_point.specs.declared.Point.{Point}
+use Rattle.walk_flow.specs.declared.Flow.{Flow}
+use Rattle.walk_flow.specs.declared.Flow.the-variants.{Next, Wait, Jump, Branch, Call, Return, Start, Restart, End}
+use Rattle.walk_fault.specs.declared.Fault.{Fault}
+use Rattle.walk_fault.specs.declared.Fault.the-variants.{Fine, Foreign, Forbidden, TooDeep, NoCall, PastEnd}
 use Rattle.walk.specs.Program.{commandAt, faultAt}
 use Rattle.walk.specs.Graph.{In}
 use Rattle.walk.specs.Successors.{goes, unless, flowAt, successors}

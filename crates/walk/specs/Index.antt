@@ -4,8 +4,8 @@ use Prim.Native.Nat.{ℕ, _+_, _*_, _/_, _%_, _<_, _≤_}
 use mathlib.Core.Bool.{Bool, _&&_, _||_}
 use lib.Dec.{eqb, ltb}
 use Rattle.limits.specs.Limits.{taskCount, mostBlocks, mostDepth, depths}
-use Rattle.point.specs.Fault.{point}
-use Rattle.point.specs.declared.Point.{Point}
+use Rattle.walk_point.specs.Fault.{point}
+use Rattle.walk_point.specs.declared.Point.{Point}
 
 -- the points that have a mark
 pub record Inside (p : Point) : Type 0 where

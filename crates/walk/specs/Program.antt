@@ -3,14 +3,14 @@ use Prim.Native.Nat.{ℕ, _+_, _*_}
 use mathlib.Core.List.{List, [], _∷_}
 use lib.ListN.{getD}
 use Rattle.limits.specs.Limits.{blockLength}
-use Rattle.flow.specs.Terms.{Terms}
-use Rattle.operands.specs.Operands.{operands}
-use Rattle.command.specs.Judged.{blockFault, blockFaultNumber}
-use Rattle.command.specs.declared.BlockFault.{BlockFault}
-use Rattle.operands.specs.declared.Command.{Command}
-use Rattle.point.specs.Fault.{faultOf}
-use Rattle.point.specs.declared.Point.{Point}
-use Rattle.fault.specs.declared.Fault.{Fault}
+use Rattle.walk_flow.specs.Terms.{Terms}
+use Rattle.command_operands.specs.Operands.{operands}
+use Rattle.command_judge.specs.Judged.{blockFault, blockFaultNumber}
+use Rattle.command_judge.specs.declared.BlockFault.{BlockFault}
+use Rattle.command_operands.specs.declared.Command.{Command}
+use Rattle.walk_point.specs.Fault.{faultOf}
+use Rattle.walk_point.specs.declared.Point.{Point}
+use Rattle.walk_fault.specs.declared.Fault.{Fault}
 
 -- the eight bytes from `at` on; 0 past the end
 abbrev pub bytesFrom : List ℕ → ℕ → List ℕ

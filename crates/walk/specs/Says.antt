@@ -5,11 +5,11 @@ use mathlib.Core.Path.{_≡_}
 use mathlib.Core.Bool.{true, false}
 use mathlib.Core.List.{List}
 use Rattle.limits.specs.Limits.{marksLength}
-use Rattle.outcome.specs.Outcome.{done}
-use Rattle.image.specs.Scan.{headerOf, blocksOf}
-use Rattle.flow.specs.Terms.{Terms, termsOf}
-use Rattle.point.specs.declared.Point.{Point}
-use Rattle.fault.specs.Fault.{isForeign, isBad}
+use Rattle.image_result.specs.Outcome.{done}
+use Rattle.image_header.specs.Scan.{headerOf, blocksOf}
+use Rattle.walk_flow.specs.Terms.{Terms, termsOf}
+use Rattle.walk_point.specs.declared.Point.{Point}
+use Rattle.walk_fault.specs.Fault.{isForeign, isBad}
 use Rattle.walk.specs.Program.{blockFaultAt, blockNumber, faultAt}
 use Rattle.walk.specs.Walk.{Reaches}
 use Rattle.walk.specs.Index.{before}

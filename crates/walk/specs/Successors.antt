@@ -4,14 +4,14 @@ use Prim.Native.Nat.{ℕ, _+_}
 use mathlib.Core.Bool.{cond}
 use mathlib.Core.List.{List, [], _∷_}
 use lib.Dec.{eqb}
-use Rattle.flow.specs.Terms.{Terms}
-use Rattle.flow.specs.Flow.{flowOf}
-use Rattle.point.specs.Fault.{point}
-use Rattle.point.specs.declared.Point.{Point}
-use Rattle.flow.specs.declared.Flow.{Flow}
-use Rattle.flow.specs.declared.Flow.the-variants.{Next, Wait, Jump, Branch, Call, Return, Start, Restart, End}
-use Rattle.fault.specs.declared.Fault.{Fault}
-use Rattle.fault.specs.declared.Fault.the-variants.{Fine, Foreign, Forbidden, TooDeep, NoCall, PastEnd}
+use Rattle.walk_flow.specs.Terms.{Terms}
+use Rattle.walk_flow.specs.Flow.{flowOf}
+use Rattle.walk_point.specs.Fault.{point}
+use Rattle.walk_point.specs.declared.Point.{Point}
+use Rattle.walk_flow.specs.declared.Flow.{Flow}
+use Rattle.walk_flow.specs.declared.Flow.the-variants.{Next, Wait, Jump, Branch, Call, Return, Start, Restart, End}
+use Rattle.walk_fault.specs.declared.Fault.{Fault}
+use Rattle.walk_fault.specs.declared.Fault.the-variants.{Fine, Foreign, Forbidden, TooDeep, NoCall, PastEnd}
 use Rattle.walk.specs.Program.{commandAt, faultAt}
 use Rattle.walk.specs.Index.{indexOf, pointAt}
 

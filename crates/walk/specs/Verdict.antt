@@ -5,14 +5,14 @@ use mathlib.Core.Bool.{Bool, true, false, cond}
 use mathlib.Core.List.{List, [], _∷_}
 use lib.Dec.{eqb, ltb}
 use Rattle.limits.specs.Limits.{bias, mostBlocks, marksLength}
-use Rattle.outcome.specs.Outcome.{numberOf, placeOf, done}
-use Rattle.image.specs.Scan.{headerOf, blocksOf}
-use Rattle.flow.specs.Terms.{Terms, termsIn}
-use Rattle.image.specs.declared.reader.HeaderRead.{HeaderRead}
-use Rattle.command.specs.Judged.{blockFaultNumber}
-use Rattle.fault.specs.Fault.{isForeign, isBad, faultNumber}
-use Rattle.point.specs.Fault.{point}
-use Rattle.fault.specs.declared.Fault.the-variants.{Foreign}
+use Rattle.image_result.specs.Outcome.{numberOf, placeOf, done}
+use Rattle.image_header.specs.Scan.{headerOf, blocksOf}
+use Rattle.walk_flow.specs.Terms.{Terms, termsIn}
+use Rattle.image_header.specs.declared.reader.HeaderRead.{HeaderRead}
+use Rattle.command_judge.specs.Judged.{blockFaultNumber}
+use Rattle.walk_fault.specs.Fault.{isForeign, isBad, faultNumber}
+use Rattle.walk_point.specs.Fault.{point}
+use Rattle.walk_fault.specs.declared.Fault.the-variants.{Foreign}
 use Rattle.walk.specs.Program.{blockFaultAt, blockNumber, faultAt}
 use Rattle.walk.specs.Index.{indexOf, pointAt}
 use Rattle.walk.specs.Successors.{nextOf}

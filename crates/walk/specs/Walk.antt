@@ -7,11 +7,11 @@ use mathlib.Core.Bool.{Bool, true, false, _&&_, _||_, not, cond}
 use mathlib.Core.List.{List, [], _∷_}
 use lib.Dec.{eqb}
 use Rattle.limits.specs.Limits.{bias, plc, mathematics}
-use Rattle.flow.specs.Terms.{Terms}
-use Rattle.operands.specs.declared.Command.{Command}
-use Rattle.point.specs.Fault.{point}
-use Rattle.point.specs.declared.Point.{Point}
-use Rattle.fault.specs.declared.Fault.the-variants.{Fine}
+use Rattle.walk_flow.specs.Terms.{Terms}
+use Rattle.command_operands.specs.declared.Command.{Command}
+use Rattle.walk_point.specs.Fault.{point}
+use Rattle.walk_point.specs.declared.Point.{Point}
+use Rattle.walk_fault.specs.declared.Fault.the-variants.{Fine}
 use Rattle.walk.specs.Program.{commandAt, faultAt}
 
 -- ---- which codes do what, by the manual

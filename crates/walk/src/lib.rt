@@ -1,10 +1,10 @@
 // The verdict on an image with lent marks (document 01, "Refused because of the input"; 16, which comes second in a load, belongs to the
 // state buffer). No code here: specs/ says what walks are and what a verdict says of them, and computes the verdict; the crate loader
 // finds it.
-use command::BlockFault;
-use fault::Fault;
-use outcome::Outcome;
-use point::Point;
+use command_judge::BlockFault;
+use walk_fault::Fault;
+use image_result::Outcome;
+use walk_point::Point;
 
 // What an image and marks come to: accepted, or the first refusal with its place.
 pub enum Verdict {

@@ -1,7 +1,7 @@
 -- `bias::fresh` meets its contract.
 use borrow.Author.Needs.{needs}
 use Rattle.state.specs.State.{fresh}
-use Rattle.image.specs.declared.reader.HeaderRead.{HeaderRead}
+use Rattle.image_header.specs.declared.reader.HeaderRead.{HeaderRead}
 use mathlib.Core.Path.{ap, _∙_}
 use Rattle.bias.proofs.fresh.Statement.{statement}
 use Rattle.bias.proofs.fresh.Tie as tie

@@ -1,8 +1,8 @@
 -- `bias::load_image` meets its contract, by the verdict.
 use borrow.Author.Needs.{needs}
 use Rattle.bias.proofs.Ways.{verdict-is, stays, begins}
-use Rattle.border.specs.Border.{verdictFor}
-use Rattle.layout.specs.Layout.{encoded}
+use Rattle.bias_results.specs.Border.{verdictFor}
+use Rattle.state_layout.specs.Layout.{encoded}
 use Rattle.walk.specs.Verdict.{isAccepted}
 use denote.Ref.{now}
 use borrow.Author.Tests.{not-true, not-false}

@@ -4,10 +4,10 @@ use Rattle.bias.proofs.Ways.{no-state, of-state, step-refused, frame-of
 use Rattle.bias.specs.Step.{Stepped, handed}
 use Rattle.machine.specs.Engine.{step}
 use Rattle.machine.specs.Given.{inputsOf}
-use Rattle.layout.proofs.Round.{state-good}
+use Rattle.state_layout.proofs.Round.{state-good}
 use Rattle.state.specs.declared.State.{State}
 use Rattle.state.specs.Good.{Good}
-use Rattle.le.specs.LittleEndian.{Bytes}
+use Rattle.num_le.specs.LittleEndian.{Bytes}
 use denote.Ref.{now}
 use borrow.Author.Tests.{not-true, not-false}
 use mathlib.Core.Path.{sym, ap, _∙_, subst}

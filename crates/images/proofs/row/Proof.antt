@@ -2,7 +2,7 @@
 use mathlib.Core.Path.{ap, _∙_}
 use native.Mathlib.Omega.{arith}
 use Rattle.limits.specs.Limits.{marksLength}
-use Rattle.hex.proofs.Bytes.{front}
+use Rattle.text_hex.proofs.Bytes.{front}
 use Rattle.images.specs.Part.{partOf}
 use Rattle.images.proofs.Enough.{enough, enough-blocks}
 use borrow.Author.Needs.{needs}

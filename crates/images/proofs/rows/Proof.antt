@@ -5,8 +5,8 @@ use Prim.Native.Nat.{ℕ, _+_, _-_, _≤_}
 use mathlib.Core.Path.{_≡_, refl, sym, ap, _∙_}
 use mathlib.Core.Logic.{⊎-elim}
 use lib.ListN.{length}
-use Rattle.hex.specs.Lines.{linesOf}
-use Rattle.hex.proofs.Lines.{ends, goes-on}
+use Rattle.text_hex.specs.Lines.{linesOf}
+use Rattle.text_hex.proofs.Lines.{ends, goes-on}
 use Rattle.images.proofs.rows.Statement.{statement}
 use Rattle.images.proofs.rows.Tie as tie
 

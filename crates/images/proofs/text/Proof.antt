@@ -1,6 +1,6 @@
 -- `images::text` meets its contract: the array is made of zeros.
 use mathlib.Core.Path.{refl}
-use Rattle.report.specs.Input.{zeros}
+use Rattle.text_verdict.specs.Input.{zeros}
 use Rattle.images.proofs.text.Statement.{statement}
 use Rattle.images.proofs.text.Tie as tie
 

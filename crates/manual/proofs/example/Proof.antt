@@ -2,7 +2,7 @@
 use borrow.Author.Needs.{needs}
 use Rattle.manual.proofs.Ran.{decoded-front, example-is}
 use Rattle.manual.specs.Run.{fitting}
-use Rattle.report.specs.Input.{inputLength}
+use Rattle.text_verdict.specs.Input.{inputLength}
 use denote.Ref.{now}
 use lib.Seq.{length-take-le}
 use lib.ListN.{take}

@@ -1,7 +1,7 @@
 -- `examples` meets its contract. The loop's invariant: n is the number of lines that end before i, and the next begins at or before i.
 use borrow.Author.Needs.{needs}
-use Rattle.hex.proofs.Lines.{ends, goes-on}
-use Rattle.hex.specs.Lines.{linesOf}
+use Rattle.text_hex.proofs.Lines.{ends, goes-on}
+use Rattle.text_hex.specs.Lines.{linesOf}
 use lib.ListN.{length}
 use mathlib.Core.Logic.{⊎-elim}
 use mathlib.Core.Path.{_≡_, refl, sym, ap, _∙_}

@@ -1,8 +1,8 @@
 -- `put_byte` meets its contract: the place from its two bytes, then the byte there.
 use borrow.Author.Needs.{needs}
 use Rattle.manual.specs.Run.{withByte}
-use Rattle.le.specs.LittleEndian.{leBytes}
-use Rattle.places.specs.Places.{puts}
+use Rattle.num_le.specs.LittleEndian.{leBytes}
+use Rattle.state_bytes.specs.Places.{puts}
 use denote.Ref.{now}
 use lib.ListN.{getD}
 use mathlib.Core.List.{List}

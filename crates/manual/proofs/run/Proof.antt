@@ -2,7 +2,7 @@
 use borrow.Author.Needs.{needs}
 use Rattle.manual.proofs.Ran.{refused, accepted, run-is}
 use Rattle.manual.specs.Run.{recordLength, after}
-use Rattle.border.specs.declared.BiasVerdict.{BiasVerdict}
+use Rattle.bias_results.specs.declared.BiasVerdict.{BiasVerdict}
 use denote.Ref.{now}
 use lib.ListN.{length}
 use mathlib.Core.Path.{sym, ap, _∙_}

@@ -2,7 +2,7 @@
 use mathlib.Core.Path.{_≡_, ap, _∙_}
 use mir.Syntax.{w32}
 use mir.Facts.{toZ-ofZ}
-use Rattle.arith.specs.Wrap.{word}
+use Rattle.num_arith.specs.Wrap.{word}
 use Rattle.text.proofs.Joined.{and-then}
 use Rattle.text.proofs.Read.{signed-high, signed-low}
 use borrow.Author.Needs.{needs}

@@ -4,8 +4,8 @@ use mathlib.Core.Path.{ap, ap₂, _∙_}
 use lib.IntN.{_+ℤ_}
 use mir.Facts.{toZ-ofZ}
 use mir.Syntax.{w32}
-use Rattle.arith.proofs.Range.{got}
-use Rattle.arith.specs.Wrap.{wrap}
+use Rattle.num_arith.proofs.Range.{got}
+use Rattle.num_arith.specs.Wrap.{wrap}
 use Rattle.vectors.proofs.arith_row.Statement.{statement}
 use Rattle.vectors.proofs.arith_row.Tie as tie
 

@@ -4,8 +4,8 @@ use mathlib.Core.Path.{ap, _∙_}
 use lib.IntN.{ℤ}
 use mir.Facts.{toZ-ofZ}
 use mir.Syntax.{w32}
-use Rattle.le.specs.LittleEndian.{leBytes}
-use Rattle.arith.specs.Wrap.{word}
+use Rattle.num_le.specs.LittleEndian.{leBytes}
+use Rattle.num_arith.specs.Wrap.{word}
 use Rattle.vectors.proofs.bytes_row.Statement.{statement}
 use Rattle.vectors.proofs.bytes_row.Tie as tie
 

@@ -1,7 +1,7 @@
 -- `vectors::drive_rows` meets its contract: of each kind there are at most 256 pins, so the sums fit.
 use borrow.Author.Needs.{needs}
 use native.Mathlib.Omega.{arith}
-use Rattle.pins.specs.declared.PinKind.the-variants.{Input, OutputWritten, OutputRead}
+use Rattle.drive_pins.specs.declared.PinKind.the-variants.{Input, OutputWritten, OutputRead}
 use Rattle.vectors.proofs.Counts.{at-most}
 use Rattle.vectors.proofs.drive_rows.Statement.{statement}
 use Rattle.vectors.proofs.drive_rows.Tie as tie

@@ -1,7 +1,7 @@
 -- `vectors::header_outcome` meets its contract: it gives a field of what `header_row` gives.
 use borrow.Author.Needs.{needs}
 use mathlib.Core.Path.{ap}
-use Rattle.image.specs.declared.reader.HeaderRead.{HeaderRead}
+use Rattle.image_header.specs.declared.reader.HeaderRead.{HeaderRead}
 use Rattle.vectors.proofs.header_outcome.Statement.{statement}
 use Rattle.vectors.proofs.header_outcome.Tie as tie
 

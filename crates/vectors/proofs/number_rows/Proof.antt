@@ -1,6 +1,6 @@
 -- `vectors::number_rows` meets its contract: the definition of a number computes at each string of bytes.
 use borrow.Author.Needs.{needs}
-use Rattle.number.specs.Number.{numberAt, firstByte, secondByte}
+use Rattle.image_number.specs.Number.{numberAt, firstByte, secondByte}
 use Rattle.vectors.proofs.number_rows.Statement.{statement}
 use Rattle.vectors.proofs.number_rows.Tie as tie
 

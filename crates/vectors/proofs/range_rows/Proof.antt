@@ -2,9 +2,9 @@
 use borrow.Author.Needs.{needs}
 use mathlib.Core.Path.{refl}
 use Rattle.drive.specs.Types.{takes}
-use Rattle.number.specs.Number.{numberAt, firstByte, secondByte, numberBytes}
-use Rattle.image.specs.Rows.{checked}
-use Rattle.image.specs.Scan.{headerOf, closed, readWith, firstRefusal, lengthOutcome, scan, more, taken, judged, standsAt}
+use Rattle.image_number.specs.Number.{numberAt, firstByte, secondByte, numberBytes}
+use Rattle.image_header.specs.Rows.{checked}
+use Rattle.image_header.specs.Scan.{headerOf, closed, readWith, firstRefusal, lengthOutcome, scan, more, taken, judged, standsAt}
 use Rattle.vectors.proofs.Rows.{_◂_}
 use Rattle.vectors.proofs.range_rows.Statement.{statement}
 use Rattle.vectors.proofs.range_rows.Tie as tie

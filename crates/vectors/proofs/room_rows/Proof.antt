@@ -2,11 +2,11 @@
 use borrow.Author.Needs.{needs}
 use mathlib.Core.Path.{refl, ap}
 use Rattle.drive.specs.Types.{takes}
-use Rattle.number.specs.Number.{numberBytes}
-use Rattle.image.specs.Rows.{checked}
-use Rattle.image.specs.Scan.{firstRefusal, scan, more, taken, judged, standsAt}
-use Rattle.writer.specs.Writer.{written, fitted, writtenWith, roomOutcome}
-use Rattle.writer.specs.declared.Written.{Written}
+use Rattle.image_number.specs.Number.{numberBytes}
+use Rattle.image_header.specs.Rows.{checked}
+use Rattle.image_header.specs.Scan.{firstRefusal, scan, more, taken, judged, standsAt}
+use Rattle.image_writer.specs.Writer.{written, fitted, writtenWith, roomOutcome}
+use Rattle.image_writer.specs.declared.Written.{Written}
 use Rattle.vectors.proofs.Rows.{_◂_}
 use Rattle.vectors.proofs.room_rows.Statement.{statement}
 use Rattle.vectors.proofs.room_rows.Tie as tie

@@ -1,7 +1,7 @@
 -- `vectors::write_outcome` meets its contract: it gives a field of what `write_row` gives for a buffer of 16 bytes.
 use borrow.Author.Needs.{needs}
 use mathlib.Core.Path.{ap}
-use Rattle.writer.specs.declared.Written.{Written}
+use Rattle.image_writer.specs.declared.Written.{Written}
 use Rattle.vectors.proofs.write_outcome.Statement.{statement}
 use Rattle.vectors.proofs.write_outcome.Tie as tie
 

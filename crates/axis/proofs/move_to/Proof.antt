@@ -1,9 +1,0 @@
--- `move_to` meets its contract: it moves by the stored parameters.
-use Rattle.axis.proofs.move_to.Statement.{statement}
-use Rattle.axis.proofs.move_to.Tie as tie
-
-returns : tie.Need-returns
-returns c = rw (c .moves .ensures, c .before .axis .ensures)
-
-pub move-to-spec : {M : Type 1} → statement M
-move-to-spec = tie.close (tie.spec (λ c κs. tt) (λ c κs. tt) returns)

@@ -1,9 +1,0 @@
--- `stop_by` meets its contract: the stop asked for is by its operands.
-use Rattle.axis.proofs.stop_by.Statement.{statement}
-use Rattle.axis.proofs.stop_by.Tie as tie
-
-returns : tie.Need-returns
-returns c = c .asks .ensures
-
-pub stop-by-spec : {M : Type 1} → statement M
-stop-by-spec = tie.close (tie.spec (λ c κs. tt) returns)

@@ -1,0 +1,17 @@
+-- `mathematics` meets its contract: each arm of the match is the row of its code.
+use denote.Ref.{now}
+use Rattle.machine.specs.Given.{givenAt}
+use Rattle.machine.specs.Effect.{mathematicsRows, deedIn}
+use Rattle.exec_effect.proofs.Found.{found, missed}
+use Rattle.exec_control.proofs.mathematics.Statement.{statement}
+use Rattle.exec_control.proofs.mathematics.Tie as tie
+
+pub mathematics-spec : {M : Type 1} → statement M
+unfolding deedIn
+mathematics-spec =
+    tie.close
+    (tie.spec
+    (λ c κs. tt)
+    (λ c κs. tt)
+    (λ c. let a = c .before .before .before .args in found mathematicsRows (givenAt (a .m) (now (a .inputs))) (a .c) (a .v) (c .before .match .keys1) (c .start-mathematics .ensures))
+    (λ c. let a = c .before .before .before .args in missed mathematicsRows (givenAt (a .m) (now (a .inputs))) (a .c) (a .v) (a .c .code) (c .before .match .rest) (c .flows .ensures)))

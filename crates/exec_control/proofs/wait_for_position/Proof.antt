@@ -1,0 +1,21 @@
+-- `wait_for_position` meets its contract, by whether the position is reached.
+use mathlib.Core.Path.{sym, ap, _∙_}
+use mathlib.Core.Bool.{Bool, not, cond}
+use borrow.Author.Tests.{eq-eqb, ne-eqb}
+use Rattle.machine.specs.Effect.{flows}
+use Rattle.machine.specs.declared.Outcome.the-variants.{GoOn, Stay}
+use Rattle.exec_control.proofs.wait_for_position.Statement.{statement}
+use Rattle.exec_control.proofs.wait_for_position.Tie as tie
+
+pub wait-for-position-spec : {M : Type 1} → statement M
+wait-for-position-spec =
+    tie.close
+    (tie.spec
+    (λ c κs. tt)
+    (λ c.
+    let a = c .before .before .before .args in
+    c .flows .ensures ∙ ap (λ (t : Bool). flows (a .v) (cond (not t) GoOn (Stay 0 0))) (sym (eq-eqb (a .m .reached) 0 (c .before .if1 .taken))))
+    (λ c κs. tt)
+    (λ c.
+    let a = c .before .before .before .args in
+    c .flows2 .ensures ∙ ap (λ (t : Bool). flows (a .v) (cond (not t) GoOn (Stay 0 0))) (sym (ne-eqb (a .m .reached) 0 (c .before .if1 .left)))))

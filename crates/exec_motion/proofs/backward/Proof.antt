@@ -1,0 +1,9 @@
+-- `backward` meets its contract: it moves by the stored parameters.
+use Rattle.exec_motion.proofs.backward.Statement.{statement}
+use Rattle.exec_motion.proofs.backward.Tie as tie
+
+returns : tie.Need-returns
+returns c = rw (c .moves .ensures, c .before .axis .ensures)
+
+pub backward-spec : {M : Type 1} → statement M
+backward-spec = tie.close (tie.spec (λ c κs. tt) (λ c κs. tt) returns)

@@ -1,0 +1,13 @@
+-- `store_acceleration` meets its contract.
+use native.Mathlib.Omega.{arith}
+use borrow.Author.Needs.{needs}
+use mir.Facts.{toZ-ofZ}
+use Rattle.exec_motion.proofs.Ranges.{small}
+use Rattle.exec_motion.proofs.store_acceleration.Statement.{statement}
+use Rattle.exec_motion.proofs.store_acceleration.Tie as tie
+
+returns : tie.Need-returns
+returns c = let a = c .before .before .axis in rw (c .assigns .ensures, toZ-ofZ (small (a .result .acceleration) (omega arith)), a .ensures)
+
+pub store-acceleration-spec : {M : Type 1} → statement M
+store-acceleration-spec = tie.close (tie.spec (λ c κs. tt) (λ c. search needs) (λ c κs. tt) returns)

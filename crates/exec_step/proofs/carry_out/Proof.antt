@@ -1,0 +1,32 @@
+-- `carry_out` meets its contract.
+use mathlib.Core.Path.{sym, ap, subst, _∙_}
+use denote.Ref.{now}
+use Rattle.machine.specs.Given.{inputsOf}
+use Rattle.machine.specs.Deep.{Deep}
+use Rattle.machine.specs.Engine.{performed, termsHeld}
+use Rattle.machine.specs.declared.Effect.{Effect}
+use Rattle.machine.proofs.Room.{deep}
+use Rattle.exec_step.proofs.Laws.{same-effect}
+use Rattle.exec_step.proofs.carry_out.Statement.{statement}
+use Rattle.exec_step.proofs.carry_out.Tie as tie
+
+pub carry-out-spec : {M : Type 1} → statement M
+unfolding performed
+carry-out-spec =
+    tie.close
+    (tie.spec
+    (λ c κs. tt)
+    (λ c κs. tt)
+    (λ c κs. tt)
+    (λ c κs. c .before .before .before .before .before .before .before .before .pre .1 .1 .0)
+    (λ c κs.
+    let st = c .before .before .before .before .before .before .before .before .before in
+    let a = st .args in
+    let x = inputsOf (a .t) (now (a .inputs)) (a .start) (a .reached) in
+    let f = same-effect (a .s) x (a .k) _ _ _ _ (c .before .before .level .ensures) (c .before .level2 .ensures) (c .before .before .before .before .before .before .command-here .ensures) in
+    (st .pre .0, subst (λ (e : Effect). Deep (a .k .depth) (e .outcome)) (sym (c .perform .ensures ∙ f)) (deep (now (a .blocks)) (termsHeld (a .s)) (a .t) (a .k) (st .pre .1 .1 .1) (st .pre .1 .0) _ _)))
+    (λ c.
+    let a = c .before .before .before .before .before .before .before .before .before .before .args in
+    let x = inputsOf (a .t) (now (a .inputs)) (a .start) (a .reached) in
+    let f = same-effect (a .s) x (a .k) _ _ _ _ (c .before .before .before .level .ensures) (c .before .before .level2 .ensures) (c .before .before .before .before .before .before .before .command-here .ensures) in
+    c .performed .ensures ∙ ap (performed (a .s) x (a .k)) (c .before .perform .ensures ∙ f)))

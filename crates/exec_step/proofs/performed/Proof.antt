@@ -1,0 +1,19 @@
+-- `performed` meets its contract.
+use mathlib.Core.Path.{ap, _∙_}
+use Rattle.machine.specs.Engine.{answerTo}
+use Rattle.exec_step.proofs.Laws.{together}
+use Rattle.exec_step.proofs.performed.Statement.{statement}
+use Rattle.exec_step.proofs.performed.Tie as tie
+
+pub performed-spec : {M : Type 1} → statement M
+performed-spec =
+    tie.close
+    (tie.spec
+    (λ c κs. tt)
+    (λ c κs. c .before .before .before .pre)
+    (λ c κs. tt)
+    (λ c κs. tt)
+    (λ c.
+    let a = c .before .before .before .before .before .before .args in
+    together (a .state) (a .t) (a .start) (a .k) (a .e) _ _ _ (c .before .before .before .before .noted .ensures) (c .before .before .after .ensures)
+    (c .answer-to .ensures ∙ ap (answerTo (a .e .outcome)) (c .before .point-of .ensures))))

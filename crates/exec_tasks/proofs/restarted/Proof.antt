@@ -1,0 +1,10 @@
+-- `restarted` meets its contract: a task anew at its start.
+use borrow.Author.Needs.{needs}
+use Rattle.exec_tasks.proofs.restarted.Statement.{statement}
+use Rattle.exec_tasks.proofs.restarted.Tie as tie
+
+returns : tie.Need-returns
+returns c = search needs
+
+pub restarted-spec : {M : Type 1} → statement M
+restarted-spec = tie.close (tie.spec (λ c κs. tt) returns)

@@ -1,0 +1,28 @@
+-- How long an image can be: with each number of its header at its greatest, and the most blocks.
+use Prim.Native.Nat.{ℕ, zero, suc, _+_, _-_, _*_}
+use mathlib.Core.Bool.{cond}
+use mathlib.Core.List.{List, [], _∷_}
+use lib.Dec.{ltb}
+use lib.ListN.{length, getD}
+use Rattle.limits.specs.Limits.{mostBlocks, blockLength}
+use Rattle.drive.specs.Types.{types, slotB, slotC}
+use Rattle.image_header.specs.Rows.{format1, rowCount}
+
+-- the greatest that each number may be: format, type, slots B and C, start, count
+abbrev pub greatest : List ℕ
+greatest = format1 ∷ (types - 1) ∷ (length slotB - 1) ∷ (length slotC - 1) ∷ (mostBlocks - 1) ∷ mostBlocks ∷ []
+
+-- the bytes that a number up to v may take
+abbrev pub sizeUpTo : ℕ → ℕ
+sizeUpTo v = cond (ltb v 128) 1 2
+
+-- the bytes that the first k numbers may take
+abbrev pub longestFirst : ℕ → ℕ
+longestFirst zero = 0
+longestFirst (suc k) = longestFirst k + sizeUpTo (getD greatest k 0)
+
+abbrev pub longestHeader : ℕ
+longestHeader = longestFirst rowCount
+
+abbrev pub longestImage : ℕ
+longestImage = longestHeader + blockLength * mostBlocks

@@ -1,0 +1,254 @@
+-- Document 01's cases as one table of questions and answers ("Examples and faults to shut out"), and the change requests'. The questions are put to
+-- the definitions that stand in the contracts.
+use Prim.Native.Nat.{ℕ}
+use mathlib.Core.List.{List, [], _∷_, map}
+use lib.ListN.{replicate}
+use lib.IntN.{ℤ, pos, negsuc}
+use Rattle.image_number.specs.Number.{numberAt}
+use Rattle.image_number.specs.declared.Number.{Number}
+use Rattle.image_number.specs.declared.Number.the-variants.{Value, EndsEarly, NotShortest}
+use Rattle.image_result.specs.Outcome.{numberOf}
+use Rattle.image_result.specs.declared.Outcome.the-variants as outcome
+use Rattle.command_operands.specs.Operands.{command}
+use Rattle.command_operands.specs.declared.Command.{Command}
+use Rattle.walk.specs.Verdict.{verdictOf, verdictNumber, verdictPlace, verdictTask, verdictDepth}
+use Rattle.walk.specs.declared.Verdict.{Verdict}
+use Rattle.state.specs.State.{startAxis, freshValues, withVariable, taskAt}
+use Rattle.state.specs.declared.Task.{Task}
+use Rattle.state.specs.declared.State.{State}
+use Rattle.machine.specs.Given.{Given, Inputs}
+use Rattle.machine.specs.Effect.{effectOf, variable}
+use Rattle.machine.specs.Engine.{step}
+use Rattle.machine.specs.declared.Out.{Out}
+use Rattle.machine.specs.declared.Answer as machine
+use Rattle.machine.specs.Numbers.{answerNumber, answerPlace, answerTask, answerDepth}
+use Rattle.machine.specs.Run.{outs, stateAfter}
+use Rattle.machine.specs.Theorem.{loaded}
+use Rattle.machine.specs.declared.Request.{Request}
+use Rattle.machine.specs.declared.Request.the-variants.{None, MoveTo}
+use Rattle.proved_cases.specs.Images.{block, plain, toward, header, image, imageWith, imageFor, imageAt, blockA, caseA, chain}
+
+-- ---- names
+
+-- document 01's letter of a row, or what the row is about where it has none
+pub data Name : Type 0 where
+  A : Name
+  B : Name
+  C : Name
+  D : Name
+  E : Name
+  F : Name
+  G : Name
+  H : Name
+  I : Name
+  J : Name
+  K : Name
+  L : Name
+  chainOf : ℕ → Name
+  marksOf : ℕ → Name
+  blockBeforeTask : Name
+  taskBeforeDepth : Name
+  -- these blocks on a type with these boards in its slots B and C
+  onDrive : ℕ → ℕ → ℕ → List (List ℕ) → Name
+  -- an image that sets this output lent in place of one that sets output 12
+  outputInstead : ℕ → Name
+  heldStart : Name
+  startMark : Name
+
+-- ---- questions and answers
+
+pub data Question : Type 0 where
+  -- the verdict on an image, with marks of exactly the length that 13 asks for
+  verdict : List ℕ → Question
+  -- the verdict on case A with so many bytes of marks
+  lent : ℕ → Question
+  -- the answer of BIAS's first step after a load of the first image, with the second lent in its place
+  instead : List ℕ → List ℕ → Question
+  -- the number at place 0 of these bytes
+  number : List ℕ → Question
+  -- where BIAS stands before and after its step k of an image, the first being step 0
+  passes : List ℕ → ℕ → Question
+  -- what 85 makes of a variable and an operand, and 8D of two variables
+  divided : ℤ → ℤ → Question
+  dividedBy : ℤ → ℤ → Question
+  -- the motion requests of BIAS steps of an image, with these levels of the start input
+  requested : List ℕ → List ℕ → Question
+
+-- a block, and T and k of the wait that is pending there (0 and 0: none)
+pub record Stand : Type 0 where
+  pub block : ℕ
+  pub time : ℕ
+  pub turns : ℕ
+
+abbrev pub stand : ℕ → ℕ → ℕ → Stand
+stand block time turns = record { block = block; time = time; turns = turns }
+
+pub data Answer : Type 0 where
+  -- document 01's number, then byte or block, task and depth; all 0 for an image that is accepted and a step that is carried out
+  refusal : ℕ → ℕ → ℕ → ℕ → Answer
+  value : ℕ → Answer
+  -- document 01's number
+  noNumber : ℕ → Answer
+  standing : Stand → Stand → Answer
+  whole : ℤ → Answer
+  motions : List Request → Answer
+
+abbrev pub accepted : Answer
+accepted = refusal 0 0 0 0
+
+abbrev pub answerOf : Verdict → Answer
+answerOf v = refusal (verdictNumber v) (verdictPlace v) (verdictTask v) (verdictDepth v)
+
+abbrev pub stepAnswerOf : machine.Answer → Answer
+stepAnswerOf a = refusal (answerNumber a) (answerPlace a) (answerTask a) (answerDepth a)
+
+abbrev pub valueOf : Number → Answer
+valueOf (Value v next) = value v
+valueOf EndsEarly = noNumber (numberOf (outcome.EndsEarly 0))
+valueOf NotShortest = noNumber (numberOf (outcome.NotShortest 0))
+
+-- what a command of BIAS is given where all inputs are low and no wait is pending
+abbrev pub low : Given
+low = record { model = 2; levels = []; start = 0; reached = 0; time = 0; turns = 0 }
+
+-- variable 0 after a command, where variables 1 and 2 hold these
+abbrev pub resultOf : Command → ℤ → ℤ → ℤ
+resultOf c a b = variable (effectOf low c (withVariable 1 a (withVariable 2 b freshValues)) .values) 0
+
+abbrev pub biasStep : ℕ → Inputs
+biasStep start = record { task = 0; levels = replicate 256 0; start = start; reached = 0 }
+
+abbrev pub standAt : Task → Stand
+standAt k = stand (k .block) (k .time) (k .turns)
+
+-- before and after one more step
+unfoldable pub standings : List ℕ → State → Answer
+standings bytes s = standing (standAt (taskAt s 0)) (standAt (taskAt (step bytes s (biasStep 0) .state) 0))
+
+abbrev pub motionsOf : List Out → List Request
+motionsOf = map (λ (o : Out). o .request)
+
+abbrev pub ask : Question → Answer
+ask (verdict bytes) = answerOf (verdictOf bytes 27000)
+ask (lent n) = answerOf (verdictOf caseA n)
+ask (instead loadedImage lentImage) = stepAnswerOf (step lentImage (loaded loadedImage) (biasStep 0) .answer)
+ask (number bytes) = valueOf (numberAt bytes 0)
+ask (passes bytes k) = standings bytes (stateAfter bytes (loaded bytes) (replicate k (biasStep 0)))
+ask (divided a b) = whole (resultOf (command 0x85 0 1 0 0 b) a b)
+ask (dividedBy a b) = whole (resultOf (command 0x8D 0 1 2 0 (pos 0)) a b)
+ask (requested bytes starts) = motions (motionsOf (outs bytes (loaded bytes) (map biasStep starts)))
+
+-- ---- the table
+
+pub record Row : Type 0 where
+  pub name : Name
+  pub question : Question
+  pub answer : Answer
+
+abbrev pub row : Name → Question → Answer → Row
+row n q a = record { name = n; question = q; answer = a }
+
+-- a move to the stored position, for ever; and one with the start mark set before it
+abbrev pub mover : List ℕ
+mover = image (plain 0x00 ∷ blockA ∷ [])
+
+abbrev pub marked : List ℕ
+marked = image (plain 0x0E ∷ plain 0x00 ∷ toward 0x55 1 ∷ [])
+
+-- a wait of 1000 ms, then a jump back to it, on a type of drive
+abbrev pub waiter : ℕ → List ℕ
+waiter model = imageFor model (block 0x59 0xF4 1 0 ∷ blockA ∷ [])
+
+-- 72, an output set; 63, flag 0 read from an input; 6E, a jump to block 0 by bit 0 of variable 0
+abbrev pub outputSet : ℕ → List ℕ
+outputSet pin = block 0x72 pin 1 0
+
+abbrev pub inputRead : ℕ → List ℕ
+inputRead pin = block 0x63 0 pin 0
+
+abbrev pub bitJump : List ℕ
+bitJump = plain 0x6E
+
+abbrev pub driveRow : ℕ → ℕ → ℕ → List (List ℕ) → Answer → Row
+driveRow model b c blocks = row (onDrive model b c blocks) (verdict (imageWith model b c blocks))
+
+abbrev pub insteadRow : ℕ → Answer → Row
+insteadRow pin = row (outputInstead pin) (instead (image (outputSet 12 ∷ blockA ∷ [])) (image (outputSet pin ∷ blockA ∷ [])))
+
+unfoldable pub table : List Row
+table =
+    -- A: 55 and seven 00: accepted
+    row A (verdict caseA) accepted ∷
+    -- B: 50 and seven 00: 12 at block 0
+    row B (verdict (image (plain 0x50 ∷ []))) (refusal 12 0 0 0) ∷
+    -- C: A with start 1: 3 at byte 4
+    row C (verdict (imageAt 1 (blockA ∷ []))) (refusal 3 4 0 0) ∷
+    -- D: 52, 53, operands 00: 10 at block 0, at the greatest depth, which is 5 (change request 6)
+    row D (verdict (image (plain 0x52 ∷ plain 0x53 ∷ []))) (refusal 10 0 0 5) ∷
+    -- E: 50, 53, 52, 55, operands 00, start 2: 11 at block 1, depth 0
+    row E (verdict (imageAt 2 (plain 0x50 ∷ plain 0x53 ∷ plain 0x52 ∷ plain 0x55 ∷ []))) (refusal 11 1 0 0) ∷
+    -- F: 20 10 27 00 00 00 00 00, then 54, 55 with operands 00: 9 at task 1, block 0
+    row F (verdict (image (block 0x20 0x10 0x27 0 ∷ plain 0x54 ∷ plain 0x55 ∷ []))) (refusal 9 0 1 0) ∷
+    -- G: 1F 01 00 FA 00 00 00 00, then A's block: accepted
+    row G (verdict (image (block 0x1F 1 0 0xFA ∷ blockA ∷ []))) accepted ∷
+    -- H: 1F 01 01 FA instead: 7 at block 0
+    row H (verdict (image (block 0x1F 1 1 0xFA ∷ blockA ∷ []))) (refusal 7 0 0 0) ∷
+    -- I: 72 08 01 then 00s: 6
+    row I (verdict (image (block 0x72 0x08 1 0 ∷ []))) (refusal 6 0 0 0) ∷
+    -- I: 72 0C 01 and A's block: accepted
+    row I (verdict (image (block 0x72 0x0C 1 0 ∷ blockA ∷ []))) accepted ∷
+    -- J: a wait of 1000 ms (59 F4 01) passes at k = 527 on type 2, where it was pending with k = 526
+    row J (passes (waiter 2) 527) (standing (stand 0 1000 526) (stand 1 0 0)) ∷
+    -- J: at 1185 on type 4
+    row J (passes (waiter 4) 1185) (standing (stand 0 1000 1184) (stand 1 0 0)) ∷
+    -- K: DC 0B is 1500
+    row K (number (0xDC ∷ 0x0B ∷ [])) (value 1500) ∷
+    -- K: 80 00 gives 2, and 80 alone ends early, 1
+    row K (number (0x80 ∷ 0x00 ∷ [])) (noNumber 2) ∷
+    row K (number (0x80 ∷ [])) (noNumber 1) ∷
+    -- K: as the start of A, at byte 4
+    row K (verdict (header (0x80 ∷ 0x00 ∷ 1 ∷ blockA))) (refusal 2 4 0 0) ∷
+    -- L: -7 by 2 is -3
+    row L (divided (negsuc 6) (pos 2)) (whole (negsuc 2)) ∷
+    row L (dividedBy (negsuc 6) (pos 2)) (whole (negsuc 2)) ∷
+    -- change request 6, a chain of 5 nested calls: accepted
+    row (chainOf 5) (verdict (chain 5)) accepted ∷
+    -- of 6: 10, at the sixth call: block 10, depth 5
+    row (chainOf 6) (verdict (chain 6)) (refusal 10 10 0 5) ∷
+    -- change request 6, one byte of marks under 27,000: 13, which tells their length
+    row (marksOf 26999) (lent 26999) (refusal 13 26999 0 0) ∷
+    -- 27,000 are enough
+    row (marksOf 27000) (lent 27000) accepted ∷
+    -- change request 2, 54 01, 20, 50: the PLC's 9 at block 1 comes before the 12 of BIAS at block 2
+    row blockBeforeTask (verdict (image (toward 0x54 1 ∷ plain 0x20 ∷ plain 0x50 ∷ []))) (refusal 9 1 1 0) ∷
+    -- change request 2, 54 03, 52 03, 55 02, 50: at block 3 the 12 of BIAS at depth 1 comes before the PLC's at depth 0
+    row taskBeforeDepth (verdict (image (toward 0x54 3 ∷ toward 0x52 3 ∷ toward 0x55 2 ∷ plain 0x50 ∷ []))) (refusal 12 3 0 1) ∷
+    -- change request 3, 72 D9 01 on type 2: 23, pin 217 is on RP-EAE, which goes into slot C
+    driveRow 2 0 0 (outputSet 0xD9 ∷ []) (refusal 23 0 0 0) ∷
+    -- with slot C 1, and A's block behind it: accepted
+    driveRow 2 0 1 (outputSet 0xD9 ∷ blockA ∷ []) accepted ∷
+    -- on type 0, which takes no board: 6
+    driveRow 0 0 0 (outputSet 0xD9 ∷ []) (refusal 6 0 0 0) ∷
+    -- change request 3, 72 7D 01 on type 2: 6, pin 125 is on RP-2C8, which only type 4 takes
+    driveRow 2 0 0 (outputSet 0x7D ∷ []) (refusal 6 0 0 0) ∷
+    -- on type 4 with slot B empty, or with RP-EA5 there: 23
+    driveRow 4 0 0 (outputSet 0x7D ∷ []) (refusal 23 0 0 0) ∷
+    driveRow 4 1 0 (outputSet 0x7D ∷ []) (refusal 23 0 0 0) ∷
+    -- change request 3, 63 00 65 on type 2: 23, pin 101 is an input of RP-EA5
+    driveRow 2 0 0 (inputRead 0x65 ∷ []) (refusal 23 0 0 0) ∷
+    -- 72 65 01, an input set as an output: 6
+    driveRow 2 0 0 (outputSet 0x65 ∷ []) (refusal 6 0 0 0) ∷
+    -- 72 D9 02: 23 comes before the 7 of a level above 1
+    driveRow 2 0 0 (block 0x72 0xD9 2 0 ∷ []) (refusal 23 0 0 0) ∷
+    -- 6E on type 3: 6, which no board mends
+    driveRow 3 0 0 (bitJump ∷ []) (refusal 6 0 0 0) ∷
+    -- change request 3, a step at a block that 23 refuses, then one that 6 does: 17 for either
+    insteadRow 217 (refusal 17 0 0 0) ∷
+    insteadRow 8 (refusal 17 0 0 0) ∷
+    -- at a block that neither refuses it is carried out
+    insteadRow 13 accepted ∷
+    -- faults: a start input that is high at load is no slope; one that is low and then high is
+    row heldStart (requested mover (1 ∷ 1 ∷ 0 ∷ 1 ∷ [])) (motions (None ∷ None ∷ None ∷ MoveTo startAxis ∷ [])) ∷
+    -- the start mark of 0E starts a move without a slope, which clears it
+    row startMark (requested marked (1 ∷ 1 ∷ 1 ∷ 1 ∷ [])) (motions (None ∷ MoveTo startAxis ∷ None ∷ None ∷ [])) ∷
+    []

@@ -1,0 +1,43 @@
+-- `writing::put_header` meets its contract: one number put behind the other.
+use mathlib.Core.Path.{refl}
+use Rattle.image_header.specs.Numbers.{numbersOf}
+use Rattle.state_sections.proofs.Sections.{put, done}
+use Rattle.state_sections.proofs.Records.{record-put}
+use Rattle.state_layout.specs.Codecs.{headerWidths}
+use Rattle.state_layout.specs.Layout.{headerAt}
+use borrow.Author.Needs.{needs}
+use Rattle.state_encode.proofs.put_header.Statement.{statement}
+use Rattle.state_encode.proofs.put_header.Tie as tie
+
+returns : tie.Need-returns
+returns c =
+    let k4 = c .before .before in
+    let k3 = k4 .before .before in
+    let k2 = k3 .before .before in
+    let k1 = k2 .before .before in
+    let k0 = k1 .before .before in
+    record-put headerWidths (numbersOf _) headerAt refl
+    (put (k0 .put-byte .ensures)
+    (put (k1 .put-byte2 .ensures)
+    (put (k2 .put-byte3 .ensures)
+    (put (k3 .put-byte4 .ensures)
+    (put (k4 .put-word .ensures)
+    (put (c .put-word2 .ensures)
+    done))))))
+
+pub put-header-spec : {M : Type 1} → statement M
+put-header-spec =
+    tie.close
+    (tie.spec
+    (λ c κs. search needs)
+    (λ c. search needs)
+    (λ c κs. search needs)
+    (λ c. search needs)
+    (λ c κs. search needs)
+    (λ c. search needs)
+    (λ c κs. search needs)
+    (λ c. search needs)
+    (λ c κs. search needs)
+    (λ c. search needs)
+    (λ c κs. search needs)
+    returns)

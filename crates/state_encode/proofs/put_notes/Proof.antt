@@ -1,0 +1,17 @@
+-- `writing::put_notes` meets its contract: a record of one number.
+use mathlib.Core.Path.{refl}
+use mathlib.Core.List.{[], _∷_}
+use Rattle.state_sections.proofs.Sections.{put, done}
+use Rattle.state_sections.proofs.Records.{record-put}
+use Rattle.state_layout.specs.Codecs.{notesWidths}
+use Rattle.state_layout.specs.Layout.{notesAt}
+use borrow.Author.Needs.{needs}
+use Rattle.state_encode.proofs.put_notes.Statement.{statement}
+use Rattle.state_encode.proofs.put_notes.Tie as tie
+
+pub put-notes-spec : {M : Type 1} → statement M
+put-notes-spec =
+    tie.close
+    (tie.spec
+    (λ c κs. search needs)
+    (λ c. record-put notesWidths (_ ∷ []) notesAt refl (put (c .put-byte .ensures) done)))

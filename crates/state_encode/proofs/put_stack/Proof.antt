@@ -1,0 +1,52 @@
+-- `writing::put_stack` meets its contract: after i turns the bytes of i blocks are put.
+use Prim.Native.Nat.{ℕ, _-_, _≤_}
+use mathlib.Core.Path.{_≡_, refl, _∙_}
+use lib.ListN.{getD}
+use Rattle.limits.specs.Limits.{mostDepth}
+use Rattle.num_le.specs.LittleEndian.{leBytes}
+use Rattle.state_bytes.specs.Places.{puts, runs}
+use Rattle.state_bytes.proofs.Runs.{runs-none, runs-more, runs-all}
+use Rattle.state_layout.specs.Codecs.{stackBytes}
+use borrow.Author.Needs.{needs}
+use Rattle.state_encode.proofs.put_stack.Statement.{statement}
+use Rattle.state_encode.proofs.put_stack.Tie as tie
+
+abbrev Inv-loop : tie.InvT-loop
+Inv-loop b₀ at stack i₀ b i = (i ≤ mostDepth) × (b ≡ puts b₀ at (runs i (λ (j : ℕ). leBytes 2 (getD stack j 0))))
+
+abbrev μ-loop : tie.MeasureT-loop
+μ-loop b₀ at stack i₀ b i = mostDepth - i
+
+loop-again : tie.Need-loop-again Inv-loop μ-loop
+loop-again c =
+    let st = c .before .before .before .before .before in
+    let l = c .before .before .before .before .loop in (
+      search needs,
+      c .put-word .ensures
+          ∙ runs-more (λ (j : ℕ). leBytes 2 (getD (st .args .stack .now) j 0)) 2 (λ j. refl) (st .args .b .now) (st .args .at) (l .i) (l .b) (l .inv .1),
+    )
+
+returns : tie.Need-returns Inv-loop μ-loop
+unfolding stackBytes
+returns c =
+    let st = c .before .before in
+    let l = c .before .loop in
+    runs-all (λ (j : ℕ). leBytes 2 (getD (st .args .stack .now) j 0)) (st .args .b .now) (st .args .at) (l .i) mostDepth (l .b) (l .inv .0) (c .loop-test .left) (l .inv .1)
+
+pub put-stack-spec : {M : Type 1} → statement M
+put-stack-spec =
+    tie.close
+    (tie.spec
+    Inv-loop
+    μ-loop
+    (λ c. (search needs, runs-none _ _ _))
+    (λ c. search needs)
+    (λ c. search needs)
+    (λ c. search needs)
+    (λ c. search needs)
+    (λ c. search needs)
+    (λ c κs. search needs)
+    (λ c. search needs)
+    (λ c. search needs)
+    loop-again
+    returns)

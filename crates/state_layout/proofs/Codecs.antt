@@ -1,0 +1,186 @@
+-- The laws of each codec, at any place: how many bytes it has; what is read where they stand; and that a buffer has the bytes of what is read there.
+use Prim.Native.Nat.{ℕ, _+_, _*_, _<_, _≤_}
+use native.Mathlib.Omega.{arith}
+use mathlib.Core.Path.{_≡_, refl, sym, ap, _∙_, subst}
+use mathlib.Core.List.{List, [], _∷_}
+use lib.IntN.{ℤ, pos}
+use lib.ListN.{length, getD}
+use mir.Syntax.{w32}
+use mir.Val.{Fits, SFits, toZ}
+use mir.ValLaws.{toZ-fits}
+use mir.Facts.{ofZ-toZ}
+use Rattle.limits.specs.Limits.{plc, mathematics, mostDepth, cells, mostLevel}
+use Rattle.num_arith.specs.Wrap.{word, wrap}
+use Rattle.num_arith.proofs.Cut.{word-fits, word-same, wrap-same}
+use Rattle.drive.specs.Types.{slotB, slotC}
+use Rattle.drive.proofs.Laws.{board-small}
+use Rattle.image_header.specs.Numbers.{numbersOf, headerFrom}
+use Rattle.image_header.specs.Good.{Good as GoodHeader}
+use Rattle.image_header.specs.declared.Header.{Header}
+use Rattle.num_le.specs.LittleEndian.{Bytes, leBytes}
+use Rattle.state_bytes.specs.Places.{numberAt, signedAt, signedBytes}
+use Rattle.state_bytes.proofs.Runs.{length-runs}
+use Rattle.state_bytes.proofs.Has.{Has, number, signed, each, run, number-below, of-number, of-signed}
+use Rattle.state_bytes.proofs.Tables.{table-is, length-table, getD-table}
+use Rattle.state_sections.specs.Records.{recordBytes, recordIn}
+use Rattle.state_sections.proofs.Sections.{lens, length-joined, section, moved, end, part, together, at-first}
+use Rattle.state_sections.proofs.Records.{FitWidths, record-back, record-has}
+use Rattle.state.specs.Good.{GoodMotion, GoodNotes}
+use Rattle.state.specs.State.{taskAt}
+use Rattle.state.specs.declared.State.{State}
+use Rattle.state.specs.declared.Task.{Task}
+use Rattle.state.specs.declared.Motion.{Motion}
+use Rattle.state.specs.declared.Notes.{Notes}
+use Rattle.state_layout.specs.Codecs.{variablesLength, variableBytes, variablesIn, levelsLength, levelsIn, headerWidths, headerBytes, headerIn}
+use Rattle.state_layout.specs.Codecs.{motionWidths, motionRecord, motionBytes, motionFrom, motionIn, notesWidths, notesBytes, notesIn, startWidths, startBytes, startsIn}
+use Rattle.state_layout.specs.Codecs.{stackBytes, stackIn, taskLengths, taskLength, taskPart, taskParts, taskBytes, taskIn}
+use Rattle.state_layout.proofs.Bounds.{TaskFits}
+
+-- ---- variables
+
+pub variables-long : (v : List ℤ) → length (variableBytes v) ≡ variablesLength
+unfolding variableBytes
+variables-long v = length-runs (λ (k : ℕ). signedBytes (getD v k (pos 0))) 4 (λ k. refl) cells
+
+pub variables-back : (l : List ℕ) (at : ℕ) (v : List ℤ) → length v ≡ cells → ((i : ℕ) → SFits w32 (getD v i (pos 0))) → Has l at (variableBytes v) → variablesIn l at ≡ v
+unfolding variablesIn variableBytes
+variables-back l at v e f h =
+    table-is cells (λ (k : ℕ). signedAt l (at + 4 * k)) v (pos 0) e
+    (λ k lt. signed (getD v k (pos 0)) (f k) (each (λ (j : ℕ). signedBytes (getD v j (pos 0))) 4 (λ j. refl) cells h k lt))
+
+pub variables-has : (b : List ℕ) (at : ℕ) → Bytes b → Has b at (variableBytes (variablesIn b at))
+unfolding variableBytes variablesIn
+variables-has b at bytes =
+    run (λ (j : ℕ). signedBytes (getD (variablesIn b at) j (pos 0))) 4 (λ j. refl) cells b at
+    (λ k lt.
+    subst (λ (v : ℤ). Has b (at + 4 * k) (signedBytes v)) (sym (getD-table cells (λ (j : ℕ). signedAt b (at + 4 * j)) (pos 0) k lt))
+    (of-signed b (at + 4 * k) bytes))
+
+-- ---- flags, or outputs
+
+pub levels-long : (b : List ℕ) (at : ℕ) → length (levelsIn b at) ≡ levelsLength
+unfolding levelsIn
+levels-long b at = length-table cells (λ (k : ℕ). getD b (at + k) 0)
+
+pub levels-back : (l : List ℕ) (at : ℕ) (v : List ℕ) → length v ≡ levelsLength → Has l at v → levelsIn l at ≡ v
+unfolding levelsIn
+levels-back l at v e h = table-is cells (λ (k : ℕ). getD l (at + k) 0) v 0 e (λ k lt. h .is k (omega arith))
+
+pub levels-has : (b : List ℕ) (at : ℕ) → Has b at (levelsIn b at)
+unfolding levelsIn
+levels-has b at =
+    let long = levels-long b at in
+    record { is = λ k lt. sym (getD-table cells (λ (j : ℕ). getD b (at + j) 0) 0 k (omega arith)) }
+
+-- ---- the header
+
+header-fits : (h : Header) → GoodHeader h → FitWidths headerWidths (numbersOf h)
+header-fits h g =
+    let f = g .format in
+    let m = g .model in
+    let b = board-small slotB (h .drive .model) (h .drive .b) (g .boardB) in
+    let c = board-small slotC (h .drive .model) (h .drive .c) (g .boardC) in
+    let n = g .count .1 in
+    let s = g .start in
+    (omega arith, (omega arith, (omega arith, (omega arith, (omega arith, (omega arith, refl))))))
+
+pub header-back : (l : List ℕ) (at : ℕ) (h : Header) → GoodHeader h → Has l at (headerBytes h) → headerIn l at ≡ h
+header-back l at h g x = ap headerFrom (record-back headerWidths (numbersOf h) l at (header-fits h g) x)
+
+-- ---- motion
+
+motion-fits : (m : Motion) → GoodMotion m → FitWidths motionWidths (motionRecord m)
+motion-fits m g =
+    let p = word-fits w32 (m .axis .position) .fits in
+    let s = g .axis .speed .bounded in
+    let c = g .axis .acceleration .bounded in
+    let d = g .axis .deceleration .bounded in
+    let k = g .mark in
+    (p, (omega arith, (omega arith, (omega arith, (omega arith, refl)))))
+
+pub motion-back : (l : List ℕ) (at : ℕ) (m : Motion) → GoodMotion m → Has l at (motionBytes m) → motionIn l at ≡ m
+unfolding wrap
+motion-back l at m g x =
+    let a = m .axis in
+    ap motionFrom (record-back motionWidths (motionRecord m) l at (motion-fits m g) x)
+    ∙ λ ι.
+    record {
+      axis = record { position = wrap-same w32 (a .position) (g .axis .position) ι; speed = a .speed; acceleration = a .acceleration; deceleration = a .deceleration };
+      mark = m .mark;
+    }
+
+pub motion-has : (b : List ℕ) (at : ℕ) → Bytes b → Has b at (motionBytes (motionIn b at))
+motion-has b at bytes =
+    subst (λ (p : ℕ). Has b at (recordBytes motionWidths (p ∷ n 1 ∷ n 2 ∷ n 3 ∷ n 4 ∷ []))) (sym same) (record-has motionWidths b at bytes)
+  where
+    n : ℕ → ℕ
+    n k = getD (recordIn motionWidths b at) k 0
+
+    same : word w32 (toZ w32 (n 0)) ≡ n 0
+    same =
+        let f : Fits w32 (n 0) = record { fits = number-below 4 b (at + 0) bytes } in
+        word-same w32 (toZ w32 (n 0)) (toZ-fits w32 (n 0) f) ∙ ofZ-toZ f
+
+-- ---- notes
+
+pub notes-back : (l : List ℕ) (at : ℕ) (n : Notes) → GoodNotes n → Has l at (notesBytes n) → notesIn l at ≡ n
+notes-back l at n g x =
+    let h = g .level in
+    ap (λ (ns : List ℕ). record { level = getD ns 0 0 }) (record-back notesWidths (n .level ∷ []) l at (omega arith, refl) x)
+
+-- ---- the start blocks
+
+pub starts-back : (l : List ℕ) (at : ℕ) (s : State) → taskAt s plc .start < 65536 → taskAt s mathematics .start < 65536 → Has l at (startBytes s)
+    → startsIn l at ≡ taskAt s plc .start ∷ taskAt s mathematics .start ∷ []
+starts-back l at s p m x = record-back startWidths (taskAt s plc .start ∷ taskAt s mathematics .start ∷ []) l at (p, (m, refl)) x
+
+-- ---- a task
+
+pub stack-long : (l : List ℕ) → length (stackBytes l) ≡ 2 * mostDepth
+unfolding stackBytes
+stack-long l = length-runs (λ (i : ℕ). leBytes 2 (getD l i 0)) 2 (λ i. refl) mostDepth
+
+stack-back : (l : List ℕ) (at : ℕ) (v : List ℕ) → length v ≡ mostDepth → ((i : ℕ) → i < mostDepth → getD v i 0 < 65536) → Has l at (stackBytes v) → stackIn l at ≡ v
+unfolding stackIn stackBytes
+stack-back l at v e f h =
+    table-is mostDepth (λ (i : ℕ). numberAt 2 l (at + 2 * i)) v 0 e
+    (λ k lt. number 2 (getD v k 0) (f k lt) (each (λ (j : ℕ). leBytes 2 (getD v j 0)) 2 (λ j. refl) mostDepth h k lt))
+
+stack-has : (b : List ℕ) (at : ℕ) → Bytes b → Has b at (stackBytes (stackIn b at))
+unfolding stackBytes stackIn
+stack-has b at bytes =
+    run (λ (j : ℕ). leBytes 2 (getD (stackIn b at) j 0)) 2 (λ j. refl) mostDepth b at
+    (λ k lt.
+    subst (λ (v : ℕ). Has b (at + 2 * k) (leBytes 2 v)) (sym (getD-table mostDepth (λ (j : ℕ). numberAt 2 b (at + 2 * j)) 0 k lt))
+    (of-number 2 b (at + 2 * k) bytes))
+
+pub parts-long : (k : Task) → lens (taskParts k) ≡ taskLengths
+parts-long k = let s = stack-long (k .stack) in λ ι. 1 ∷ 1 ∷ 2 ∷ s ι ∷ 4 ∷ 4 ∷ []
+
+pub task-long : (k : Task) → length (taskBytes k) ≡ taskLength
+task-long k = length-joined (taskParts k) taskLengths (parts-long k)
+
+pub task-back : (l : List ℕ) (at : ℕ) (k : Task) (start : ℕ) → start ≡ k .start → TaskFits k → Has l at (taskBytes k) → taskIn l at start ≡ k
+task-back l at k start e f x =
+    let place = section (taskParts k) taskLengths (parts-long k) x in
+    let status = number 1 (k .status) (f .status) (moved (at + 0) at (omega arith) (place 0 (omega arith))) in
+    let depth = number 1 (k .depth) (f .depth) (place 1 (omega arith)) in
+    let block = number 2 (k .block) (f .block) (place 2 (omega arith)) in
+    let stack = stack-back l (at + taskPart 3) (k .stack) (f .long) (f .entry) (place 3 (omega arith)) in
+    let time = number 4 (k .time) (f .time) (place 4 (omega arith)) in
+    let turns = number 4 (k .turns) (f .turns) (place 5 (omega arith)) in
+    λ ι.
+    record { status = status ι; block = block ι; start = e ι; depth = depth ι; stack = stack ι; time = time ι; turns = turns ι }
+
+pub task-has : (b : List ℕ) (at start : ℕ) → Bytes b → Has b at (taskBytes (taskIn b at start))
+task-has b at start bytes =
+    moved (at + 0) at (omega arith)
+    (together
+    (part (at-first (of-number 1 b at bytes))
+    (part (of-number 1 b (at + taskPart 1) bytes)
+    (part (of-number 2 b (at + taskPart 2) bytes)
+    (part (stack-has b (at + taskPart 3) bytes)
+    (part (of-number 4 b (at + taskPart 4) bytes)
+    (part (of-number 4 b (at + taskPart 5) bytes)
+    end))))))
+    (parts-long (taskIn b at start)))

@@ -1,0 +1,247 @@
+-- 16 and good states say the same: a good state passes every test, and a state that passes them, and whose lists have the lengths of the layout, is good.
+use Prim.Native.Nat.{ℕ, zero, suc, _<_, _≤_}
+use native.Mathlib.Omega.{arith}
+use mathlib.Core.Path.{_≡_, refl, sym, subst}
+use mathlib.Core.Bool.{Bool, true, false, _&&_, _||_, not}
+use mathlib.Core.List.{List}
+use mathlib.Core.Logic.{_⊎_, inl, inr, ⊎-elim}
+use lib.Dec.{eqb, ltb, leb}
+use lib.IntN.{pos}
+use lib.ListN.{length, getD, List·getD-eq-default}
+use borrow.Author.Count.{below-more}
+use borrow.Author.Tests.{ltb-true, leb-true, eqb-true, not-true, lt-ltb, le-leb, eq-eqb}
+use mir.Syntax.{w32}
+use mir.Val.{SFits}
+use Rattle.limits.specs.Limits.{bias, plc, mathematics, taskCount, mostDepth, cells, mostLevel, mostSpeed, mostRamp, longestWait, upTo}
+use Rattle.image_header.specs.Rows.{accepts}
+use Rattle.image_header.specs.declared.Header.{Header}
+use Rattle.image_header.proofs.Rows.{accepted-good, good-accepted}
+use Rattle.image_number.proofs.Choice.{by, both}
+use Rattle.state.specs.Good.{GoodWait, GoodTask, InRange, GoodCells, GoodMotion, GoodValues, Good}
+use Rattle.state.specs.State.{halted, taskAt}
+use Rattle.state.specs.Wait.{due}
+use Rattle.state.specs.declared.Task.{Task}
+use Rattle.state.specs.declared.Cells.{Cells}
+use Rattle.state.specs.declared.Motion.{Motion}
+use Rattle.state.specs.declared.Values.{Values}
+use Rattle.state.specs.declared.State.{State}
+use Rattle.state_layout.specs.Test.{allOf, waitIs, entryIs, taskIs, levelIs, cellsAre, motionIs, notesAre, valuesAre, stateIs}
+
+-- one of two tests was passed
+one : (a b : Bool) → (a || b) ≡ true → (a ≡ true) ⊎ (b ≡ true)
+one true b e = inl refl
+one false b e = inr e
+
+first : (a b : Bool) → a ≡ true → (a || b) ≡ true
+first a b e = rw e
+
+second : (a b : Bool) → b ≡ true → (a || b) ≡ true
+second true b e = refl
+second false b e = e
+
+-- ---- a test of each of a list
+
+all-true : (test : ℕ → ℕ → Bool) (l : List ℕ) (n : ℕ) → allOf test l n ≡ true → (k : ℕ) → k < n → test k (getD l k 0) ≡ true
+unfolding allOf
+all-true test l zero e k lt = absurd (omega arith)
+all-true test l (suc n) e k lt =
+    let r = both (allOf test l n) (test n (getD l n 0)) e in
+    below-more (λ (j : ℕ). test j (getD l j 0) ≡ true) n (all-true test l n (r .0)) (r .1) k (omega arith)
+
+true-all : (test : ℕ → ℕ → Bool) (l : List ℕ) (n : ℕ) → ((k : ℕ) → k < n → test k (getD l k 0) ≡ true) → allOf test l n ≡ true
+unfolding allOf
+true-all test l zero h = refl
+true-all test l (suc n) h = rw (true-all test l n (λ k lt. h k (omega arith)), h n (omega arith))
+
+-- ---- waits
+
+judged-wait : (m time turns : ℕ) → waitIs m time turns ≡ true → GoodWait m time turns
+judged-wait m time turns e =
+    ⊎-elim
+    (λ c.
+    let r = both (eqb time 0) (eqb turns 0) c in
+    subst (λ (x : ℕ). GoodWait m x turns) (sym (eqb-true time 0 (r .0))) (subst (λ (y : ℕ). GoodWait m 0 y) (sym (eqb-true turns 0 (r .1))) GoodWait.none))
+    (λ c.
+    let r = both (ltb 0 time) (leb time longestWait && not (due m time turns)) c in
+    let q = both (leb time longestWait) (not (due m time turns)) (r .1) in
+    GoodWait.pending (ltb-true 0 time (r .0)) (leb-true time longestWait (q .0)) (not-true (due m time turns) (q .1)))
+    (one (eqb time 0 && eqb turns 0) (ltb 0 time && (leb time longestWait && not (due m time turns))) e)
+
+wait-judged : (m time turns : ℕ) → GoodWait m time turns → waitIs m time turns ≡ true
+wait-judged m time turns GoodWait.none = refl
+wait-judged m time turns (GoodWait.pending a b e) = second (eqb time 0 && eqb turns 0) _ (rw (lt-ltb 0 time a, le-leb time longestWait b, e))
+
+-- ---- tasks
+
+module _ (h : Header) (k : Task) where
+  entry-judged : GoodTask h k → (i : ℕ) → entryIs (h .count) (k .depth) i (getD (k .stack) i 0) ≡ true
+  entry-judged g i =
+      let x : ℕ = getD (k .stack) i 0 in
+      by i (k .depth)
+      (λ c. first (ltb i (k .depth) && ltb x (h .count)) (leb (k .depth) i && eqb x 0) (rw (lt-ltb i (k .depth) c, lt-ltb x (h .count) (g .under i c))))
+      (λ c. second (ltb i (k .depth) && ltb x (h .count)) (leb (k .depth) i && eqb x 0) (rw (le-leb (k .depth) i c, eq-eqb x 0 (g .above i c))))
+
+  module _ (i : ℕ) (e : entryIs (h .count) (k .depth) i (getD (k .stack) i 0) ≡ true) where
+    ways : ((ltb i (k .depth) && ltb (getD (k .stack) i 0) (h .count)) ≡ true) ⊎ ((leb (k .depth) i && eqb (getD (k .stack) i 0) 0) ≡ true)
+    ways = one (ltb i (k .depth) && ltb (getD (k .stack) i 0) (h .count)) (leb (k .depth) i && eqb (getD (k .stack) i 0) 0) e
+
+    under-depth : i < k .depth → getD (k .stack) i 0 < h .count
+    under-depth l =
+        ⊎-elim (λ c. ltb-true (getD (k .stack) i 0) (h .count) (both (ltb i (k .depth)) _ c .1))
+        (λ c. let z = leb-true (k .depth) i (both (leb (k .depth) i) _ c .0) in absurd (omega arith))
+        ways
+
+    above-depth : k .depth ≤ i → getD (k .stack) i 0 ≡ 0
+    above-depth l =
+        ⊎-elim (λ c. let z = ltb-true i (k .depth) (both (ltb i (k .depth)) _ c .0) in absurd (omega arith))
+        (λ c. eqb-true (getD (k .stack) i 0) 0 (both (leb (k .depth) i) _ c .1))
+        ways
+
+  judged-task : length (k .stack) ≡ mostDepth → taskIs h k ≡ true → GoodTask h k
+  judged-task long e =
+      let r1 = both (leb (k .status) halted) _ e in
+      let r2 = both (ltb (k .block) (h .count)) _ (r1 .1) in
+      let r3 = both (ltb (k .start) (h .count)) _ (r2 .1) in
+      let r4 = both (leb (k .depth) mostDepth) _ (r3 .1) in
+      let r5 = both (allOf (entryIs (h .count) (k .depth)) (k .stack) mostDepth) _ (r4 .1) in
+      let d = leb-true (k .depth) mostDepth (r4 .0) in
+      let entry = all-true (entryIs (h .count) (k .depth)) (k .stack) mostDepth (r5 .0) in
+      record {
+        status = leb-true (k .status) halted (r1 .0);
+        block = ltb-true (k .block) (h .count) (r2 .0);
+        start = ltb-true (k .start) (h .count) (r3 .0);
+        depth = d;
+        long = long;
+        under = λ i l. under-depth i (entry i (omega arith)) l;
+        above = λ i l. by i mostDepth (λ c. above-depth i (entry i c) l) (λ c. List·getD-eq-default (k .stack) 0 {n = i} (omega arith));
+        wait = judged-wait (h .drive .model) (k .time) (k .turns) (r5 .1);
+      }
+
+  task-judged : GoodTask h k → taskIs h k ≡ true
+  task-judged g =
+      rw (
+        le-leb (k .status) halted (g .status),
+        lt-ltb (k .block) (h .count) (g .block),
+        lt-ltb (k .start) (h .count) (g .start),
+        le-leb (k .depth) mostDepth (g .depth),
+        true-all (entryIs (h .count) (k .depth)) (k .stack) mostDepth (λ i lt. entry-judged g i),
+        wait-judged (h .drive .model) (k .time) (k .turns) (g .wait),
+      )
+
+-- ---- values
+
+range-judged : (most n : ℕ) → InRange most n → upTo most n ≡ true
+range-judged most n r = rw (lt-ltb 0 n (r .positive), le-leb n most (r .bounded))
+
+judged-range : (most n : ℕ) → upTo most n ≡ true → InRange most n
+judged-range most n e = let r = both (ltb 0 n) (leb n most) e in record { positive = ltb-true 0 n (r .0); bounded = leb-true n most (r .1) }
+
+levels-judged : (l : List ℕ) → ((i : ℕ) → getD l i 0 ≤ mostLevel) → allOf levelIs l cells ≡ true
+levels-judged l h = true-all levelIs l cells (λ k lt. le-leb (getD l k 0) mostLevel (h k))
+
+judged-levels : (l : List ℕ) → length l ≡ cells → allOf levelIs l cells ≡ true → (i : ℕ) → getD l i 0 ≤ mostLevel
+judged-levels l long e i =
+    by i cells (λ c. leb-true (getD l i 0) mostLevel (all-true levelIs l cells e i c))
+    (λ c. let z = List·getD-eq-default l 0 {n = i} (omega arith) in omega arith)
+
+cells-judged : (c : Cells) → GoodCells c → cellsAre c ≡ true
+cells-judged c g = rw (levels-judged (c .flags) (g .flag), levels-judged (c .outputs) (g .output))
+
+motion-judged : (m : Motion) → GoodMotion m → motionIs m ≡ true
+motion-judged m g =
+    rw (
+      range-judged mostSpeed (m .axis .speed) (g .axis .speed),
+      range-judged mostRamp (m .axis .acceleration) (g .axis .acceleration),
+      range-judged mostRamp (m .axis .deceleration) (g .axis .deceleration),
+      le-leb (m .mark) mostLevel (g .mark),
+    )
+
+values-judged : (v : Values) → GoodValues v → valuesAre v ≡ true
+values-judged v g =
+    rw (cells-judged (v .cells) (g .cells), motion-judged (v .motion) (g .motion), le-leb (v .notes .level) mostLevel (g .notes .level))
+
+-- ---- the state
+
+-- what no test says of a state and the buffer's shape does: lengths, numbers that fit, BIAS's start
+pub record Shaped (s : State) : Type 0 where
+  pub variables : length (s .values .cells .variables) ≡ cells
+  pub signed : (i : ℕ) → SFits w32 (getD (s .values .cells .variables) i (pos 0))
+  pub flags : length (s .values .cells .flags) ≡ cells
+  pub outputs : length (s .values .cells .outputs) ≡ cells
+  pub position : SFits w32 (s .values .motion .axis .position)
+  pub three : length (s .tasks) ≡ taskCount
+  pub stack : (t : ℕ) → t < taskCount → length (taskAt s t .stack) ≡ mostDepth
+  pub first : taskAt s bias .start ≡ s .header .start
+
+judged-cells : (s : State) → Shaped s → cellsAre (s .values .cells) ≡ true → GoodCells (s .values .cells)
+judged-cells s x e =
+    let c = s .values .cells in
+    let r = both (allOf levelIs (c .flags) cells) (allOf levelIs (c .outputs) cells) e in
+    record {
+      variables = x .variables;
+      signed = x .signed;
+      flags = x .flags;
+      flag = judged-levels (c .flags) (x .flags) (r .0);
+      outputs = x .outputs;
+      output = judged-levels (c .outputs) (x .outputs) (r .1);
+    }
+
+judged-motion : (m : Motion) → SFits w32 (m .axis .position) → motionIs m ≡ true → GoodMotion m
+judged-motion m position e =
+    let r1 = both (upTo mostSpeed (m .axis .speed)) _ e in
+    let r2 = both (upTo mostRamp (m .axis .acceleration)) _ (r1 .1) in
+    let r3 = both (upTo mostRamp (m .axis .deceleration)) (leb (m .mark) mostLevel) (r2 .1) in
+    record {
+      axis = record {
+        position = position;
+        speed = judged-range mostSpeed (m .axis .speed) (r1 .0);
+        acceleration = judged-range mostRamp (m .axis .acceleration) (r2 .0);
+        deceleration = judged-range mostRamp (m .axis .deceleration) (r3 .0);
+      };
+      mark = leb-true (m .mark) mostLevel (r3 .1);
+    }
+
+judged-values : (s : State) → Shaped s → valuesAre (s .values) ≡ true → GoodValues (s .values)
+judged-values s x e =
+    let v = s .values in
+    let r1 = both (cellsAre (v .cells)) _ e in
+    let r2 = both (motionIs (v .motion)) (notesAre (v .notes)) (r1 .1) in
+    record {
+      cells = judged-cells s x (r1 .0);
+      motion = judged-motion (v .motion) (x .position) (r2 .0);
+      notes = record { level = leb-true (v .notes .level) mostLevel (r2 .1) };
+    }
+
+pub good-judged : (s : State) → Good s → stateIs s ≡ true
+unfolding stateIs
+good-judged s g =
+    rw (
+      good-accepted (s .header) (g .header),
+      values-judged (s .values) (g .values),
+      task-judged (s .header) (taskAt s bias) (g .task bias (omega arith)),
+      task-judged (s .header) (taskAt s plc) (g .task plc (omega arith)),
+      task-judged (s .header) (taskAt s mathematics) (g .task mathematics (omega arith)),
+    )
+
+pub judged-good : (s : State) → Shaped s → stateIs s ≡ true → Good s
+unfolding stateIs
+judged-good s x e =
+    let r1 = both (accepts (s .header)) _ e in
+    let r2 = both (valuesAre (s .values)) _ (r1 .1) in
+    let r3 = both (taskIs (s .header) (taskAt s bias)) _ (r2 .1) in
+    let r4 = both (taskIs (s .header) (taskAt s plc)) (taskIs (s .header) (taskAt s mathematics)) (r3 .1) in
+    let task : (t : ℕ) → t < taskCount → GoodTask (s .header) (taskAt s t) = each (r3 .0) (r4 .0) (r4 .1) in
+    record {
+      header = accepted-good (s .header) (r1 .0);
+      values = judged-values s x (r2 .0);
+      three = x .three;
+      task = task;
+      first = x .first;
+    }
+  where
+    each : taskIs (s .header) (taskAt s bias) ≡ true → taskIs (s .header) (taskAt s plc) ≡ true → taskIs (s .header) (taskAt s mathematics) ≡ true → (t : ℕ)
+        → t < taskCount → GoodTask (s .header) (taskAt s t)
+    each a b c zero l = judged-task (s .header) (taskAt s bias) (x .stack bias (omega arith)) a
+    each a b c (suc zero) l = judged-task (s .header) (taskAt s plc) (x .stack plc (omega arith)) b
+    each a b c (suc (suc zero)) l = judged-task (s .header) (taskAt s mathematics) (x .stack mathematics (omega arith)) c
+    each a b c (suc (suc (suc t))) l = absurd (omega arith)

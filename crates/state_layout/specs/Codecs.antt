@@ -1,0 +1,148 @@
+-- One codec for each kind of section of the state buffer (docs/STATE.md): its length, its bytes, and what is read where they stand.
+use Prim.Native.Nat.{ℕ, _+_, _*_}
+use mathlib.Core.List.{List, [], _∷_}
+use lib.ListN.{getD}
+use lib.IntN.{ℤ, pos}
+use mir.Syntax.{w32}
+use mir.Val.{toZ}
+use Rattle.limits.specs.Limits.{plc, mathematics, mostDepth, cells}
+use Rattle.num_arith.specs.Wrap.{word}
+use Rattle.num_le.specs.LittleEndian.{leBytes}
+use Rattle.image_header.specs.Numbers.{numbersOf, headerFrom}
+use Rattle.image_header.specs.declared.Header.{Header}
+use Rattle.state_bytes.specs.Places.{numberAt, signedAt, signedBytes, table, runs}
+use Rattle.state_sections.specs.Sections.{joined, total, offset}
+use Rattle.state_sections.specs.Records.{recordBytes, recordIn}
+use Rattle.state.specs.State.{taskAt}
+use Rattle.state.specs.declared.Task.{Task}
+use Rattle.state.specs.declared.Axis.{Axis}
+use Rattle.state.specs.declared.Motion.{Motion}
+use Rattle.state.specs.declared.Notes.{Notes}
+use Rattle.state.specs.declared.State.{State}
+
+-- ---- the variables, four bytes each
+
+abbrev pub variablesLength : ℕ
+variablesLength = 4 * cells
+
+unfoldable pub variableBytes : List ℤ → List ℕ
+variableBytes l = runs cells (λ (k : ℕ). signedBytes (getD l k (pos 0)))
+
+unfoldable pub variablesIn : List ℕ → ℕ → List ℤ
+variablesIn s at = table cells (λ (k : ℕ). signedAt s (at + 4 * k))
+
+-- ---- the flags, or the outputs, a byte each: they are their bytes
+
+abbrev pub levelsLength : ℕ
+levelsLength = cells
+
+unfoldable pub levelsIn : List ℕ → ℕ → List ℕ
+levelsIn s at = table cells (λ (k : ℕ). getD s (at + k) 0)
+
+-- ---- the layout number: each release that moves a byte, or gives one another meaning, raises it, and 16 refuses another, so that a state saved by a
+-- release with another layout is none. The two layouts before the third had no number: they had the header here, whose first byte is the format, 1.
+
+abbrev pub layoutNumber : ℕ
+layoutNumber = 3
+
+abbrev pub layoutWidths : List ℕ
+layoutWidths = 1 ∷ []
+
+abbrev pub layoutBytes : List ℕ
+layoutBytes = recordBytes layoutWidths (layoutNumber ∷ [])
+
+-- ---- the header: format, type, slot B, slot C, start, count
+
+abbrev pub headerWidths : List ℕ
+headerWidths = 1 ∷ 1 ∷ 1 ∷ 1 ∷ 2 ∷ 2 ∷ []
+
+abbrev pub headerBytes : Header → List ℕ
+headerBytes h = recordBytes headerWidths (numbersOf h)
+
+abbrev pub headerIn : List ℕ → ℕ → Header
+headerIn s at = headerFrom (recordIn headerWidths s at)
+
+-- ---- motion: position, speed, acceleration, deceleration, start mark
+
+abbrev pub motionWidths : List ℕ
+motionWidths = 4 ∷ 2 ∷ 2 ∷ 2 ∷ 1 ∷ []
+
+abbrev pub motionRecord : Motion → List ℕ
+motionRecord m = word w32 (m .axis .position) ∷ m .axis .speed ∷ m .axis .acceleration ∷ m .axis .deceleration ∷ m .mark ∷ []
+
+abbrev pub motionBytes : Motion → List ℕ
+motionBytes m = recordBytes motionWidths (motionRecord m)
+
+abbrev pub axisFrom : List ℕ → Axis
+axisFrom ns = record { position = toZ w32 (getD ns 0 0); speed = getD ns 1 0; acceleration = getD ns 2 0; deceleration = getD ns 3 0 }
+
+abbrev pub motionFrom : List ℕ → Motion
+motionFrom ns = record { axis = axisFrom ns; mark = getD ns 4 0 }
+
+abbrev pub motionIn : List ℕ → ℕ → Motion
+motionIn s at = motionFrom (recordIn motionWidths s at)
+
+-- ---- the notes of the preceding BIAS step: the start input's level
+
+abbrev pub notesWidths : List ℕ
+notesWidths = 1 ∷ []
+
+abbrev pub notesBytes : Notes → List ℕ
+notesBytes n = recordBytes notesWidths (n .level ∷ [])
+
+abbrev pub notesIn : List ℕ → ℕ → Notes
+notesIn s at = record { level = getD (recordIn notesWidths s at) 0 0 }
+
+-- ---- the start blocks of the PLC and of mathematics; BIAS's is the header's start
+
+abbrev pub startWidths : List ℕ
+startWidths = 2 ∷ 2 ∷ []
+
+abbrev pub startBytes : State → List ℕ
+startBytes s = recordBytes startWidths (taskAt s plc .start ∷ taskAt s mathematics .start ∷ [])
+
+abbrev pub startsIn : List ℕ → ℕ → List ℕ
+startsIn s at = recordIn startWidths s at
+
+-- ---- a task: status, depth, block; its call stack; the wait's T and k
+
+unfoldable pub stackBytes : List ℕ → List ℕ
+stackBytes l = runs mostDepth (λ (i : ℕ). leBytes 2 (getD l i 0))
+
+unfoldable pub stackIn : List ℕ → ℕ → List ℕ
+stackIn s at = table mostDepth (λ (i : ℕ). numberAt 2 s (at + 2 * i))
+
+abbrev pub taskLengths : List ℕ
+taskLengths = 1 ∷ 1 ∷ 2 ∷ (2 * mostDepth) ∷ 4 ∷ 4 ∷ []
+
+abbrev pub taskLength : ℕ
+taskLength = total taskLengths
+
+-- the places of the parts behind the record's first byte
+abbrev pub taskPart : ℕ → ℕ
+taskPart k = offset taskLengths k
+
+abbrev pub taskParts : Task → List (List ℕ)
+taskParts k =
+    leBytes 1 (k .status)
+    ∷ leBytes 1 (k .depth)
+    ∷ leBytes 2 (k .block)
+    ∷ stackBytes (k .stack)
+    ∷ leBytes 4 (k .time)
+    ∷ leBytes 4 (k .turns)
+    ∷ []
+
+abbrev pub taskBytes : Task → List ℕ
+taskBytes k = joined (taskParts k)
+
+-- with its start
+abbrev pub taskIn : List ℕ → ℕ → ℕ → Task
+taskIn s at start = record {
+  status = numberAt 1 s at;
+  block = numberAt 2 s (at + taskPart 2);
+  start = start;
+  depth = numberAt 1 s (at + taskPart 1);
+  stack = stackIn s (at + taskPart 3);
+  time = numberAt 4 s (at + taskPart 4);
+  turns = numberAt 4 s (at + taskPart 5);
+}

@@ -1,0 +1,106 @@
+-- The state buffer (docs/STATE.md): its sections, one line for each, in the same order in `lengths` and in `sections`; a state's bytes; and the state that a
+-- buffer holds. Every buffer is read as some state; 16 (specs/Test.antt) says which are one.
+use Prim.Native.Nat.{ℕ, _+_, _-_, _*_}
+use mathlib.Core.List.{List, [], _∷_}
+use lib.ListN.{getD}
+use Rattle.limits.specs.Limits.{bias, plc, mathematics, stateLength}
+use Rattle.state_sections.specs.Sections.{total, offset, filled}
+use Rattle.state.specs.State.{taskAt}
+use Rattle.state.specs.declared.Cells.{Cells}
+use Rattle.state.specs.declared.Values.{Values}
+use Rattle.state.specs.declared.State.{State}
+use Rattle.state_layout.specs.Codecs.{variablesLength, variableBytes, variablesIn, levelsLength, levelsIn, layoutWidths, layoutBytes}
+use Rattle.state_layout.specs.Codecs.{headerWidths, headerBytes, headerIn, motionWidths, motionBytes, motionIn, notesWidths, notesBytes, notesIn}
+use Rattle.state_layout.specs.Codecs.{startWidths, startBytes, startsIn, taskLength, taskBytes, taskIn}
+
+abbrev pub lengths : List ℕ
+lengths =
+    variablesLength
+    ∷ levelsLength
+    ∷ levelsLength
+    ∷ total layoutWidths
+    ∷ total headerWidths
+    ∷ total motionWidths
+    ∷ total notesWidths
+    ∷ total startWidths
+    ∷ taskLength
+    ∷ taskLength
+    ∷ taskLength
+    ∷ []
+
+abbrev pub sections : State → List (List ℕ)
+sections s =
+    variableBytes (s .values .cells .variables)
+    ∷ s .values .cells .flags
+    ∷ s .values .cells .outputs
+    ∷ layoutBytes
+    ∷ headerBytes (s .header)
+    ∷ motionBytes (s .values .motion)
+    ∷ notesBytes (s .values .notes)
+    ∷ startBytes s
+    ∷ taskBytes (taskAt s bias)
+    ∷ taskBytes (taskAt s plc)
+    ∷ taskBytes (taskAt s mathematics)
+    ∷ []
+
+-- ---- their places
+
+abbrev pub variablesAt : ℕ
+variablesAt = offset lengths 0
+
+abbrev pub flagsAt : ℕ
+flagsAt = offset lengths 1
+
+abbrev pub outputsAt : ℕ
+outputsAt = offset lengths 2
+
+abbrev pub layoutAt : ℕ
+layoutAt = offset lengths 3
+
+abbrev pub headerAt : ℕ
+headerAt = offset lengths 4
+
+abbrev pub motionAt : ℕ
+motionAt = offset lengths 5
+
+abbrev pub notesAt : ℕ
+notesAt = offset lengths 6
+
+abbrev pub startsAt : ℕ
+startsAt = offset lengths 7
+
+abbrev pub tasksAt : ℕ
+tasksAt = offset lengths 8
+
+abbrev pub taskPlace : ℕ → ℕ
+taskPlace t = tasksAt + taskLength * t
+
+-- the bytes behind them are unused
+abbrev pub unusedAt : ℕ
+unusedAt = total lengths
+
+abbrev pub unusedLength : ℕ
+unusedLength = stateLength - unusedAt
+
+-- ---- the buffer of a state
+
+unfoldable pub encoded : State → List ℕ
+encoded s = filled stateLength lengths (sections s)
+
+-- ---- the state of a buffer
+
+abbrev pub cellsIn : List ℕ → Cells
+cellsIn b = record { variables = variablesIn b variablesAt; flags = levelsIn b flagsAt; outputs = levelsIn b outputsAt }
+
+abbrev pub valuesIn : List ℕ → Values
+valuesIn b = record { cells = cellsIn b; motion = motionIn b motionAt; notes = notesIn b notesAt }
+
+unfoldable pub decoded : List ℕ → State
+decoded b = record {
+  values = valuesIn b;
+  header = headerIn b headerAt;
+  tasks = taskIn b (taskPlace bias) (headerIn b headerAt .start)
+      ∷ taskIn b (taskPlace plc) (getD (startsIn b startsAt) 0 0)
+      ∷ taskIn b (taskPlace mathematics) (getD (startsIn b startsAt) 1 0)
+      ∷ [];
+}

@@ -1,0 +1,12 @@
+-- `report::marks` meets its contract: the array is made of zeros.
+use mathlib.Core.Path.{refl}
+use Rattle.text_verdict.specs.Input.{zeros}
+use Rattle.text_verdict.proofs.marks.Statement.{statement}
+use Rattle.text_verdict.proofs.marks.Tie as tie
+
+returns : tie.Need-returns
+unfolding zeros
+returns c = (refl, refl)
+
+pub marks-spec : {M : Type 1} → statement M
+marks-spec = tie.close (tie.spec returns)
