@@ -10,7 +10,7 @@ use Rattle.walk.specs.declared.Verdict.{Verdict}
 use Rattle.walk.specs.declared.Verdict.the-variants.{MarksShort}
 use Rattle.state_layout.specs.Layout.{encoded}
 use Rattle.machine.specs.Theorem.{loaded}
-use Rattle.bias_results.specs.Border.{noState, numbered, verdictFor}
+use Rattle.bias_results.specs.Results.{noState, numbered, verdictFor}
 use Rattle.bias_results.specs.declared.BiasVerdict.{BiasVerdict}
 
 pub record Load : Type 0 where

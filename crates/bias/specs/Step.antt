@@ -7,13 +7,13 @@ use lib.Dec.{eqb, ltb}
 use lib.ListN.{length}
 use Rattle.limits.specs.Limits.{taskCount, inputsLength}
 use Rattle.state_layout.specs.Layout.{decoded, encoded}
-use Rattle.state_layout.specs.Test.{isState}
+use Rattle.state_layout.specs.IsState.{isState}
 use Rattle.machine.specs.Given.{Inputs}
 use Rattle.machine.specs.Engine.{step}
-use Rattle.machine.specs.declared.Out.{Out}
+use Rattle.machine.specs.declared.StepOut.{StepOut}
 use Rattle.machine.specs.declared.Request.the-variants.{None}
 use Rattle.machine.specs.declared.Answer.the-variants.{NoTask, Inputs as BadInputs}
-use Rattle.bias_results.specs.Border.{noStateAnswer, answerFor}
+use Rattle.bias_results.specs.Results.{noStateAnswer, answerFor}
 use Rattle.bias_results.specs.declared.BiasAnswer.{BiasAnswer}
 
 pub record Stepped : Type 0 where
@@ -21,19 +21,19 @@ pub record Stepped : Type 0 where
   pub buffer : List ℕ
 
 -- refused: the buffer stays
-abbrev pub refuse : BiasAnswer → List ℕ → Stepped
-refuse a b = record { answer = a; buffer = b }
+abbrev pub refuseStep : BiasAnswer → List ℕ → Stepped
+refuseStep a b = record { answer = a; buffer = b }
 
 -- what a step of the state hands out, and the bytes of the state after it
-unfoldable pub handed : Out → Stepped
+unfoldable pub handed : StepOut → Stepped
 handed o = record { answer = answerFor (o .request) (o .answer); buffer = encoded (o .state) }
 
 -- the step of a buffer
 unfoldable pub stepState : List ℕ → List ℕ → Inputs → Stepped
-stepState image b x = cond (isState b) (handed (step image (decoded b) x)) (refuse noStateAnswer b)
+stepState image b x = cond (isState b) (handed (step image (decoded b) x)) (refuseStep noStateAnswer b)
 
 unfoldable pub stepped : List ℕ → List ℕ → Inputs → Stepped
 stepped image b x =
     cond (ltb (x .task) taskCount)
-    (cond (eqb (length (x .levels)) inputsLength) (stepState image b x) (refuse (answerFor None (BadInputs (length (x .levels)))) b))
-    (refuse (answerFor None (NoTask (x .task))) b)
+    (cond (eqb (length (x .levels)) inputsLength) (stepState image b x) (refuseStep (answerFor None (BadInputs (length (x .levels)))) b))
+    (refuseStep (answerFor None (NoTask (x .task))) b)

@@ -18,12 +18,12 @@ ghost use Rattle.limits.specs.Limits.{marksLength, stateLength};
 ghost use Rattle.walk.specs.Verdict.{verdictOf};
 ghost use Rattle.walk_search.specs.After.{After};
 ghost use Rattle.image_writer.specs.Writer.{written, outAfter};
-ghost use Rattle.state.specs.Good.{Good};
+ghost use Rattle.state.specs.GoodState.{GoodState};
 ghost use Rattle.state_layout.specs.Layout.{encoded};
 ghost use Rattle.machine.specs.Given.{inputsOf};
 ghost use Rattle.machine.specs.Engine.{step};
 ghost use Rattle.machine.specs.Theorem.{loaded};
-ghost use Rattle.bias_results.specs.Border.{writtenFor};
+ghost use Rattle.bias_results.specs.Results.{writtenFor};
 ghost use Rattle.bias.specs.Load.{load, judgedLoad};
 ghost use Rattle.bias.specs.Step.{handed, stepState, stepped};
 
@@ -137,7 +137,7 @@ fn step_state(
     reached: u8,
 ) -> BiasAnswer
     requires { ⌜ length (now state) ≡ stateLength ⌝ }
-    requires { ⌜ Good s ⌝ }
+    requires { ⌜ GoodState s ⌝ }
     ensures { λ r. ⌜ r ≡ handed (step (now (image .entry)) s (inputsOf task (now (inputs .entry)) start reached)) .answer ⌝ }
     ensures { λ _. ⌜ now (state .exit) ≡ handed (step (now (image .entry)) s (inputsOf task (now (inputs .entry)) start reached)) .buffer ⌝ }
 {

@@ -1,1 +1,1 @@
-pub mod Border
+pub mod Results

@@ -1,13 +1,13 @@
 // What C is handed (include/bias.h): the two structs of results, and document 01's numbers and places in them. Parts that an answer does not name are 0.
+use image_writer::Written;
 use machine::Answer;
 use machine::Cause;
 use machine::Request;
 use state::Axis;
 use walk::Verdict;
-use image_writer::Written;
 ghost use mathlib.Core.Path.{_≡_};
 ghost use Rattle.machine.specs.Numbers.{causeNumber, answerNumber, answerPlace, answerTask, answerDepth, motionNumber, stopAxis, motionAxis, motionMode};
-ghost use Rattle.bias_results.specs.Border.{numbered, verdictFor, writtenFor, noStateAnswer, answerFor};
+ghost use Rattle.bias_results.specs.Results.{numbered, verdictFor, writtenFor, noStateAnswer, answerFor};
 
 // 16: the lent buffer is no state.
 pub const NO_STATE: u32 = 16;
@@ -64,11 +64,11 @@ pub fn verdict(v: Verdict) -> BiasVerdict
 pub fn written(w: Written) -> BiasVerdict
     ensures { λ r. ⌜ r ≡ writtenFor w ⌝ }
 {
-    let outcome = w.outcome;
-    if outcome.is_done() {
+    let result = w.result;
+    if result.is_done() {
         return numbered(0, w.length);
     }
-    numbered(outcome.number(), outcome.place())
+    numbered(result.number(), result.place())
 }
 
 // The result of a step with a buffer that is no state: no motion.

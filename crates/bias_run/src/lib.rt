@@ -6,13 +6,13 @@ ghost use Prim.Native.Nat.{_+_, _≤_};
 ghost use lib.Dec.{leb};
 ghost use lib.ListN.{length};
 ghost use Rattle.limits.specs.Limits.{marksLength};
-ghost use Rattle.state_bytes.specs.Places.{numberAt};
+ghost use Rattle.state_bytes.specs.Bytes.{leNumberAt};
 ghost use Rattle.walk_search.specs.After.{After};
 ghost use Rattle.bias.specs.Load.{load};
 ghost use Rattle.bias.specs.Step.{stepped};
 ghost use Rattle.proved_demands.specs.Run.{bufferAfter};
 ghost use Rattle.proved_demands.specs.Theorem.{Run};
-ghost use Rattle.bias_run.specs.Steps.{headLength, lengthAt, nextAt, stepAt, stepsOf, ran};
+ghost use Rattle.bias_run.specs.Steps.{headLength, lengthAt, nextAt, stepAt, stepsOf, afterRun};
 
 // What stands before the input levels of a step: the task number (4 bytes), the start input, position reached, the length of the input levels (2 bytes).
 const HEAD_LENGTH: usize = 8;
@@ -20,7 +20,7 @@ const HEAD_LENGTH: usize = 8;
 // Loads an image and, where the load answers 0, carries out the steps that stand whole at the front.
 pub fn bias_run(image: &[u8], marks: &mut [u8], state: &mut [u8], steps: &[u8]) -> BiasVerdict
     ensures { λ r. ⌜ r ≡ load (now (image .entry)) (length (now (marks .entry))) (now (state .entry)) .verdict ⌝ }
-    ensures { λ _. ⌜ now (state .exit) ≡ ran (now (image .entry)) (length (now (marks .entry))) (now (state .entry)) (now (steps .entry)) ⌝ }
+    ensures { λ _. ⌜ now (state .exit) ≡ afterRun (now (image .entry)) (length (now (marks .entry))) (now (state .entry)) (now (steps .entry)) ⌝ }
     ensures { λ _. ⌜ After marksLength (now (marks .entry)) (now (marks .exit)) ⌝ }
     ensures { λ r. ⌜ (r .number ≡ 0 → Run (now (image .entry)) (load (now (image .entry)) (length (now (marks .entry))) (now (state .entry)) .buffer) (stepsOf (now (steps .entry)))) ⌝ }
 {
@@ -73,7 +73,7 @@ fn length_at(steps: &[u8], at: usize) -> usize
 // The task number of the step at a place.
 fn task_at(steps: &[u8], at: usize) -> u32
     requires { ⌜ at + headLength ≤ length (now steps) ⌝ }
-    ensures { λ r. ⌜ r ≡ numberAt 4 (now (steps .entry)) at ⌝ }
+    ensures { λ r. ⌜ r ≡ leNumberAt 4 (now (steps .entry)) at ⌝ }
 {
     num_le::read_u32([
         steps[at],

@@ -27,7 +27,7 @@ use Rattle.command_table.specs.declared.Device.{Device}
 use Rattle.command_table.specs.declared.Device.the-variants.{NoDevice, InputX, InputY, OutputReadX, OutputReadY, OutputWrittenX, Not637Plus}
 use Rattle.command_operands.specs.Operands.{byteAt, laidOut, unusedZero}
 use Rattle.command_operands.specs.declared.Command.{Command}
-use Rattle.command_judge.specs.Judged.{notOn637Plus, devicePresence, operandFault, ifPresent, commandFault, rowFault, blockFault, blockFaultNumber, inRange}
+use Rattle.command_judge.specs.BlockFault.{notOn637Plus, devicePresence, operandFault, ifPresent, commandFault, rowFault, blockFault, blockFaultNumber, inRange}
 use Rattle.command_judge.specs.Boards.{OnDrive, Buyable, OtherDrive}
 use Rattle.command_judge.specs.declared.BlockFault.{BlockFault}
 use Rattle.command_judge.specs.declared.BlockFault.the-variants.{Fine, NotCarried, NotOnDrive, BoardMissing, OutOfRange, NotZero}

@@ -3,7 +3,7 @@ use Prim.Native.Nat.{ℕ}
 use mathlib.Core.Path.{_≡_, refl, sym, ap, _∙_}
 use mathlib.Core.Bool.{cond}
 use lib.Dec.{eqb}
-use Rattle.command_judge.specs.Judged.{blockFaultNumber}
+use Rattle.command_judge.specs.BlockFault.{blockFaultNumber}
 use Rattle.command_judge.specs.declared.BlockFault.{BlockFault}
 use Rattle.command_judge.specs.declared.BlockFault.the-variants.{Fine, NotCarried, NotOnDrive, BoardMissing, OutOfRange, NotZero}
 

@@ -7,7 +7,7 @@ use Rattle.drive_pins.specs.declared.Home.{Home}
 use Rattle.drive.specs.Boards.{mayCarry, withBoards, fitted}
 use Rattle.image_header.specs.Numbers.{withDrive}
 use Rattle.image_header.specs.declared.Header.{Header}
-use Rattle.command_judge.specs.Judged.{blockFault}
+use Rattle.command_judge.specs.BlockFault.{blockFault}
 use Rattle.command_judge.specs.declared.BlockFault.the-variants.{NotOnDrive, BoardMissing}
 
 -- the block passes 6 and 23

@@ -1,2 +1,2 @@
-pub mod Judged
+pub mod BlockFault
 pub mod Boards

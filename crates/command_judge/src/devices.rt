@@ -1,10 +1,10 @@
 // What the drive must have (document 01, refusal 6; change request 3, 23), by the device of a code's row.
+use command_table::Device;
 use drive::Drive;
 use drive::Presence;
 use drive_pins::PinKind;
-use command_table::Device;
 ghost use mathlib.Core.Path.{_≡_};
-ghost use Rattle.command_judge.specs.Judged.{notOn637Plus, devicePresence};
+ghost use Rattle.command_judge.specs.BlockFault.{notOn637Plus, devicePresence};
 
 // Whether the drive has what the command needs for its operands x and y.
 pub fn presence(device: Device, drive: Drive, x: u8, y: u8) -> Presence

@@ -1,12 +1,12 @@
-// A block judged (document 01, refusals 5 to 8, and change request 3, which splits 23 off 6). Crate `operands` reads the operands, devices.rt asks
+// A block judged (document 01, refusals 5 to 8, and change request 3, which splits 23 off 6). Crate `command_operands` reads the operands, devices.rt asks
 // the drive, ranges.rt judges the operands.
+use command_operands::Command;
+use command_table::Row;
 use drive::Presence;
 use image_header::Header;
 use limits::BLOCK_LENGTH;
-use command_operands::Command;
-use command_table::Row;
 ghost use mathlib.Core.Path.{_≡_};
-ghost use Rattle.command_judge.specs.Judged.{operandFault, commandFault, blockFault, blockFaultNumber};
+ghost use Rattle.command_judge.specs.BlockFault.{operandFault, commandFault, blockFault, blockFaultNumber};
 
 pub mod devices;
 pub mod ranges;

@@ -2,7 +2,7 @@
 use command_operands::Command;
 use command_table::Ranges;
 ghost use mathlib.Core.Path.{_≡_};
-ghost use Rattle.command_judge.specs.Judged.{levelJump, bitJump, conditionJump, flagRun, axisTarget, modeAxis, modeRamp, inRange};
+ghost use Rattle.command_judge.specs.BlockFault.{levelJump, bitJump, conditionJump, flagRun, axisTarget, modeAxis, modeRamp, inRange};
 
 // 0 equal, 1 unequal: the conditions of 61, 6E, 70, 71.
 pub const MOST_EQUALITY: u8 = 1;

@@ -1,6 +1,6 @@
 // The operands of a block, where its code's layout has them. Nothing is judged but that unused bytes are 0.
-use limits::BLOCK_LENGTH;
 use command_table::Layout;
+use limits::BLOCK_LENGTH;
 ghost use mathlib.Core.Path.{_≡_};
 ghost use Rattle.command_operands.specs.Operands.{laidOut, operands, usedBytes, unusedZero};
 ghost use Rattle.command_operands.specs.Operands.{byteOf, wordOf, pairOf, tripleOf, tripleWordOf, byteWordOf, valueOf, byteValueOf, pairValueOf, valueJumpOf, bareOf};

@@ -1,4 +1,4 @@
 mod Missed
-pub mod Laws
+pub mod EveryRow
 pub mod Tasks
 pub mod FlowKinds

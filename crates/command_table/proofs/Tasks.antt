@@ -5,7 +5,7 @@ use native.Mathlib.Omega.{arith}
 use lib.Dec.{leb}
 use borrow.Author.Tests.{leb-true}
 use Rattle.command_table.specs.Rows.{BPM, rows, rowIn, rowOf}
-use Rattle.command_table.proofs.Laws.{every-row}
+use Rattle.command_table.proofs.EveryRow.{every-row}
 
 pub tasks-known : (code : ℕ) → rowOf code .tasks ≤ BPM
 unfolding rowOf rows

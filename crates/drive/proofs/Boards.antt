@@ -8,7 +8,7 @@ use mathlib.Core.Logic.{_↔_}
 use mathlib.Core.List.{List, [], _∷_}
 use lib.Dec.{T, eqb, ltb, leb}
 use borrow.Author.Tests.{eqb-true, eq-eqb, ltb-true}
-use Rattle.drive_pins.specs.Homes.{Row, homeIn, homeOf, inputs, outputsWritten, outputsRead}
+use Rattle.drive_pins.specs.Homes.{PinRow, homeIn, homeOf, inputs, outputsWritten, outputsRead}
 use Rattle.drive_pins.specs.declared.Home.{Home}
 use Rattle.drive_pins.specs.declared.Home.the-variants.{Nowhere, Only631, Others, SlotB, SlotC}
 use Rattle.drive_pins.specs.declared.PinKind.{PinKind}
@@ -20,7 +20,7 @@ use Rattle.drive.specs.declared.Drive.{Drive}
 use Rattle.drive.specs.declared.Presence.{Presence}
 use Rattle.drive.specs.declared.Presence.the-variants.{Present, BoardMissing, Never}
 use Rattle.drive.proofs.Below.{both, left, right}
-use Rattle.drive.proofs.Laws.{and-true, from-least, empty-always, no-board-on-631, written-is-read, never-both}
+use Rattle.drive.proofs.EveryDrive.{and-true, from-least, empty-always, no-board-on-631, written-is-read, never-both}
 
 -- ---- the three answers differ, and so do the two of a test
 
@@ -75,11 +75,11 @@ real Others = true
 real (SlotB b) = not (eqb b 0)
 real (SlotC c) = not (eqb c 0)
 
-abbrev allReal : List Row → Bool
+abbrev allReal : List PinRow → Bool
 allReal [] = true
 allReal (r ∷ rs) = both (real (r .home)) (allReal rs)
 
-real-in : (rs : List Row) → T (allReal rs) → (pin : ℕ) → T (real (homeIn rs pin))
+real-in : (rs : List PinRow) → T (allReal rs) → (pin : ℕ) → T (real (homeIn rs pin))
 unfolding homeIn
 real-in [] t pin = tt
 real-in (r ∷ rs) t pin =

@@ -1,4 +1,4 @@
-mod Cases
+mod TypesAndSlots
 mod Below
-pub mod Laws
+pub mod EveryDrive
 pub mod Boards

@@ -1,4 +1,4 @@
--- Pins: document 01, "Drive and pins". Whether a drive has a pin follows from the pin's home (crate `pins`).
+-- Pins: document 01, "Drive and pins". Whether a drive has a pin follows from the pin's home (crate `drive_pins`).
 use Prim.Native.Nat.{ℕ}
 use mathlib.Core.Bool.{Bool, cond}
 use lib.Dec.{eqb, ltb}

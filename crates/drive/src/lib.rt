@@ -1,4 +1,4 @@
-// The drives and their pins and option boards: document 01, "Drive and pins". Crate `pins` has the rows of pins.
+// The drives and their pins and option boards: document 01, "Drive and pins". Crate `drive_pins` has the rows of pins.
 use drive_pins::Home;
 use drive_pins::PinKind;
 ghost use mathlib.Core.Path.{_≡_};

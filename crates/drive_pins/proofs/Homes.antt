@@ -9,15 +9,15 @@ use lib.Dec.{leb}
 use lib.ListN.{length, getD, drop, drop-of-length-le}
 use lib.Seq.{drop-cons}
 use borrow.Author.Tests.{leb-true, le-leb, lt-leb}
-use Rattle.drive_pins.specs.Homes.{Row, row, homeIn, outputsWritten, outputsRead, homeNumbered, rowsOf}
+use Rattle.drive_pins.specs.Homes.{PinRow, pinRow, homeIn, outputsWritten, outputsRead, homeNumbered, rowsOf}
 use Rattle.drive_pins.specs.declared.Home.the-variants.{Nowhere, Others}
 
 -- the rows from index i on
 module _ (first last homes : List ℕ) (same : length last ≡ length first) (also : length homes ≡ length first) where
-  abbrev pub rowsFrom : ℕ → List Row
+  abbrev pub rowsFrom : ℕ → List PinRow
   rowsFrom i = rowsOf (drop i first) (drop i last) (drop i homes)
 
-  pub next-row : (i : ℕ) → i < length first → rowsFrom i ≡ row (homeNumbered (getD homes i 0)) (getD first i 0) (getD last i 0) ∷ rowsFrom (i + 1)
+  pub next-row : (i : ℕ) → i < length first → rowsFrom i ≡ pinRow (homeNumbered (getD homes i 0)) (getD first i 0) (getD last i 0) ∷ rowsFrom (i + 1)
   unfolding rowsOf
   next-row i h = rw (add-one, drop-cons first i 0, drop-cons last i 0 (omega arith), drop-cons homes i 0 (omega arith))
 

@@ -1,11 +1,11 @@
 // Commands of control (50 to 55, 57 to 5A) and of mathematics (90): one function for each, and for each group the one that finds it. They change nothing
 // but tasks.
+use command_operands::Command;
 use drive::Drive;
 use machine::Cause;
 use machine::Effect;
 use machine::Moment;
 use machine::Outcome;
-use command_operands::Command;
 use state::Values;
 ghost use mathlib.Core.Path.{_≡_};
 ghost use mathlib.Core.Bool.{cond};
@@ -15,13 +15,13 @@ ghost use lib.Dec.{eqb};
 ghost use Rattle.limits.specs.Limits.{bias, plc, mathematics, mostTime};
 ghost use Rattle.state.specs.Wait.{due};
 ghost use Rattle.machine.specs.Given.{givenAt};
-ghost use Rattle.machine.specs.Effect.{sets, flows, halts, variable, within, natural, isSet, waits, waitsVariable, timeOf, controlRows, mathematicsRows, deedIn};
+ghost use Rattle.machine.specs.Effect.{sets, flows, halts, variable, within, natural, isSet, waits, waitsVariable, timeOf, controlRows, mathematicsRows, effectIn};
 ghost use Rattle.machine.specs.declared.Outcome.the-variants.{GoOn, Stay, Jump, Call, Return, Start, Restart, End};
 
 // What a command of this group does; any other leaves its task where it is. The turns of a pending wait can be counted on.
 pub fn perform(m: Moment, inputs: &[u8], c: Command, v: Values) -> Effect
     requires { ⌜ m .turns < 4294967295 ⌝ }
-    ensures { λ r. ⌜ r ≡ deedIn controlRows (c .code) (givenAt m (now (inputs .entry))) c v ⌝ }
+    ensures { λ r. ⌜ r ≡ effectIn controlRows (c .code) (givenAt m (now (inputs .entry))) c v ⌝ }
 {
     let code = c.code;
     match code {
@@ -41,7 +41,7 @@ pub fn perform(m: Moment, inputs: &[u8], c: Command, v: Values) -> Effect
 
 // What a command of mathematics does; any other leaves its task where it is.
 pub fn mathematics(m: Moment, inputs: &[u8], c: Command, v: Values) -> Effect
-    ensures { λ r. ⌜ r ≡ deedIn mathematicsRows (c .code) (givenAt m (now (inputs .entry))) c v ⌝ }
+    ensures { λ r. ⌜ r ≡ effectIn mathematicsRows (c .code) (givenAt m (now (inputs .entry))) c v ⌝ }
 {
     let code = c.code;
     match code {

@@ -1,7 +1,7 @@
 // What a command does: its group is found by its code.
+use command_operands::Command;
 use machine::Effect;
 use machine::Moment;
-use command_operands::Command;
 use state::Values;
 ghost use mathlib.Core.Path.{_≡_};
 ghost use Prim.Native.Nat.{_<_};

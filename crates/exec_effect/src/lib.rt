@@ -1,9 +1,9 @@
 // Effects in their forms, and what several commands read alike.
+use command_operands::Command;
 use machine::Cause;
 use machine::Effect;
 use machine::Outcome;
 use machine::Request;
-use command_operands::Command;
 use state::Values;
 ghost use mathlib.Core.Path.{_≡_};
 ghost use Rattle.machine.specs.Given.{level};

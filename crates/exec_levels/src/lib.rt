@@ -1,8 +1,8 @@
 // Commands of flags and pins (60 to 68, 6E, 70 to 73): one function for each, and the one that finds it.
+use command_operands::Command;
 use machine::Effect;
 use machine::Moment;
 use machine::Outcome;
-use command_operands::Command;
 use state::Values;
 ghost use mathlib.Core.Path.{_≡_};
 ghost use mathlib.Core.Bool.{_&&_, _||_, not};
@@ -12,11 +12,11 @@ ghost use mir.Syntax.{w32};
 ghost use Rattle.num_arith.specs.Ops.{bitAt};
 ghost use Rattle.state.specs.State.{withFlag, withOutput};
 ghost use Rattle.machine.specs.Given.{level, givenAt};
-ghost use Rattle.machine.specs.Effect.{sets, jumpIf, flag, output, variable, bit, isSet, compares, levelRows, deedIn};
+ghost use Rattle.machine.specs.Effect.{sets, jumpIf, flag, output, variable, bit, isSet, compares, levelRows, effectIn};
 
 // What a command of this group does; any other leaves its task where it is.
 pub fn perform(m: Moment, inputs: &[u8], c: Command, v: Values) -> Effect
-    ensures { λ r. ⌜ r ≡ deedIn levelRows (c .code) (givenAt m (now (inputs .entry))) c v ⌝ }
+    ensures { λ r. ⌜ r ≡ effectIn levelRows (c .code) (givenAt m (now (inputs .entry))) c v ⌝ }
 {
     let code = c.code;
     match code {
@@ -49,7 +49,11 @@ fn set_flag(c: Command, v: Values) -> Effect
 fn jump_by_flag(c: Command, v: Values) -> Effect
     ensures { λ r. ⌜ r ≡ jumpIf (compares (c .y) (flag v (c .x)) (c .z)) (c .word) v ⌝ }
 {
-    exec_effect::jump_if(exec_effect::compares(c.y, exec_effect::flag(v, c.x), c.z), c.word, v)
+    exec_effect::jump_if(
+        exec_effect::compares(c.y, exec_effect::flag(v, c.x), c.z),
+        c.word,
+        v,
+    )
 }
 
 // 62: flag x = flag y.
@@ -145,7 +149,11 @@ fn jump_by_bit(c: Command, v: Values) -> Effect
 fn jump_by_input(inputs: &[u8], c: Command, v: Values) -> Effect
     ensures { λ r. ⌜ r ≡ jumpIf (compares (c .y) (level (getD (now (inputs .entry)) (c .x) 0)) (c .z)) (c .word) v ⌝ }
 {
-    exec_effect::jump_if(exec_effect::compares(c.y, input(inputs, c.x), c.z), c.word, v)
+    exec_effect::jump_if(
+        exec_effect::compares(c.y, input(inputs, c.x), c.z),
+        c.word,
+        v,
+    )
 }
 
 // 71: a jump if output x compares by y with z.

@@ -1,5 +1,6 @@
 // Commands of motion (00, 01, 03, 04, 0E, 0F, 1F) and of the stored parameters (20 to 23, 30 to 33, 40 to 43): one function for each, and the one that
 // finds it.
+use command_operands::Command;
 use limits::MOST_RAMP;
 use limits::MOST_SPEED;
 use machine::Cause;
@@ -7,7 +8,6 @@ use machine::Effect;
 use machine::Moment;
 use machine::Outcome;
 use machine::Request;
-use command_operands::Command;
 use state::FIRST_AXIS;
 use state::Values;
 ghost use mathlib.Core.Path.{_≡_};
@@ -17,14 +17,14 @@ ghost use lib.IntN.{pos};
 ghost use Rattle.limits.specs.Limits.{mostSpeed, mostRamp};
 ghost use Rattle.state.specs.State.{firstAxis, axisOf, withAxis, withMark, withPosition, withSpeed, withAcceleration, withDeceleration};
 ghost use Rattle.machine.specs.Given.{givenAt};
-ghost use Rattle.machine.specs.Effect.{effect, sets, flows, halts, assigns, variable, within, natural, started, axisRows, deedIn};
+ghost use Rattle.machine.specs.Effect.{effect, sets, flows, halts, assigns, variable, within, natural, started, motionRows, effectIn};
 ghost use Rattle.machine.specs.declared.Cause.the-variants.{BadContent};
 ghost use Rattle.machine.specs.declared.Request.the-variants as request;
 ghost use Rattle.machine.specs.declared.Outcome.the-variants.{GoOn, Stay};
 
 // What a command of this group does; any other leaves its task where it is.
 pub fn perform(m: Moment, inputs: &[u8], c: Command, v: Values) -> Effect
-    ensures { λ r. ⌜ r ≡ deedIn axisRows (c .code) (givenAt m (now (inputs .entry))) c v ⌝ }
+    ensures { λ r. ⌜ r ≡ effectIn motionRows (c .code) (givenAt m (now (inputs .entry))) c v ⌝ }
 {
     let code = c.code;
     match code {
@@ -160,7 +160,10 @@ fn load_position(c: Command, v: Values) -> Effect
     ensures { λ r. ⌜ r ≡ sets (withAxis firstAxis (withPosition (variable v (c .x)) (axisOf firstAxis v)) v) ⌝ }
 {
     let axis = v.axis(FIRST_AXIS);
-    exec_effect::sets(v.with_axis(FIRST_AXIS, axis.with_position(exec_effect::variable(v, c.x))))
+    exec_effect::sets(v.with_axis(
+        FIRST_AXIS,
+        axis.with_position(exec_effect::variable(v, c.x)),
+    ))
 }
 
 // 40: variable x = position.
@@ -218,7 +221,10 @@ fn load_speed(c: Command, v: Values) -> Effect
     let content = exec_effect::variable(v, c.x);
     if within(MOST_SPEED, content) {
         let axis = v.axis(FIRST_AXIS);
-        return exec_effect::sets(v.with_axis(FIRST_AXIS, axis.with_speed(natural(MOST_SPEED, content))));
+        return exec_effect::sets(v.with_axis(
+            FIRST_AXIS,
+            axis.with_speed(natural(MOST_SPEED, content)),
+        ));
     }
     exec_effect::halts(Cause::BadContent, v)
 }

@@ -1,37 +1,37 @@
 // One step of one task: the tests in document 01's order (15, 18, 17; 16 is the buffer's), then the command.
+use command_operands::Command;
 use image_header::Header;
 use image_header::reader;
 use image_header::reader::HeaderRead;
 use machine::Answer;
 use machine::Effect;
 use machine::Moment;
-use machine::Out;
 use machine::Outcome;
 use machine::Request;
-use command_operands::Command;
-use walk_point::Point;
+use machine::StepOut;
 use state::Notes;
 use state::State;
 use state::Task;
 use state::Values;
+use walk_point::Point;
 ghost use mathlib.Core.Path.{_≡_};
 ghost use mathlib.Core.List.{[]};
 ghost use mathlib.Core.Bool.{true};
 ghost use Prim.Native.Nat.{_<_, _≤_};
 ghost use Rattle.limits.specs.Limits.{taskCount, mostBlocks, mostDepth};
-ghost use Rattle.walk.specs.Program.{commandAt};
+ghost use Rattle.walk.specs.Blocks.{commandAt};
 ghost use Rattle.state.specs.State.{taskAt};
-ghost use Rattle.state.specs.Good.{Good};
+ghost use Rattle.state.specs.GoodState.{GoodState};
 ghost use Rattle.walk_flow.specs.Terms.{under};
 ghost use Rattle.machine.specs.Given.{inputsOf};
-ghost use Rattle.machine.specs.Deep.{Deep};
+ghost use Rattle.machine.specs.DepthAllows.{DepthAllows};
 ghost use Rattle.machine.specs.Engine.{refuse, isWait, isLoaded, blockFits, waitFits, fitsAs, noted, answerTo, pointOf, performed, carriedOut, taskStep, step, termsHeld};
 
 // A step that is refused: nothing changes, and no motion is asked for.
-fn refuse(state: State, answer: Answer) -> Out
+fn refuse(state: State, answer: Answer) -> StepOut
     ensures { λ r. ⌜ r ≡ refuse state answer ⌝ }
 {
-    Out {
+    StepOut {
         state: state,
         request: Request::None,
         answer: answer,
@@ -98,8 +98,8 @@ fn fits(read: HeaderRead, blocks: &[u8], header: Header, t: u8, k: Task) -> bool
 fn is_loaded(read: HeaderRead, header: Header) -> bool
     ensures { λ r. ⌜ r ≡ isLoaded read header ⌝ }
 {
-    let outcome = read.outcome;
-    outcome.is_done() & reader::same(read.header, header)
+    let result = read.result;
+    result.is_done() & reader::same(read.header, header)
 }
 
 // Whether the block at a task's pointer passes 5 to 8 and 23 by itself, and 9 to 12 where the task is.
@@ -127,9 +127,9 @@ fn wait_fits(blocks: &[u8], k: Task) -> bool
 }
 
 // What a command comes to: the values with the start level noted, the tasks after its outcome, its request, its answer.
-fn performed(mut state: State, t: u8, start: u8, k: Task, e: Effect) -> Out
+fn performed(mut state: State, t: u8, start: u8, k: Task, e: Effect) -> StepOut
     requires { ⌜ k .block < mostBlocks ⌝ }
-    requires { ⌜ Deep (k .depth) (e .outcome) ⌝ }
+    requires { ⌜ DepthAllows (k .depth) (e .outcome) ⌝ }
     ensures { λ r. ⌜ r ≡ performed state (inputsOf t [] start 0) k e ⌝ }
 {
     let header = state.header;
@@ -140,7 +140,7 @@ fn performed(mut state: State, t: u8, start: u8, k: Task, e: Effect) -> Out
     let after = exec_tasks::after(header.start, t, k, outcome, before);
     state.values = values;
     state.tasks = after;
-    Out {
+    StepOut {
         state: state,
         request: request,
         answer: answer_to(outcome, point_of(t, k)),
@@ -148,7 +148,15 @@ fn performed(mut state: State, t: u8, start: u8, k: Task, e: Effect) -> Out
 }
 
 // The command at the task's block, carried out.
-fn carry_out(blocks: &[u8], s: State, t: u8, inputs: &[u8], start: u8, reached: u8, k: Task) -> Out
+fn carry_out(
+    blocks: &[u8],
+    s: State,
+    t: u8,
+    inputs: &[u8],
+    start: u8,
+    reached: u8,
+    k: Task,
+) -> StepOut
     requires { ⌜ k .block < mostBlocks ⌝ }
     requires { ⌜ k .depth ≤ mostDepth ⌝ }
     requires { ⌜ k .turns < 4294967295 ⌝ }
@@ -171,8 +179,8 @@ fn carry_out(blocks: &[u8], s: State, t: u8, inputs: &[u8], start: u8, reached: 
 }
 
 // 18, then 17, then the command.
-fn task_step(image: &[u8], s: State, t: u8, inputs: &[u8], start: u8, reached: u8) -> Out
-    requires { ⌜ Good s ⌝ }
+fn task_step(image: &[u8], s: State, t: u8, inputs: &[u8], start: u8, reached: u8) -> StepOut
+    requires { ⌜ GoodState s ⌝ }
     requires { ⌜ t < taskCount ⌝ }
     ensures { λ r. ⌜ r ≡ taskStep (now (image .entry)) s (inputsOf t (now (inputs .entry)) start reached) (taskAt s t) ⌝ }
 {
@@ -190,8 +198,8 @@ fn task_step(image: &[u8], s: State, t: u8, inputs: &[u8], start: u8, reached: u
 }
 
 // One step of a task, on a good state: 15 first, the task number, then the length of the input levels.
-pub fn step(image: &[u8], s: State, task: u32, inputs: &[u8], start: u8, reached: u8) -> Out
-    requires { ⌜ Good s ⌝ }
+pub fn step(image: &[u8], s: State, task: u32, inputs: &[u8], start: u8, reached: u8) -> StepOut
+    requires { ⌜ GoodState s ⌝ }
     ensures { λ r. ⌜ r ≡ step (now (image .entry)) s (inputsOf task (now (inputs .entry)) start reached) ⌝ }
 {
     if task >= limits::TASK_COUNT {

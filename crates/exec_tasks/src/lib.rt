@@ -6,7 +6,7 @@ ghost use mathlib.Core.Path.{_≡_};
 ghost use Prim.Native.Nat.{_+_, _-_, _<_, _≤_};
 ghost use lib.ListN.{set};
 ghost use Rattle.limits.specs.Limits.{mostBlocks, mostDepth};
-ghost use Rattle.machine.specs.Deep.{Deep};
+ghost use Rattle.machine.specs.DepthAllows.{DepthAllows};
 ghost use Rattle.machine.specs.Engine.{goTo, stayWith, callTo, returnFrom, startAnew, restarted, stopped, tasksAfter};
 
 const TASK_COUNT: u8 = limits::TASK_COUNT as u8;
@@ -107,7 +107,7 @@ fn put(mut tasks: [Task; TASKS], t: u8, k: Task) -> [Task; TASKS]
 // The tasks after the outcome of a command that task t executed at k; `first` is the program start.
 pub fn after(first: u16, t: u8, k: Task, outcome: Outcome, tasks: [Task; TASKS]) -> [Task; TASKS]
     requires { ⌜ k .block < mostBlocks ⌝ }
-    requires { ⌜ Deep (k .depth) outcome ⌝ }
+    requires { ⌜ DepthAllows (k .depth) outcome ⌝ }
     ensures { λ r. ⌜ r ≡ tasksAfter first t k outcome tasks ⌝ }
 {
     match outcome {

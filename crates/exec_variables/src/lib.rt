@@ -1,10 +1,10 @@
 // Commands of variables (80 to 86, 88 to 8D): one function for each, and the one that finds it. Sources are read before the target is written.
-use num_arith::Quotient;
+use command_operands::Command;
 use machine::Cause;
 use machine::Effect;
 use machine::Moment;
 use machine::Outcome;
-use command_operands::Command;
+use num_arith::Quotient;
 use state::Values;
 ghost use mathlib.Core.Path.{_≡_};
 ghost use Prim.Native.Nat.{_+_, _*_};
@@ -14,11 +14,11 @@ ghost use mir.Syntax.{w32};
 ghost use Rattle.num_arith.specs.Wrap.{word, wrap};
 ghost use Rattle.num_arith.specs.Ops.{quotient, holds};
 ghost use Rattle.machine.specs.Given.{givenAt};
-ghost use Rattle.machine.specs.Effect.{assigns, divides, jumpIf, variable, flagNumber, variableRows, deedIn};
+ghost use Rattle.machine.specs.Effect.{assigns, divides, jumpIf, variable, flagNumber, variableRows, effectIn};
 
 // What a command of this group does; any other leaves its task where it is.
 pub fn perform(m: Moment, inputs: &[u8], c: Command, v: Values) -> Effect
-    ensures { λ r. ⌜ r ≡ deedIn variableRows (c .code) (givenAt m (now (inputs .entry))) c v ⌝ }
+    ensures { λ r. ⌜ r ≡ effectIn variableRows (c .code) (givenAt m (now (inputs .entry))) c v ⌝ }
 {
     let code = c.code;
     match code {
@@ -107,7 +107,11 @@ fn jump_by_variable(c: Command, v: Values) -> Effect
     ensures { λ r. ⌜ r ≡ jumpIf (holds (c .y) (variable v (c .x)) (variable v (c .z))) (c .word) v ⌝ }
 {
     exec_effect::jump_if(
-        num_arith::compare(c.y, exec_effect::variable(v, c.x), exec_effect::variable(v, c.z)),
+        num_arith::compare(
+            c.y,
+            exec_effect::variable(v, c.x),
+            exec_effect::variable(v, c.z),
+        ),
         c.word,
         v,
     )

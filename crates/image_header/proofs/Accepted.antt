@@ -9,14 +9,14 @@ use lib.Seq.{getD-set-same, getD-set-other}
 use lib.Dec.{eqb}
 use borrow.Author.Count.{below-more}
 use borrow.Author.Tests.{eqb-true, eqb-false}
-use Rattle.image_result.specs.Outcome.{done}
+use Rattle.image_result.specs.ImageResult.{done}
 use Rattle.image_number.specs.declared.Number.{Number}
 use Rattle.image_number.specs.declared.Number as number
 use Rattle.image_number.proofs.Choice.{clash}
 use Rattle.drive.specs.Types.{slotB, slotC}
-use Rattle.drive.proofs.Laws.{board-small}
+use Rattle.drive.proofs.EveryDrive.{board-small}
 use Rattle.image_header.specs.Numbers.{headerFrom, Narrow}
-use Rattle.image_header.specs.Good.{Good}
+use Rattle.image_header.specs.GoodHeader.{GoodHeader}
 use Rattle.image_header.specs.Rows.{rowCount, checked, passed, accepts}
 use Rattle.image_header.specs.Scan.{Source, withNumber, unlessFailed, judged, taken, scan, scannedHeader}
 use Rattle.image_header.specs.declared.reader.Check.{Check}
@@ -45,21 +45,21 @@ module _ (n : ℕ) (source : Source) where
 
   -- number k was accepted
   pub record Took (k : ℕ) : Type 0 where
-    pub before : done (scan n source k .outcome) ≡ true
+    pub before : done (scan n source k .result) ≡ true
     pub stood : Stood k
     pub numbers : scan n source (suc k) .numbers ≡ set (scan n source k .numbers) k (value k)
     pub row : checked k (headerFrom (scan n source (suc k) .numbers)) ≡ Passes
 
   -- a row that let pass left the scan with the number withNumber
   kept : (k v next : ℕ) (c : Check) → checked k (headerFrom (set (scan n source k .numbers) k v)) ≡ c
-      → scan n source (suc k) ≡ unlessFailed c (withNumber k (scan n source k) v next) → done (scan n source (suc k) .outcome) ≡ true
+      → scan n source (suc k) ≡ unlessFailed c (withNumber k (scan n source k) v next) → done (scan n source (suc k) .result) ≡ true
       → (c ≡ Passes) × (scan n source (suc k) ≡ withNumber k (scan n source k) v next)
   kept k v next Passes q e h = (refl, e)
-  kept k v next (Fails j) q e h = clash (sym h ∙ ap (λ (s : Scan). done (s .outcome)) e)
+  kept k v next (Fails j) q e h = clash (sym h ∙ ap (λ (s : Scan). done (s .result)) e)
 
-  took-by : (k : ℕ) (t : Bool) → done (scan n source k .outcome) ≡ t → (x : Number) → source k (place k) ≡ x → done (scan n source (suc k) .outcome) ≡ true → Took k
+  took-by : (k : ℕ) (t : Bool) → done (scan n source k .result) ≡ t → (x : Number) → source k (place k) ≡ x → done (scan n source (suc k) .result) ≡ true → Took k
   unfolding scan taken judged
-  took-by k false e x g h = clash (sym h ∙ ap (λ (s : Scan). done (s .outcome)) (stays n source k (scan n source k) e) ∙ e)
+  took-by k false e x g h = clash (sym h ∙ ap (λ (s : Scan). done (s .result)) (stays n source k (scan n source k) e) ∙ e)
   took-by k true e (number.Number.Value v next) g h =
       let s = scan n source k in
       let same : v ≡ value k = sym (ap valueOf g) in
@@ -72,26 +72,26 @@ module _ (n : ℕ) (source : Source) where
         row = ap (λ (l : List ℕ). checked k (headerFrom l)) numbers ∙ r .0;
       }
   took-by k true e number.Number.EndsEarly g h =
-      clash (sym h ∙ ap (λ (s : Scan). done (s .outcome)) (takes n source k (scan n source k) e number.Number.EndsEarly g))
+      clash (sym h ∙ ap (λ (s : Scan). done (s .result)) (takes n source k (scan n source k) e number.Number.EndsEarly g))
   took-by k true e number.Number.NotShortest g h =
-      clash (sym h ∙ ap (λ (s : Scan). done (s .outcome)) (takes n source k (scan n source k) e number.Number.NotShortest g))
+      clash (sym h ∙ ap (λ (s : Scan). done (s .result)) (takes n source k (scan n source k) e number.Number.NotShortest g))
 
-  took : (k : ℕ) → done (scan n source (suc k) .outcome) ≡ true → Took k
-  took k h = took-by k (done (scan n source k .outcome)) refl (source k (place k)) refl h
+  took : (k : ℕ) → done (scan n source (suc k) .result) ≡ true → Took k
+  took k h = took-by k (done (scan n source k .result)) refl (source k (place k)) refl h
 
   -- so was each before it
-  pub went : (k : ℕ) → done (scan n source k .outcome) ≡ true → (j : ℕ) → j < k → Took j
+  pub went : (k : ℕ) → done (scan n source k .result) ≡ true → (j : ℕ) → j < k → Took j
   went zero h j l = absurd (omega arith)
   went (suc k) h j l = let t = took k h in below-more Took k (went k (t .before)) t j (omega arith)
 
   -- the scan holds as many numbers as a header has
-  long : (k : ℕ) → done (scan n source k .outcome) ≡ true → length (scan n source k .numbers) ≡ rowCount
+  long : (k : ℕ) → done (scan n source k .result) ≡ true → length (scan n source k .numbers) ≡ rowCount
   unfolding scan
   long zero h = refl
   long (suc k) h = let t = took k h in ap length (t .numbers) ∙ length-set (scan n source k .numbers) k (value k) ∙ long k (t .before)
 
   -- and those read so far
-  pub number-is : (k : ℕ) → done (scan n source k .outcome) ≡ true → k ≤ rowCount → (j : ℕ) → j < k → getD (scan n source k .numbers) j 0 ≡ value j
+  pub number-is : (k : ℕ) → done (scan n source k .result) ≡ true → k ≤ rowCount → (j : ℕ) → j < k → getD (scan n source k .numbers) j 0 ≡ value j
   number-is zero h m j l = absurd (omega arith)
   number-is (suc k) h m j l =
       let t = took k h in
@@ -105,20 +105,20 @@ module _ (n : ℕ) (source : Source) where
 
   -- what holds of an accepted header
   pub record Accepted : Type 0 where
-    pub good : Good (scannedHeader (scan n source rowCount))
+    pub good : GoodHeader (scannedHeader (scan n source rowCount))
     pub is : (k : ℕ) → k < rowCount → getD (scan n source rowCount .numbers) k 0 ≡ value k
     pub numbers : (k : ℕ) → k < rowCount → Stood k
-    pub fine : (k : ℕ) → k < rowCount → done (scan n source k .outcome) ≡ true
+    pub fine : (k : ℕ) → k < rowCount → done (scan n source k .result) ≡ true
 
-  module _ (h : done (scan n source rowCount .outcome) ≡ true) where
+  module _ (h : done (scan n source rowCount .result) ≡ true) where
     is : (k : ℕ) → k < rowCount → getD (scan n source rowCount .numbers) k 0 ≡ value k
     is k l = number-is rowCount h (omega arith) k l
 
     -- up to any number nothing is refused
-    done-at : (k : ℕ) → k ≤ rowCount → done (scan n source k .outcome) ≡ true
+    done-at : (k : ℕ) → k ≤ rowCount → done (scan n source k .result) ≡ true
     done-at k l = go (eqb k rowCount) refl
       where
-        go : (t : Bool) → eqb k rowCount ≡ t → done (scan n source k .outcome) ≡ true
+        go : (t : Bool) → eqb k rowCount ≡ t → done (scan n source k .result) ≡ true
         go true e = let q = eqb-true k rowCount e in rw q h
         go false e = let q = eqb-false k rowCount e in went rowCount h k (omega arith) .before
 
@@ -142,7 +142,7 @@ module _ (n : ℕ) (source : Source) where
         }
 
 -- the numbers of a header that load accepts fit their widths
-pub good-narrow : (ns : List ℕ) → Good (headerFrom ns) → Narrow ns
+pub good-narrow : (ns : List ℕ) → GoodHeader (headerFrom ns) → Narrow ns
 good-narrow ns g =
     let f = g .format in
     let m = g .model in
@@ -154,9 +154,9 @@ good-narrow ns g =
 
 -- so do those that a scan of all numbers leaves, refused or not
 pub scan-narrow : (n : ℕ) (source : Source) → Narrow (scan n source rowCount .numbers)
-scan-narrow n source = go (done (scan n source rowCount .outcome)) refl
+scan-narrow n source = go (done (scan n source rowCount .result)) refl
   where
-    go : (t : Bool) → done (scan n source rowCount .outcome) ≡ t → Narrow (scan n source rowCount .numbers)
+    go : (t : Bool) → done (scan n source rowCount .result) ≡ t → Narrow (scan n source rowCount .numbers)
     go true e = good-narrow (scan n source rowCount .numbers) (accepted-header n source e .good)
     go false e =
         rw (refused-empty n source rowCount e)

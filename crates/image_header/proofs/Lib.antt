@@ -4,5 +4,5 @@ pub mod Scanning
 pub mod Accepted
 pub mod Places
 pub mod Read
-pub mod HeaderLaws
+pub mod HeaderGood
 pub mod Longest

@@ -10,14 +10,14 @@ use lib.Dec.{eqb, ltb}
 use borrow.Author.Tests.{ltb-false, eqb-false, le-ltb}
 use Rattle.limits.specs.Limits.{mostBlocks, blockLength}
 use Rattle.drive.specs.Types.{slotB, slotC}
-use Rattle.drive.proofs.Laws.{board-small}
-use Rattle.image_result.specs.Outcome.{done}
+use Rattle.drive.proofs.EveryDrive.{board-small}
+use Rattle.image_result.specs.ImageResult.{done}
 use Rattle.image_number.proofs.Choice as choice
 use Rattle.image_number.specs.Number.{numberLimit, secondByte, firstByte, numberAt}
 use Rattle.image_number.specs.declared.Number.{Number}
 use Rattle.image_number.specs.declared.Number as number
 use Rattle.image_header.specs.Numbers.{headerFrom}
-use Rattle.image_header.specs.Good.{Good}
+use Rattle.image_header.specs.GoodHeader.{GoodHeader}
 use Rattle.image_header.specs.Rows.{rowCount}
 use Rattle.image_header.specs.Scan.{Source, fromImage, scan, scannedHeader, headerOf}
 use Rattle.image_header.specs.Longest.{greatest, sizeUpTo, longestFirst, longestImage}
@@ -58,7 +58,7 @@ image-sized image row at =
     (λ _. tt)
 
 -- no number of a good header is above its greatest
-below-greatest : (ns : List ℕ) → Good (headerFrom ns) → (k : ℕ) → k < rowCount → getD ns k 0 ≤ getD greatest k 0
+below-greatest : (ns : List ℕ) → GoodHeader (headerFrom ns) → (k : ℕ) → k < rowCount → getD ns k 0 ≤ getD greatest k 0
 below-greatest ns g k l = go k l
   where
     b : headerFrom ns .drive .b < length slotB
@@ -77,7 +77,7 @@ below-greatest ns g k l = go k l
     go (suc (suc (suc (suc (suc (suc j)))))) u = absurd (omega arith)
 
 -- so each has a form of one or two bytes
-pub number-small : (ns : List ℕ) → Good (headerFrom ns) → (k : ℕ) → k < rowCount → getD ns k 0 < numberLimit
+pub number-small : (ns : List ℕ) → GoodHeader (headerFrom ns) → (k : ℕ) → k < rowCount → getD ns k 0 < numberLimit
 number-small ns g k l = let h = below-greatest ns g k l in let m = small k in omega arith
   where
     small : (j : ℕ) → getD greatest j 0 ≤ mostBlocks
@@ -109,7 +109,7 @@ module _ (n : ℕ) (source : Source) (sized : (row at : ℕ) → Sized at (sourc
       let k = a .good .count .1 in
       omega arith
 
-pub longest-image : (image : List ℕ) → done (headerOf image .outcome) ≡ true → length image ≤ longestImage
+pub longest-image : (image : List ℕ) → done (headerOf image .result) ≡ true → length image ≤ longestImage
 longest-image image ok =
     let r = read-fine image ok in
     let l = r .long in

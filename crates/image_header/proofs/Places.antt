@@ -6,10 +6,10 @@ use Prim.Native.Nat.{ℕ, zero, suc, _+_, _<_, _≤_}
 use native.Mathlib.Omega.{arith}
 use lib.ListN.{length, getD, set}
 use lib.Seq.{getD-set-other}
-use Rattle.image_result.specs.Outcome.{done}
+use Rattle.image_result.specs.ImageResult.{done}
 use Rattle.image_number.specs.Number.{numberBytes}
 use Rattle.image_number.specs.declared.Number as number
-use Rattle.image_number.proofs.NumberLaws.{number-only}
+use Rattle.image_number.proofs.RoundTrip.{number-only}
 use Rattle.image_header.specs.Rows.{rowCount}
 use Rattle.image_header.specs.Scan.{Source, fromImage, standsAt, scan}
 use Rattle.image_header.proofs.Accepted.{place, value, went, number-is}
@@ -30,7 +30,7 @@ Shortest source = (row at v next : ℕ) → source row at ≡ number.Number.Valu
 pub image-shortest : (image : List ℕ) → ((k : ℕ) → getD image k 0 < 256) → Shortest (fromImage image)
 image-shortest image bytes row at v next e = number-only image at v next (bytes at) e .next
 
-module _ (n : ℕ) (source : Source) (shortest : Shortest source) (row : ℕ) (l : row < rowCount) (ok : done (scan n source row .outcome) ≡ true) where
+module _ (n : ℕ) (source : Source) (shortest : Shortest source) (row : ℕ) (l : row < rowCount) (ok : done (scan n source row .result) ≡ true) where
   stands-at : (k : ℕ) → k ≤ row → standsAt (scan n source row .numbers) k ≡ place n source k
   unfolding standsAt scan
   stands-at zero u = refl

@@ -9,17 +9,17 @@ use lib.Seq.{take-all}
 use lib.Dec.{ltb}
 use borrow.Author.Tests.{ltb-false, le-ltb}
 use Rattle.limits.specs.Limits.{blockLength}
-use Rattle.image_result.specs.Outcome.{done}
+use Rattle.image_result.specs.ImageResult.{done}
 use Rattle.image_header.specs.Rows.{rowCount}
-use Rattle.image_header.specs.Scan.{fromImage, scan, scannedHeader, firstRefusal, lengthOutcome, readWith, closed, headerOf, blocksOf}
-use Rattle.image_result.specs.declared.Outcome.the-variants.{Done, EndsEarly, NotShortest, OutOfRange, LeftOver, NoRoom}
-use Rattle.image_result.specs.declared.Outcome.{Outcome}
+use Rattle.image_header.specs.Scan.{fromImage, scan, scannedHeader, firstRefusal, lengthResult, readWith, closed, headerOf, blocksOf}
+use Rattle.image_result.specs.declared.ImageResult.the-variants.{Done, EndsEarly, NotShortest, OutOfRange, LeftOver, NoRoom}
+use Rattle.image_result.specs.declared.ImageResult.{ImageResult}
 use Rattle.image_header.specs.declared.reader.Scan.{Scan}
 use Rattle.image_header.specs.declared.reader.HeaderRead.{HeaderRead}
 use Rattle.image_number.proofs.Choice.{clash, other-way}
 
 -- two judgements that both let pass
-pub neither : (a b : Outcome) → done (firstRefusal a b) ≡ true → (done a ≡ true) × (done b ≡ true)
+pub neither : (a b : ImageResult) → done (firstRefusal a b) ≡ true → (done a ≡ true) × (done b ≡ true)
 unfolding firstRefusal
 neither a b h = go (done a) refl
   where
@@ -27,12 +27,12 @@ neither a b h = go (done a) refl
     go true e = (e, rw e at h)
     go false e = clash (sym (rw e at h) ∙ e)
 
-pub both-pass : (a b : Outcome) → done a ≡ true → firstRefusal a b ≡ b
+pub both-pass : (a b : ImageResult) → done a ≡ true → firstRefusal a b ≡ b
 unfolding firstRefusal
 both-pass a b e = rw e
 
--- an outcome that is no refusal is Done
-pub is-done : (o : Outcome) → done o ≡ true → o ≡ Done
+-- an result that is no refusal is Done
+pub is-done : (o : ImageResult) → done o ≡ true → o ≡ Done
 is-done Done e = refl
 is-done (EndsEarly p) e = clash (sym e)
 is-done (NotShortest p) e = clash (sym e)
@@ -41,8 +41,8 @@ is-done (LeftOver p) e = clash (sym e)
 is-done (NoRoom p) e = clash (sym e)
 
 -- the length is right
-pub length-right : (at count n : ℕ) → done (lengthOutcome at count n) ≡ true → n ≡ at + blockLength * count
-unfolding lengthOutcome
+pub length-right : (at count n : ℕ) → done (lengthResult at count n) ≡ true → n ≡ at + blockLength * count
+unfolding lengthResult
 length-right at count n h =
     let a = other-way done (ltb n (at + blockLength * count)) refl h in
     let b = other-way done (ltb (at + blockLength * count) n) refl (sym (ap done (a .1)) ∙ h) in
@@ -50,30 +50,30 @@ length-right at count n h =
     let high = ltb-false (at + blockLength * count) n (b .0) in
     omega arith
 
-pub length-passes : (at count n : ℕ) → n ≡ at + blockLength * count → lengthOutcome at count n ≡ Done
-unfolding lengthOutcome
+pub length-passes : (at count n : ℕ) → n ≡ at + blockLength * count → lengthResult at count n ≡ Done
+unfolding lengthResult
 length-passes at count n e = rw (le-ltb n (at + blockLength * count) (omega arith), le-ltb (at + blockLength * count) n (omega arith))
 
 pub record Closed (s : Scan) (n : ℕ) : Type 0 where
-  pub scanned : done (s .outcome) ≡ true
+  pub scanned : done (s .result) ≡ true
   pub long : n ≡ s .at + blockLength * scannedHeader s .count
-  pub is : closed s n ≡ record { outcome = Done; header = scannedHeader s; at = s .at }
+  pub is : closed s n ≡ record { result = Done; header = scannedHeader s; at = s .at }
 
-pub closed-is : (s : Scan) (n : ℕ) → done (s .outcome) ≡ true → n ≡ s .at + blockLength * scannedHeader s .count → closed s n ≡ record { outcome = Done; header = scannedHeader s; at = s .at }
+pub closed-is : (s : Scan) (n : ℕ) → done (s .result) ≡ true → n ≡ s .at + blockLength * scannedHeader s .count → closed s n ≡ record { result = Done; header = scannedHeader s; at = s .at }
 unfolding closed readWith
-closed-is s n d e = rw (both-pass (s .outcome) (lengthOutcome (s .at) (scannedHeader s .count) n) d, length-passes (s .at) (scannedHeader s .count) n e)
+closed-is s n d e = rw (both-pass (s .result) (lengthResult (s .at) (scannedHeader s .count) n) d, length-passes (s .at) (scannedHeader s .count) n e)
 
-pub closed-fine : (s : Scan) (n : ℕ) → done (closed s n .outcome) ≡ true → Closed s n
+pub closed-fine : (s : Scan) (n : ℕ) → done (closed s n .result) ≡ true → Closed s n
 unfolding closed readWith
 closed-fine s n h = go (done o) refl
   where
-    o : Outcome
-    o = firstRefusal (s .outcome) (lengthOutcome (s .at) (scannedHeader s .count) n)
+    o : ImageResult
+    o = firstRefusal (s .result) (lengthResult (s .at) (scannedHeader s .count) n)
 
     go : (t : Bool) → done o ≡ t → Closed s n
     go false e = clash (sym (rw e at h) ∙ e)
     go true e =
-        let b = neither (s .outcome) (lengthOutcome (s .at) (scannedHeader s .count) n) e in
+        let b = neither (s .result) (lengthResult (s .at) (scannedHeader s .count) n) e in
         let l = length-right (s .at) (scannedHeader s .count) n (b .1) in
         record { scanned = b .0; long = l; is = closed-is s n (b .0) l }
 
@@ -81,12 +81,12 @@ closed-fine s n h = go (done o) refl
 abbrev pub scanOf : List ℕ → Scan
 scanOf image = scan (length image) (fromImage image) rowCount
 
-pub read-fine : (image : List ℕ) → done (headerOf image .outcome) ≡ true → Closed (scanOf image) (length image)
+pub read-fine : (image : List ℕ) → done (headerOf image .result) ≡ true → Closed (scanOf image) (length image)
 unfolding headerOf
 read-fine image h = closed-fine (scanOf image) (length image) h
 
 -- the blocks begin within the image
-pub place-inside : (image : List ℕ) → done (headerOf image .outcome) ≡ true → headerOf image .at ≤ length image
+pub place-inside : (image : List ℕ) → done (headerOf image .result) ≡ true → headerOf image .at ≤ length image
 unfolding headerOf
 place-inside image h =
     let c = read-fine image h in
@@ -96,17 +96,17 @@ place-inside image h =
 
 -- what a caller learns who asked the header r of the image whether it is done
 module _ (image : List ℕ) (r : HeaderRead) (told : r ≡ headerOf image) where
-  pub asked : (t u : Bool) → t ≡ done (r .outcome) → t ≡ u → done (headerOf image .outcome) ≡ u
-  asked t u e g = sym (ap (λ (x : HeaderRead). done (x .outcome)) told) ∙ sym e ∙ g
+  pub asked : (t u : Bool) → t ≡ done (r .result) → t ≡ u → done (headerOf image .result) ≡ u
+  asked t u e g = sym (ap (λ (x : HeaderRead). done (x .result)) told) ∙ sym e ∙ g
 
-  pub no-blocks : done (headerOf image .outcome) ≡ false → [] ≡ blocksOf image
+  pub no-blocks : done (headerOf image .result) ≡ false → [] ≡ blocksOf image
   unfolding blocksOf
   no-blocks h = rw h
 
-  pub inside : done (headerOf image .outcome) ≡ true → r .at ≤ length image
+  pub inside : done (headerOf image .result) ≡ true → r .at ≤ length image
   inside h = rw told (place-inside image h)
 
-  pub all-blocks : done (headerOf image .outcome) ≡ true → take (length image - r .at) (drop (r .at) image) ≡ blocksOf image
+  pub all-blocks : done (headerOf image .result) ≡ true → take (length image - r .at) (drop (r .at) image) ≡ blocksOf image
   unfolding blocksOf
   all-blocks h =
       let i = inside h in

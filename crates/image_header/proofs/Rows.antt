@@ -12,7 +12,7 @@ use Rattle.limits.specs.Limits.{mostBlocks}
 use Rattle.drive.specs.Types.{types}
 use Rattle.image_number.proofs.Choice.{both, clash}
 use Rattle.image_header.specs.Numbers.{headerFrom}
-use Rattle.image_header.specs.Good.{Good}
+use Rattle.image_header.specs.GoodHeader.{GoodHeader}
 use Rattle.image_header.specs.Rows.{format1, formatFits, typeFits, slotBFits, slotCFits, countFits, startFits, Test, test, rowCount, check, checked, passed, firstPass, accepts}
 use Rattle.image_header.specs.declared.Header.{Header}
 use Rattle.image_header.specs.declared.reader.Check.{Check}
@@ -47,7 +47,7 @@ module _ (h : Header) where
   all-rows zero f = refl
   all-rows (suc n) f = rw (all-rows n (λ row l. f row (omega arith)), f n (omega arith))
 
-  pub accepted-good : accepts h ≡ true → Good h
+  pub accepted-good : accepts h ≡ true → GoodHeader h
   unfolding accepts checked
   accepted-good e =
       let at = row-of rowCount e in
@@ -67,7 +67,7 @@ module _ (h : Header) where
         start = ltb-true (h .start) (h .count) s;
       }
 
-  pub good-accepted : Good h → accepts h ≡ true
+  pub good-accepted : GoodHeader h → accepts h ≡ true
   unfolding accepts firstPass checked
   good-accepted g =
       rw (

@@ -7,7 +7,7 @@ use lib.ListN.{length, getD}
 use lib.Dec.{eqb, ltb}
 use Prim.Native.Nat.{ℕ, zero, suc, _+_, _*_, _≤_}
 use native.Mathlib.Numerals.{add-one}
-use Rattle.image_result.specs.Outcome.{done}
+use Rattle.image_result.specs.ImageResult.{done}
 use Rattle.image_number.specs.Number.{numberAt, firstByte, secondByte}
 use Rattle.image_number.specs.declared.Number.{Number}
 use Rattle.image_number.specs.declared.Number as number
@@ -21,12 +21,12 @@ use Rattle.image_header.specs.declared.reader.Scan.{Scan}
 
 module _ (n : ℕ) (source : Source) (row : ℕ) (s : Scan) where
   -- after a refusal nothing more is read
-  pub stays : done (s .outcome) ≡ false → more n source row s ≡ s
+  pub stays : done (s .result) ≡ false → more n source row s ≡ s
   unfolding more
   stays h = rw h
 
   -- else the number that stands there is taken
-  pub takes : done (s .outcome) ≡ true → (x : Number) → source row (s .at) ≡ x → more n source row s ≡ taken n row s x
+  pub takes : done (s .result) ≡ true → (x : Number) → source row (s .at) ≡ x → more n source row s ≡ taken n row s x
   unfolding more
   takes h x e = rw (h, e)
 
@@ -56,7 +56,7 @@ taken-near n row s number.Number.NotShortest m h k = omega arith
 
 more-near : (n : ℕ) (source : Source) (row : ℕ) (s : Scan) (m : ℕ) → ((row at : ℕ) → Near at (source row at)) → s .at + 2 ≤ m → more n source row s .at ≤ m
 unfolding more
-more-near n source row s m near h = either (λ (x : Scan). x .at ≤ m) (done (s .outcome)) (taken-near n row s (source row (s .at)) m (near row (s .at)) h) (omega arith)
+more-near n source row s m near h = either (λ (x : Scan). x .at ≤ m) (done (s .result)) (taken-near n row s (source row (s .at)) m (near row (s .at)) h) (omega arith)
 
 pub at-most : (n : ℕ) (source : Source) → ((row at : ℕ) → Near at (source row at)) → (k : ℕ) → scan n source k .at ≤ 2 * k
 unfolding scan
@@ -78,9 +78,9 @@ image-near s row at =
 
 -- nothing is refused, or there are no numbers
 abbrev pub Empty : Scan → Type 0
-Empty s = done (s .outcome) ≡ false → s .numbers ≡ noNumbers
+Empty s = done (s .result) ≡ false → s .numbers ≡ noNumbers
 
-unless-empty : (c : Check) (s : Scan) → done (s .outcome) ≡ true → Empty (unlessFailed c s)
+unless-empty : (c : Check) (s : Scan) → done (s .result) ≡ true → Empty (unlessFailed c s)
 unless-empty Passes s d e = clash (sym d ∙ e)
 unless-empty (Fails k) s d e = refl
 
@@ -92,7 +92,7 @@ taken-empty n row s number.Number.NotShortest = λ e. refl
 
 more-empty : (n : ℕ) (source : Source) (row : ℕ) (s : Scan) → Empty s → Empty (more n source row s)
 unfolding more
-more-empty n source row s h = either Empty (done (s .outcome)) (taken-empty n row s (source row (s .at))) h
+more-empty n source row s h = either Empty (done (s .result)) (taken-empty n row s (source row (s .at))) h
 
 pub refused-empty : (n : ℕ) (source : Source) (k : ℕ) → Empty (scan n source k)
 unfolding scan

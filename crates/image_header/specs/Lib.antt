@@ -1,5 +1,5 @@
 pub mod Numbers
 pub mod Rows
 pub mod Scan
-pub mod Good
+pub mod GoodHeader
 pub mod Longest

@@ -48,8 +48,8 @@ abbrev pub test : ℕ → (Header → Bool) → Test
 test k f = record { number = k; fits = f }
 
 -- by number, in the order in which they stand: the tests when it has been read, of the numbers read so far; the start is judged behind the count
-abbrev pub rows : List (List Test)
-rows =
+abbrev pub headerRows : List (List Test)
+headerRows =
     (test 0 formatFits ∷ []) ∷  -- format
     (test 1 typeFits ∷ []) ∷  -- type
     (test 2 slotBFits ∷ []) ∷  -- slot B
@@ -60,7 +60,7 @@ rows =
 
 -- how many numbers a header has
 abbrev pub rowCount : ℕ
-rowCount = length rows
+rowCount = length headerRows
 
 -- the first test that does not hold
 abbrev pub check : List Test → Header → Check
@@ -69,7 +69,7 @@ check (t ∷ ts) h = cond (t .fits h) (check ts h) (Fails (t .number))
 
 -- what the row of a number finds
 unfoldable pub checked : ℕ → Header → Check
-checked row h = check (getD rows row []) h
+checked row h = check (getD headerRows row []) h
 
 -- ---- a header that load accepts: each row lets it pass
 

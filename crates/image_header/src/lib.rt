@@ -1,5 +1,5 @@
 // The program image (document 01, "The image"): a header of six numbers and the blocks, and no byte more.
-// Crate `number` reads one number, reader.rt reads and judges the header; the crate writer writes an image.
+// Crate `image_number` reads one number, reader.rt reads and judges the header; `image_writer` writes an image.
 use drive::Drive;
 
 pub mod reader;

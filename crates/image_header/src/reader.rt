@@ -3,7 +3,7 @@
 use crate::Header;
 use drive::Drive;
 use image_number::Number;
-use image_result::Outcome;
+use image_result::ImageResult;
 ghost use mathlib.Core.Path.{_≡_};
 ghost use mathlib.Core.Bool.{cond};
 ghost use Prim.Native.Nat.{_<_, _≤_};
@@ -12,7 +12,7 @@ ghost use Rattle.limits.specs.Limits.{mostBlocks, upTo};
 ghost use Rattle.image_header.specs.Numbers.{numbersOf, headerFrom, Narrow};
 ghost use Rattle.image_header.specs.Rows.{rowCount, checked, passed, accepts, sameHeader};
 ghost use Rattle.image_header.specs.declared.reader.Check.the-variants.{Passes, Fails};
-ghost use Rattle.image_header.specs.Scan.{begun, stopped, standsAt, judged, taken, more, fromImage, scan, mostHeaderBytes, firstRefusal, lengthOutcome, refusedRead, closed, headerOf, blocksOf};
+ghost use Rattle.image_header.specs.Scan.{scanBegun, scanStopped, standsAt, judged, taken, more, fromImage, scan, mostHeaderBytes, firstRefusal, lengthResult, refusedRead, closed, headerOf, blocksOf};
 
 // The numbers of a header, in the order in which they stand.
 pub const FORMAT: usize = 0;
@@ -35,16 +35,16 @@ pub const FORMAT_1: u32 = 1;
 // As a header has it.
 const MOST_BLOCKS: u32 = limits::MOST_BLOCKS as u32;
 
-// A header as read: the outcome; the header, all 0 when refused; the place of the blocks, 0 when refused.
+// A header as read: the result; the header, all 0 when refused; the place of the blocks, 0 when refused.
 pub struct HeaderRead {
-    pub outcome: Outcome,
+    pub result: ImageResult,
     pub header: Header,
     pub at: usize,
 }
 
-// The numbers so far, and the place of the next one. All is 0 but the outcome where a number was refused.
+// The numbers so far, and the place of the next one. All is 0 but the result where a number was refused.
 pub struct Scan {
-    pub outcome: Outcome,
+    pub result: ImageResult,
     pub numbers: [u32; ROWS],
     pub at: usize,
 }
@@ -76,8 +76,8 @@ pub fn part_of(image: &[u8], h: HeaderRead) -> &[u8]
     requires { ⌜ h ≡ headerOf (now image) ⌝ }
     ensures { λ r. ⌜ now r ≡ blocksOf (now (image .entry)) ⌝ }
 {
-    let outcome = h.outcome;
-    if !outcome.is_done() {
+    let result = h.result;
+    if !result.is_done() {
         return &image[..0];
     }
     let at = h.at;
@@ -164,8 +164,8 @@ fn read_row(image: &[u8], s: Scan, row: usize) -> Scan
     requires { ⌜ row < rowCount ⌝ }
     ensures { λ r. ⌜ r ≡ more (length (now (image .entry))) (fromImage (now (image .entry))) row s ⌝ }
 {
-    let outcome = s.outcome;
-    if !outcome.is_done() {
+    let result = s.result;
+    if !result.is_done() {
         return s;
     }
     let at = s.at;
@@ -179,16 +179,16 @@ fn take_row(length: usize, row: usize, s: Scan, found: Number) -> Scan
 {
     match found {
         Number::Value(v, next) => judge(row, s, v as u32, next),
-        Number::EndsEarly => stop(Outcome::EndsEarly(length)),
-        Number::NotShortest => stop(Outcome::NotShortest(s.at)),
+        Number::EndsEarly => stop(ImageResult::EndsEarly(length)),
+        Number::NotShortest => stop(ImageResult::NotShortest(s.at)),
     }
 }
 
 // No number yet.
 pub fn begin() -> Scan
-    ensures { λ r. ⌜ r ≡ begun ⌝ }
+    ensures { λ r. ⌜ r ≡ scanBegun ⌝ }
 {
-    stop(Outcome::Done)
+    stop(ImageResult::Done)
 }
 
 // A number v of the header, which stands at the scan's place, judged beside those read so far.
@@ -200,11 +200,11 @@ pub fn judge(row: usize, s: Scan, v: u32, next: usize) -> Scan
     numbers[row] = v;
     match check_row(row, numbers) {
         Check::Passes => Scan {
-            outcome: Outcome::Done,
+            result: ImageResult::Done,
             numbers: numbers,
             at: next,
         },
-        Check::Fails(k) => stop(Outcome::OutOfRange(place_of(numbers, k))),
+        Check::Fails(k) => stop(ImageResult::OutOfRange(place_of(numbers, k))),
     }
 }
 
@@ -287,38 +287,38 @@ fn close(s: Scan, length: usize) -> HeaderRead
     requires { ⌜ Narrow (s .numbers) ⌝ }
     ensures { λ r. ⌜ r ≡ closed s length ⌝ }
 {
-    let judged = s.outcome;
+    let judged = s.result;
     let numbers = s.numbers;
     let header = header_from(numbers);
     let at = s.at;
-    let outcome = first_refusal(judged, judge_length(at, header.count, length));
-    if !outcome.is_done() {
-        return refuse(outcome);
+    let result = first_refusal(judged, judge_length(at, header.count, length));
+    if !result.is_done() {
+        return refuse(result);
     }
     HeaderRead {
-        outcome: outcome,
+        result: result,
         header: header,
         at: at,
     }
 }
 
 // The length of an image whose blocks begin at this place: 1 where it ends early, 4 where bytes are left over.
-fn judge_length(at: usize, count: u16, length: usize) -> Outcome
+fn judge_length(at: usize, count: u16, length: usize) -> ImageResult
     requires { ⌜ at ≤ mostHeaderBytes ⌝ }
-    ensures { λ r. ⌜ r ≡ lengthOutcome at count length ⌝ }
+    ensures { λ r. ⌜ r ≡ lengthResult at count length ⌝ }
 {
     let end = at + limits::BLOCK_LENGTH * (count as usize);
     if length < end {
-        return Outcome::EndsEarly(length);
+        return ImageResult::EndsEarly(length);
     }
     if end < length {
-        return Outcome::LeftOver(end);
+        return ImageResult::LeftOver(end);
     }
-    Outcome::Done
+    ImageResult::Done
 }
 
 // Of two judgements, one after the other, the refusal that comes first.
-pub fn first_refusal(a: Outcome, b: Outcome) -> Outcome
+pub fn first_refusal(a: ImageResult, b: ImageResult) -> ImageResult
     ensures { λ r. ⌜ r ≡ firstRefusal a b ⌝ }
 {
     if a.is_done() {
@@ -327,8 +327,8 @@ pub fn first_refusal(a: Outcome, b: Outcome) -> Outcome
     a
 }
 
-fn refuse(outcome: Outcome) -> HeaderRead
-    ensures { λ r. ⌜ r ≡ refusedRead outcome ⌝ }
+fn refuse(result: ImageResult) -> HeaderRead
+    ensures { λ r. ⌜ r ≡ refusedRead result ⌝ }
 {
     let drive = Drive {
         model: 0,
@@ -342,19 +342,19 @@ fn refuse(outcome: Outcome) -> HeaderRead
         count: 0,
     };
     HeaderRead {
-        outcome: outcome,
+        result: result,
         header: header,
         at: 0,
     }
 }
 
-// The scan that ends with this outcome: all else is 0.
-fn stop(outcome: Outcome) -> Scan
-    ensures { λ r. ⌜ r ≡ stopped outcome ⌝ }
+// The scan that ends with this result: all else is 0.
+fn stop(result: ImageResult) -> Scan
+    ensures { λ r. ⌜ r ≡ scanStopped result ⌝ }
 {
     let numbers = [0; ROWS];
     Scan {
-        outcome: outcome,
+        result: result,
         numbers: numbers,
         at: 0,
     }

@@ -1,4 +1,4 @@
 pub mod Choice
 pub mod Numbers
 pub mod Stands
-pub mod NumberLaws
+pub mod RoundTrip

@@ -1,9 +1,9 @@
 // What reading or writing an image comes to, with document 01's numbers and places ("Refused because of the input").
 ghost use mathlib.Core.Path.{_≡_};
-ghost use Rattle.image_result.specs.Outcome.{numberOf, placeOf, done};
+ghost use Rattle.image_result.specs.ImageResult.{resultNumber, resultPlace, done};
 
 // What reading or writing an image comes to: done, or a refusal with its place.
-pub enum Outcome {
+pub enum ImageResult {
     Done,
     EndsEarly(usize),
     NotShortest(usize),
@@ -12,18 +12,18 @@ pub enum Outcome {
     NoRoom(usize),
 }
 
-impl Outcome {
+impl ImageResult {
     // Document 01's number of a refusal, 0 for success.
     pub fn number(self) -> u32
-        ensures { λ r. ⌜ r ≡ numberOf self ⌝ }
+        ensures { λ r. ⌜ r ≡ resultNumber self ⌝ }
     {
         match self {
-            Outcome::Done => 0,
-            Outcome::EndsEarly(_) => 1,
-            Outcome::NotShortest(_) => 2,
-            Outcome::OutOfRange(_) => 3,
-            Outcome::LeftOver(_) => 4,
-            Outcome::NoRoom(_) => 14,
+            ImageResult::Done => 0,
+            ImageResult::EndsEarly(_) => 1,
+            ImageResult::NotShortest(_) => 2,
+            ImageResult::OutOfRange(_) => 3,
+            ImageResult::LeftOver(_) => 4,
+            ImageResult::NoRoom(_) => 14,
         }
     }
 
@@ -32,26 +32,26 @@ impl Outcome {
         ensures { λ r. ⌜ r ≡ done self ⌝ }
     {
         match self {
-            Outcome::Done => true,
-            Outcome::EndsEarly(_) => false,
-            Outcome::NotShortest(_) => false,
-            Outcome::OutOfRange(_) => false,
-            Outcome::LeftOver(_) => false,
-            Outcome::NoRoom(_) => false,
+            ImageResult::Done => true,
+            ImageResult::EndsEarly(_) => false,
+            ImageResult::NotShortest(_) => false,
+            ImageResult::OutOfRange(_) => false,
+            ImageResult::LeftOver(_) => false,
+            ImageResult::NoRoom(_) => false,
         }
     }
 
     // The place that document 01 names in brackets, 0 for success.
     pub fn place(self) -> usize
-        ensures { λ r. ⌜ r ≡ placeOf self ⌝ }
+        ensures { λ r. ⌜ r ≡ resultPlace self ⌝ }
     {
         match self {
-            Outcome::Done => 0,
-            Outcome::EndsEarly(place) => place,
-            Outcome::NotShortest(place) => place,
-            Outcome::OutOfRange(place) => place,
-            Outcome::LeftOver(place) => place,
-            Outcome::NoRoom(place) => place,
+            ImageResult::Done => 0,
+            ImageResult::EndsEarly(place) => place,
+            ImageResult::NotShortest(place) => place,
+            ImageResult::OutOfRange(place) => place,
+            ImageResult::LeftOver(place) => place,
+            ImageResult::NoRoom(place) => place,
         }
     }
 }

@@ -11,12 +11,12 @@ use Rattle.image_header.specs.Rows.{rowCount}
 use Rattle.image_header.specs.Scan.{more}
 use Rattle.image_header.proofs.Scanning.{Near}
 use Rattle.image_number.proofs.Numbers.{size-most}
-use Rattle.image_writer.specs.Writer.{standing, given, firstNumbers, imageOf, overlaid}
+use Rattle.image_writer.specs.Writer.{standing, givenNumbers, firstNumbers, imageOf, overlaid}
 use Rattle.image_header.specs.declared.reader.Scan.{Scan}
 use Rattle.image_writer.proofs.Stores.{next-run, from-front}
 
 -- a number that is given is the one of its row
-pub same-number : (numbers : List ℕ) (row : ℕ) (s : Scan) → more 0 (λ k. standing (getD numbers row 0)) row s ≡ more 0 (given numbers) row s
+pub same-number : (numbers : List ℕ) (row : ℕ) (s : Scan) → more 0 (λ k. standing (getD numbers row 0)) row s ≡ more 0 (givenNumbers numbers) row s
 unfolding more
 same-number numbers row s = refl
 
@@ -61,6 +61,6 @@ module _ (numbers : List ℕ) where
   image-length blocks = length-append (firstNumbers numbers rowCount) blocks
 
 -- the numbers that are given are near too
-pub given-near : (numbers : List ℕ) (row at : ℕ) → Near at (given numbers row at)
+pub given-near : (numbers : List ℕ) (row at : ℕ) → Near at (givenNumbers numbers row at)
 unfolding numberBytes
 given-near numbers row at = let e = size-most (getD numbers row 0) in omega arith

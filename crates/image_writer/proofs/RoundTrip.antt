@@ -9,13 +9,13 @@ use lib.ListN.{length, getD, take, drop, take-append-drop, length-drop}
 use lib.Seq.{take-append-seam, drop-append-seam}
 use borrow.Author.Count.{below-more}
 use Rattle.limits.specs.Limits.{blockLength}
-use Rattle.image_result.specs.Outcome.{done}
+use Rattle.image_result.specs.ImageResult.{done}
 use Rattle.image_number.specs.Number.{numberBytes, numberAt}
 use Rattle.image_header.specs.Rows.{rowCount}
 use Rattle.image_header.specs.Numbers.{numbersOf, headerFrom}
 use Rattle.image_header.specs.Scan.{Source, fromImage, taken, more, scan, scannedHeader, closed, headerOf, blocksOf}
-use Rattle.image_writer.specs.Writer.{given, firstNumbers, imageOf, fitted, written, overlaid, outAfter}
-use Rattle.image_result.specs.declared.Outcome.the-variants.{Done}
+use Rattle.image_writer.specs.Writer.{givenNumbers, firstNumbers, imageOf, judgedWrite, written, overlaid, outAfter}
+use Rattle.image_result.specs.declared.ImageResult.the-variants.{Done}
 use Rattle.image_number.specs.declared.Number.{Number}
 use Rattle.image_header.specs.declared.Header.{Header}
 use Rattle.image_header.specs.declared.reader.Scan.{Scan}
@@ -24,9 +24,9 @@ use Rattle.image_writer.specs.declared.Written.{Written}
 use Rattle.num_le.specs.LittleEndian.{Bytes}
 use Rattle.image_header.proofs.Numbers.{numbers-of-header, same-numbers}
 use Rattle.image_header.proofs.Accepted.{place, value, Accepted, accepted-header}
-use Rattle.image_header.proofs.HeaderLaws.{header-is}
+use Rattle.image_header.proofs.HeaderGood.{header-is}
 use Rattle.image_writer.proofs.Judged.{judged-numbers, small-numbers, placed, fitted-is, written-fine, put-there}
-use Rattle.image_number.proofs.NumberLaws.{There, number-back, number-only}
+use Rattle.image_number.proofs.RoundTrip.{There, number-back, number-only}
 use Rattle.image_header.proofs.Read.{closed-is, read-fine, scanOf}
 use Rattle.image_header.proofs.Scanning.{takes}
 use Rattle.image_number.proofs.Stands.{Has, left, right, none, join, itself, front}
@@ -61,16 +61,16 @@ each-number s numbers (suc m) h k lt =
 
 -- what an image of these numbers and blocks is read as
 pub record ReadBack (numbers blocks image : List ℕ) : Type 0 where
-  pub outcome : headerOf image .outcome ≡ Done
+  pub result : headerOf image .result ≡ Done
   pub header : headerOf image .header ≡ headerFrom numbers
   pub body : blocksOf image ≡ blocks
 
-module _ (numbers blocks : List ℕ) (space : ℕ) (ok : done (written numbers (length blocks) space .outcome) ≡ true) where
-  fits : done (scan 0 (given numbers) rowCount .outcome) ≡ true
+module _ (numbers blocks : List ℕ) (space : ℕ) (ok : done (written numbers (length blocks) space .result) ≡ true) where
+  fits : done (scan 0 (givenNumbers numbers) rowCount .result) ≡ true
   fits = written-fine numbers blocks space ok .judged
 
   -- each number stands in the image where the writer judged it
-  stands : (k : ℕ) → k < rowCount → numberAt (imageOf numbers blocks) (place 0 (given numbers) k) ≡ Number.Value (value 0 (given numbers) k) (place 0 (given numbers) (suc k))
+  stands : (k : ℕ) → k < rowCount → numberAt (imageOf numbers blocks) (place 0 (givenNumbers numbers) k) ≡ Number.Value (value 0 (givenNumbers numbers) k) (place 0 (givenNumbers numbers) (suc k))
   unfolding imageOf
   stands k lt =
       let s = imageOf numbers blocks in
@@ -80,31 +80,31 @@ module _ (numbers blocks : List ℕ) (space : ℕ) (ok : done (written numbers (
       let r = room numbers k rowCount lt in
       let l = image-length numbers blocks in
       let h = each-number s numbers rowCount (left (firstNumbers numbers rowCount) blocks (itself s)) k lt in
-      let e : length (firstNumbers numbers k) + length (numberBytes (getD numbers k 0)) ≡ place 0 (given numbers) (suc k) = omega arith in
+      let e : length (firstNumbers numbers k) + length (numberBytes (getD numbers k 0)) ≡ place 0 (givenNumbers numbers) (suc k) = omega arith in
       ap (numberAt s) p
       ∙ number-back s (length (firstNumbers numbers k)) (getD numbers k 0) (small-numbers numbers fits k lt) h (omega arith)
       ∙ ap (Number.Value (getD numbers k 0)) e
 
-  read-scan : scanOf (imageOf numbers blocks) ≡ scan 0 (given numbers) rowCount
-  read-scan = same-scan 0 (length (imageOf numbers blocks)) (given numbers) (fromImage (imageOf numbers blocks)) (judged-numbers numbers fits) stands rowCount (omega arith)
+  read-scan : scanOf (imageOf numbers blocks) ≡ scan 0 (givenNumbers numbers) rowCount
+  read-scan = same-scan 0 (length (imageOf numbers blocks)) (givenNumbers numbers) (fromImage (imageOf numbers blocks)) (judged-numbers numbers fits) stands rowCount (omega arith)
 
-  read-header : headerOf (imageOf numbers blocks) ≡ record { outcome = Done; header = scannedHeader (scan 0 (given numbers) rowCount); at = scan 0 (given numbers) rowCount .at }
+  read-header : headerOf (imageOf numbers blocks) ≡ record { result = Done; header = scannedHeader (scan 0 (givenNumbers numbers) rowCount); at = scan 0 (givenNumbers numbers) rowCount .at }
   unfolding headerOf
   read-header =
       let l = image-length numbers blocks in
       let p = placed numbers fits rowCount (omega arith) in
       let b = written-fine numbers blocks space ok .long in
       ap (λ (s : Scan). closed s (length (imageOf numbers blocks))) read-scan
-      ∙ closed-is (scan 0 (given numbers) rowCount) (length (imageOf numbers blocks)) fits (omega arith)
+      ∙ closed-is (scan 0 (givenNumbers numbers) rowCount) (length (imageOf numbers blocks)) fits (omega arith)
 
   pub image-read : ReadBack numbers blocks (imageOf numbers blocks)
   unfolding blocksOf imageOf
   image-read =
       record {
-        outcome = ap (λ (r : HeaderRead). r .outcome) read-header;
+        result = ap (λ (r : HeaderRead). r .result) read-header;
         header =
             ap (λ (r : HeaderRead). r .header) read-header
-            ∙ same-numbers (scan 0 (given numbers) rowCount .numbers) numbers (judged-numbers numbers fits .is);
+            ∙ same-numbers (scan 0 (givenNumbers numbers) rowCount .numbers) numbers (judged-numbers numbers fits .is);
         body =
             rw (read-header)
             (ap (λ (k : ℕ). drop k (firstNumbers numbers rowCount ++ blocks)) (placed numbers fits rowCount (omega arith)) ∙ drop-append-seam (firstNumbers numbers rowCount) blocks);
@@ -115,14 +115,14 @@ pub record WrittenBack (numbers blocks out : List ℕ) : Type 0 where
   pub read : ReadBack numbers blocks (take (written numbers (length blocks) (length out) .length) (outAfter numbers blocks out))
   pub behind : drop (written numbers (length blocks) (length out) .length) (outAfter numbers blocks out) ≡ drop (written numbers (length blocks) (length out) .length) out
 
-pub read-what-was-written : (numbers blocks out : List ℕ) → written numbers (length blocks) (length out) .outcome ≡ Done → WrittenBack numbers blocks out
+pub read-what-was-written : (numbers blocks out : List ℕ) → written numbers (length blocks) (length out) .result ≡ Done → WrittenBack numbers blocks out
 unfolding written overlaid
 read-what-was-written numbers blocks out h =
-    let ok : done (written numbers (length blocks) (length out) .outcome) ≡ true = ap done h in
+    let ok : done (written numbers (length blocks) (length out) .result) ≡ true = ap done h in
     let f = written-fine numbers blocks (length out) ok in
     let p = placed numbers (f .judged) rowCount (omega arith) in
     let l = image-length numbers blocks in
-    let w : written numbers (length blocks) (length out) .length ≡ scan 0 (given numbers) rowCount .at + length blocks = ap (λ (r : Written). r .length) (f .is) in
+    let w : written numbers (length blocks) (length out) .length ≡ scan 0 (givenNumbers numbers) rowCount .at + length blocks = ap (λ (r : Written). r .length) (f .is) in
     let e : written numbers (length blocks) (length out) .length ≡ length (imageOf numbers blocks) = omega arith in
     let o = put-there numbers blocks out ok in
     record {
@@ -132,11 +132,11 @@ read-what-was-written numbers blocks out h =
 
 -- ---- writing what was read
 
-module _ (image : List ℕ) (bytes : Bytes image) (ok : headerOf image .outcome ≡ Done) where
+module _ (image : List ℕ) (bytes : Bytes image) (ok : headerOf image .result ≡ Done) where
   abbrev numbers : List ℕ
   numbers = numbersOf (headerOf image .header)
 
-  fine : done (headerOf image .outcome) ≡ true
+  fine : done (headerOf image .result) ≡ true
   fine = ap done ok
 
   was : Accepted (length image) (fromImage image)
@@ -157,11 +157,11 @@ module _ (image : List ℕ) (bytes : Bytes image) (ok : headerOf image .outcome 
   there : (k : ℕ) → k < rowCount → There image (p k) (getD numbers k 0) (p (suc k))
   there k lt = rw (number-is k lt) (number-only image (p k) (v k) (p (suc k)) (bytes (p k)) (was .numbers k lt))
 
-  given-same : (k : ℕ) → k < rowCount → given numbers k (p k) ≡ Number.Value (v k) (p (suc k))
+  given-same : (k : ℕ) → k < rowCount → givenNumbers numbers k (p k) ≡ Number.Value (v k) (p (suc k))
   given-same k lt = ap (Number.Value (getD numbers k 0)) (sym (there k lt .next)) ∙ ap (λ (x : ℕ). Number.Value x (p (suc k))) (number-is k lt)
 
-  written-scan : scan 0 (given numbers) rowCount ≡ scanOf image
-  written-scan = same-scan (length image) 0 (fromImage image) (given numbers) was given-same rowCount (omega arith)
+  written-scan : scan 0 (givenNumbers numbers) rowCount ≡ scanOf image
+  written-scan = same-scan (length image) 0 (fromImage image) (givenNumbers numbers) was given-same rowCount (omega arith)
 
   -- the numbers' bytes are the front of the image
   has-front : (k : ℕ) → k ≤ rowCount → (p k ≡ length (firstNumbers numbers k)) × Has image 0 (firstNumbers numbers k)
@@ -194,7 +194,7 @@ module _ (image : List ℕ) (bytes : Bytes image) (ok : headerOf image .outcome 
 
   -- the writer, given the header and the blocks that were read, answers with the image's length and puts the image itself
   pub write-what-was-read : (out : List ℕ) → length image ≤ length out
-      → (written numbers (length (blocksOf image)) (length out) ≡ record { outcome = Done; length = length image })
+      → (written numbers (length (blocksOf image)) (length out) ≡ record { result = Done; length = length image })
       × (outAfter numbers (blocksOf image) out ≡ overlaid image out)
   unfolding written
   write-what-was-read out h =
@@ -202,22 +202,22 @@ module _ (image : List ℕ) (bytes : Bytes image) (ok : headerOf image .outcome 
       let l = read-fine image fine .long in
       let b : length (blocksOf image) ≡ blockLength * scannedHeader s .count = ap length blocks-are ∙ length-drop (p rowCount) image ∙ omega arith in
       let e : s .at + length (blocksOf image) ≡ length image = omega arith in
-      let w : written numbers (length (blocksOf image)) (length out) ≡ record { outcome = Done; length = length image } =
-      ap (λ (x : Scan). fitted x (length (blocksOf image)) (length out)) written-scan
+      let w : written numbers (length (blocksOf image)) (length out) ≡ record { result = Done; length = length image } =
+      ap (λ (x : Scan). judgedWrite x (length (blocksOf image)) (length out)) written-scan
       ∙ fitted-is s (length (blocksOf image)) (length out) (read-fine image fine .scanned) b (omega arith)
-      ∙ ap (λ (n : ℕ). record { outcome = Done; length = n }) e in
-      (w, sym (put-there numbers (blocksOf image) out (ap (λ (r : Written). done (r .outcome)) w)) ∙ ap (λ (x : List ℕ). overlaid x out) image-back)
+      ∙ ap (λ (n : ℕ). record { result = Done; length = n }) e in
+      (w, sym (put-there numbers (blocksOf image) out (ap (λ (r : Written). done (r .result)) w)) ∙ ap (λ (x : List ℕ). overlaid x out) image-back)
 
 -- ---- what the first of them gives when it is taken apart
 
-module _ (numbers blocks out : List ℕ) (ok : written numbers (length blocks) (length out) .outcome ≡ Done) where
+module _ (numbers blocks out : List ℕ) (ok : written numbers (length blocks) (length out) .result ≡ Done) where
   -- what stands at the front of the buffer
   abbrev image : List ℕ
   image = take (written numbers (length blocks) (length out) .length) (outAfter numbers blocks out)
 
-  pub header-back : (headerOf image .outcome ≡ Done)
+  pub header-back : (headerOf image .result ≡ Done)
       × (headerOf image .header ≡ headerFrom numbers)
-  header-back = let r = read-what-was-written numbers blocks out ok .read in (r .outcome, r .header)
+  header-back = let r = read-what-was-written numbers blocks out ok .read in (r .result, r .header)
 
   pub blocks-back : blocksOf image ≡ blocks
   blocks-back = read-what-was-written numbers blocks out ok .read .body

@@ -3,7 +3,7 @@
 use image_header::reader;
 use image_header::reader::ROWS;
 use image_header::reader::Scan;
-use image_result::Outcome;
+use image_result::ImageResult;
 ghost use mathlib.Core.Path.{_≡_};
 ghost use Prim.Native.Nat.{_+_, _<_, _≤_};
 ghost use lib.ListN.{length};
@@ -12,11 +12,11 @@ ghost use Rattle.image_number.specs.Number.{numberLimit, numberBytes};
 ghost use Rattle.image_header.specs.Numbers.{Narrow};
 ghost use Rattle.image_header.specs.Rows.{rowCount};
 ghost use Rattle.image_header.specs.Scan.{more, scan, mostHeaderBytes};
-ghost use Rattle.image_writer.specs.Writer.{standing, given, HaveForms, roomOutcome, notWritten, fitted, written, firstNumbers, imageOf, overlaid, outAfter};
+ghost use Rattle.image_writer.specs.Writer.{standing, givenNumbers, HaveForms, roomResult, notWritten, judgedWrite, written, firstNumbers, imageOf, overlaid, outAfter};
 
-// What writing came to: the outcome, and the length of the image, 0 when refused.
+// What writing came to: the result, and the length of the image, 0 when refused.
 pub struct Written {
-    pub outcome: Outcome,
+    pub result: ImageResult,
     pub length: usize,
 }
 
@@ -27,7 +27,7 @@ pub fn write(numbers: [u32; ROWS], blocks: &[u8], out: &mut [u8]) -> Written
 {
     let s = judge_rows(numbers);
     let w = fit(s, blocks.len(), out.len());
-    let judged = w.outcome;
+    let judged = w.result;
     if !judged.is_done() {
         return w;
     }
@@ -37,7 +37,7 @@ pub fn write(numbers: [u32; ROWS], blocks: &[u8], out: &mut [u8]) -> Written
 
 // The numbers judged, each at the place where it would stand.
 fn judge_rows(numbers: [u32; ROWS]) -> Scan
-    ensures { λ r. ⌜ r ≡ scan 0 (given numbers) rowCount ⌝ }
+    ensures { λ r. ⌜ r ≡ scan 0 (givenNumbers numbers) rowCount ⌝ }
 {
     let mut s = reader::begin();
     let mut row: usize = 0;
@@ -54,8 +54,8 @@ fn judge_row(s: Scan, row: usize, v: u32) -> Scan
     requires { ⌜ row < rowCount ⌝ }
     ensures { λ r. ⌜ r ≡ more 0 (λ k. standing v) row s ⌝ }
 {
-    let outcome = s.outcome;
-    if !outcome.is_done() {
+    let result = s.result;
+    if !result.is_done() {
         return s;
     }
     let next = s.at + image_number::size(v);
@@ -66,48 +66,48 @@ fn judge_row(s: Scan, row: usize, v: u32) -> Scan
 fn fit(s: Scan, blocks: usize, room: usize) -> Written
     requires { ⌜ s .at ≤ mostHeaderBytes ⌝ }
     requires { ⌜ Narrow (s .numbers) ⌝ }
-    ensures { λ r. ⌜ r ≡ fitted s blocks room ⌝ }
+    ensures { λ r. ⌜ r ≡ judgedWrite s blocks room ⌝ }
 {
-    let judged = s.outcome;
+    let judged = s.result;
     let numbers = s.numbers;
     let at = s.at;
-    let outcome = reader::first_refusal(
+    let result = reader::first_refusal(
         judged,
         judge_room(at, numbers[reader::COUNT], blocks, room),
     );
-    if !outcome.is_done() {
-        return not_written(outcome);
+    if !result.is_done() {
+        return not_written(result);
     }
     Written {
-        outcome: outcome,
+        result: result,
         length: at + blocks,
     }
 }
 
 // Whether the blocks are as long as the count says, and there is room for them behind the numbers.
-fn judge_room(at: usize, count: u32, blocks: usize, room: usize) -> Outcome
+fn judge_room(at: usize, count: u32, blocks: usize, room: usize) -> ImageResult
     requires { ⌜ at ≤ mostHeaderBytes ⌝ }
     requires { ⌜ count < 65536 ⌝ }
-    ensures { λ r. ⌜ r ≡ roomOutcome at count blocks room ⌝ }
+    ensures { λ r. ⌜ r ≡ roomResult at count blocks room ⌝ }
 {
     let whole = limits::BLOCK_LENGTH * (count as usize);
     if blocks < whole {
-        return Outcome::EndsEarly(blocks);
+        return ImageResult::EndsEarly(blocks);
     }
     if whole < blocks {
-        return Outcome::LeftOver(blocks);
+        return ImageResult::LeftOver(blocks);
     }
     if room < at + blocks {
-        return Outcome::NoRoom(at + blocks);
+        return ImageResult::NoRoom(at + blocks);
     }
-    Outcome::Done
+    ImageResult::Done
 }
 
-fn not_written(outcome: Outcome) -> Written
-    ensures { λ r. ⌜ r ≡ notWritten outcome ⌝ }
+fn not_written(result: ImageResult) -> Written
+    ensures { λ r. ⌜ r ≡ notWritten result ⌝ }
 {
     Written {
-        outcome: outcome,
+        result: result,
         length: 0,
     }
 }

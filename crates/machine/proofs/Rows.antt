@@ -1,48 +1,10 @@
--- A statement proved of every row of effects holds of the effect of every code that is carried, since each carried code has a row.
-use Prim.Native.Nat.{ℕ}
-use mathlib.Core.Path.{_≡_, refl, sym, ap, _∙_}
-use mathlib.Core.Bool.{Bool, true, false, _||_, cond}
-use mathlib.Core.Logic.{⊎-elim}
-use mathlib.Core.List.{List, [], _∷_}
-use lib.Dec.{T, eqb}
-use borrow.Author.Tests.{eqb-true}
-use Rattle.image_number.proofs.Choice.{clash}
-use Rattle.command_table.specs.Rows.{rows, rowIn, rowOf, noRow}
-use Rattle.command_table.specs.declared.Row.{Row as Columns}
-use Rattle.command_table.proofs.Laws.{every, every-row}
-use Rattle.command_operands.specs.declared.Command.{Command}
-use Rattle.machine.specs.Effect.{Deed, Row, deedIn}
-use Rattle.machine.specs.Effect.{rows as deeds}
-use Rattle.machine.proofs.Every.{All}
-
-abbrev has : List Row → ℕ → Bool
-has [] code = false
-has (r ∷ rs) code = eqb code (r .code) || has rs code
-
--- what is to be shown of a deed, for commands of its code
-abbrev pub Of : (Command → Deed → Type 0) → Row → Type 0
-Of P r = (c : Command) → c .code ≡ r .code → P c (r .deed)
-
-deed-in : (P : Command → Deed → Type 0) (rs : List Row) → All (Of P) rs → (c : Command) → has rs (c .code) ≡ true → P c (deedIn rs (c .code))
-unfolding deedIn
-deed-in P [] All.end c e = clash (sym e)
-deed-in P (r ∷ rs) (All._&_ first rest) c e = go (eqb (c .code) (r .code)) refl e (deed-in P rs rest c)
-  where
-    go : (t : Bool) → eqb (c .code) (r .code) ≡ t → (t || has rs (c .code)) ≡ true → (has rs (c .code) ≡ true → P c (deedIn rs (c .code)))
-        → P c (cond t (r .deed) (deedIn rs (c .code)))
-    go true i k later = first c (eqb-true (c .code) (r .code) i)
-    go false i k later = later k
-
--- each code that is carried has a row of effects
-carried : ℕ → Columns → Bool
-carried code r = has deeds code
-
-all-carried : T (every carried rows)
-unfolding carried rows
-all-carried = tt
-
-pub effect-of : (P : Command → Deed → Type 0) → All (Of P) deeds → (c : Command) → rowOf (c .code) .carried ≡ true → P c (deedIn deeds (c .code))
-unfolding rowOf carried
-effect-of P all c n =
-    ⊎-elim (λ (e : rowIn rows (c .code) ≡ noRow). clash (sym n ∙ ap (λ (r : Columns). r .carried) e)) (λ h. deed-in P deeds all c h)
-    (every-row carried rows all-carried (c .code))
+pub mod EachRow
+pub mod InRange
+pub mod Waits
+pub mod Slope
+pub mod Forms
+pub mod EveryLaw
+pub mod Halts
+pub mod Operands
+pub mod Outcomes
+pub mod Codes

@@ -52,8 +52,8 @@ abbrev pub halts : Cause → Values → Effect
 halts q v = flows v (Halt q)
 
 -- what a command does
-abbrev pub Deed : Type 0
-Deed = Given → Command → Values → Effect
+abbrev pub CommandEffect : Type 0
+CommandEffect = Given → Command → Values → Effect
 
 -- ---- reading
 
@@ -91,7 +91,7 @@ compares condition a b = cond (eqb condition 0) (eqb a b) (not (eqb a b))
 abbrev pub started : Given → Values → Bool
 started g v = isSet (v .motion .mark) || (isSet (g .start) && eqb (v .notes .level) 0)
 
-abbrev pub moves : (Axis → Request) → Deed
+abbrev pub moves : (Axis → Request) → CommandEffect
 moves kind g c v = cond (started g v) (effect (withMark 0 v) (kind (axisOf firstAxis v)) GoOn) (flows v (Stay 0 0))
 
 -- a wait of T ms: at the first step T is taken with k = 0, at each later one k grows by one
@@ -102,7 +102,7 @@ waits time g =
     (cond (due (g .model) (g .time) (g .turns + 1)) GoOn (Stay (g .time) (g .turns + 1)))
 
 -- a parameter from a variable: 20 unless it is in range
-abbrev pub parameter : ℕ → (ℕ → Axis → Axis) → Deed
+abbrev pub parameter : ℕ → (ℕ → Axis → Axis) → CommandEffect
 parameter most put g c v =
     cond (within 1 most (variable v (c .x))) (sets (withAxis firstAxis (put (natural (variable v (c .x))) (axisOf firstAxis v)) v)) (halts BadContent v)
 
@@ -125,113 +125,113 @@ abbrev pub timeOf : ℕ → ℕ → ℕ
 timeOf model n = cond (ltb model type637Plus) (n - n % 2) n
 
 -- the variable is read, and judged by 20, at the first step alone
-abbrev pub waitsVariable : Deed
+abbrev pub waitsVariable : CommandEffect
 waitsVariable g c v =
     cond (isSet (g .time) || within 0 mostTime (variable v (c .x)))
     (flows v (waits (timeOf (g .model) (natural (variable v (c .x)))) g)) (halts BadContent v)
 
 -- ---- the rows
 
-pub record Row : Type 0 where
+pub record EffectRow : Type 0 where
   pub code : ℕ
-  pub deed : Deed
+  pub deed : CommandEffect
 
-abbrev pub row : ℕ → Deed → Row
-row code deed = record { code = code; deed = deed }
+abbrev pub effectRow : ℕ → CommandEffect → EffectRow
+effectRow code deed = record { code = code; deed = deed }
 
 -- motion and parameters
-abbrev pub axisRows : List Row
-axisRows =
-    row 0x00 (moves MoveTo) ∷  -- p. 30
-    row 0x01 (moves MoveBy) ∷  -- p. 31
-    row 0x03 (moves Forward) ∷  -- p. 34
-    row 0x04 (moves Backward) ∷  -- p. 35
-    row 0x0E (λ g c v. sets (withMark 1 v)) ∷  -- p. 49
-    row 0x0F (λ g c v. effect v (Stop (c .x) (axisOf firstAxis v .deceleration)) GoOn) ∷  -- p. 50
-    row 0x1F (λ g c v. effect v (Stop (c .x) (c .word)) GoOn) ∷  -- p. 65
-    row 0x20 (λ g c v. sets (withAxis firstAxis (withPosition (c .value) (axisOf firstAxis v)) v)) ∷  -- p. 66
-    row 0x21 (λ g c v. sets (withAxis firstAxis (withSpeed (c .word) (axisOf firstAxis v)) v)) ∷  -- p. 67
-    row 0x22 (λ g c v. sets (withAxis firstAxis (withAcceleration (c .word) (axisOf firstAxis v)) v)) ∷  -- p. 68
-    row 0x23 (λ g c v. sets (withAxis firstAxis (withDeceleration (c .word) (axisOf firstAxis v)) v)) ∷  -- p. 69
-    row 0x30 (λ g c v. sets (withAxis firstAxis (withPosition (variable v (c .x)) (axisOf firstAxis v)) v)) ∷  -- p. 83
-    row 0x31 (parameter mostSpeed withSpeed) ∷  -- p. 84
-    row 0x32 (parameter mostRamp withAcceleration) ∷  -- p. 85
-    row 0x33 (parameter mostRamp withDeceleration) ∷  -- p. 86
-    row 0x40 (λ g c v. assigns c (axisOf firstAxis v .position) v) ∷  -- p. 100
-    row 0x41 (λ g c v. assigns c (pos (axisOf firstAxis v .speed)) v) ∷  -- p. 101
-    row 0x42 (λ g c v. assigns c (pos (axisOf firstAxis v .acceleration)) v) ∷  -- p. 102
-    row 0x43 (λ g c v. assigns c (pos (axisOf firstAxis v .deceleration)) v) ∷  -- p. 103
+abbrev pub motionRows : List EffectRow
+motionRows =
+    effectRow 0x00 (moves MoveTo) ∷  -- p. 30
+    effectRow 0x01 (moves MoveBy) ∷  -- p. 31
+    effectRow 0x03 (moves Forward) ∷  -- p. 34
+    effectRow 0x04 (moves Backward) ∷  -- p. 35
+    effectRow 0x0E (λ g c v. sets (withMark 1 v)) ∷  -- p. 49
+    effectRow 0x0F (λ g c v. effect v (Stop (c .x) (axisOf firstAxis v .deceleration)) GoOn) ∷  -- p. 50
+    effectRow 0x1F (λ g c v. effect v (Stop (c .x) (c .word)) GoOn) ∷  -- p. 65
+    effectRow 0x20 (λ g c v. sets (withAxis firstAxis (withPosition (c .value) (axisOf firstAxis v)) v)) ∷  -- p. 66
+    effectRow 0x21 (λ g c v. sets (withAxis firstAxis (withSpeed (c .word) (axisOf firstAxis v)) v)) ∷  -- p. 67
+    effectRow 0x22 (λ g c v. sets (withAxis firstAxis (withAcceleration (c .word) (axisOf firstAxis v)) v)) ∷  -- p. 68
+    effectRow 0x23 (λ g c v. sets (withAxis firstAxis (withDeceleration (c .word) (axisOf firstAxis v)) v)) ∷  -- p. 69
+    effectRow 0x30 (λ g c v. sets (withAxis firstAxis (withPosition (variable v (c .x)) (axisOf firstAxis v)) v)) ∷  -- p. 83
+    effectRow 0x31 (parameter mostSpeed withSpeed) ∷  -- p. 84
+    effectRow 0x32 (parameter mostRamp withAcceleration) ∷  -- p. 85
+    effectRow 0x33 (parameter mostRamp withDeceleration) ∷  -- p. 86
+    effectRow 0x40 (λ g c v. assigns c (axisOf firstAxis v .position) v) ∷  -- p. 100
+    effectRow 0x41 (λ g c v. assigns c (pos (axisOf firstAxis v .speed)) v) ∷  -- p. 101
+    effectRow 0x42 (λ g c v. assigns c (pos (axisOf firstAxis v .acceleration)) v) ∷  -- p. 102
+    effectRow 0x43 (λ g c v. assigns c (pos (axisOf firstAxis v .deceleration)) v) ∷  -- p. 103
     []
 
 -- control
-abbrev pub controlRows : List Row
+abbrev pub controlRows : List EffectRow
 controlRows =
-    row 0x50 (λ g c v. sets v) ∷  -- p. 122
-    row 0x51 (λ g c v. flows v (cond (eqb (c .x) 0) Restart End)) ∷  -- p. 123
-    row 0x52 (λ g c v. flows v (Call (c .word))) ∷  -- p. 124
-    row 0x53 (λ g c v. flows v Return) ∷  -- p. 125
-    row 0x54 (λ g c v. flows v (Start plc (c .word))) ∷  -- p. 126
-    row 0x55 (λ g c v. flows v (Jump (c .word))) ∷  -- p. 127
-    row 0x57 (λ g c v. flows v (Start bias (c .word))) ∷  -- p. 129
-    row 0x58 (λ g c v. flows v (cond (isSet (g .reached)) GoOn (Stay 0 0))) ∷  -- p. 130
-    row 0x59 (λ g c v. flows v (waits (2 * c .word) g)) ∷  -- p. 131
-    row 0x5A waitsVariable ∷  -- p. 132
+    effectRow 0x50 (λ g c v. sets v) ∷  -- p. 122
+    effectRow 0x51 (λ g c v. flows v (cond (eqb (c .x) 0) Restart End)) ∷  -- p. 123
+    effectRow 0x52 (λ g c v. flows v (Call (c .word))) ∷  -- p. 124
+    effectRow 0x53 (λ g c v. flows v Return) ∷  -- p. 125
+    effectRow 0x54 (λ g c v. flows v (Start plc (c .word))) ∷  -- p. 126
+    effectRow 0x55 (λ g c v. flows v (Jump (c .word))) ∷  -- p. 127
+    effectRow 0x57 (λ g c v. flows v (Start bias (c .word))) ∷  -- p. 129
+    effectRow 0x58 (λ g c v. flows v (cond (isSet (g .reached)) GoOn (Stay 0 0))) ∷  -- p. 130
+    effectRow 0x59 (λ g c v. flows v (waits (2 * c .word) g)) ∷  -- p. 131
+    effectRow 0x5A waitsVariable ∷  -- p. 132
     []
 
 -- flags and pins
-abbrev pub levelRows : List Row
+abbrev pub levelRows : List EffectRow
 levelRows =
-    row 0x60 (λ g c v. sets (withFlag (c .x) (c .y) v)) ∷  -- p. 137
-    row 0x61 (λ g c v. jumpIf (compares (c .y) (flag v (c .x)) (c .z)) (c .word) v) ∷  -- p. 138
-    row 0x62 (λ g c v. sets (withFlag (c .x) (flag v (c .y)) v)) ∷  -- p. 139
-    row 0x63 (λ g c v. sets (withFlag (c .x) (inputAt g (c .y)) v)) ∷  -- p. 140
-    row 0x64 (λ g c v. sets (withFlag (c .x) (output v (c .y)) v)) ∷  -- p. 141
-    row 0x65 (λ g c v. sets (withFlag (c .x) (bit (isSet (flag v (c .y)) && isSet (flag v (c .z)))) v)) ∷  -- p. 142
-    row 0x66 (λ g c v. sets (withFlag (c .x) (bit (isSet (flag v (c .y)) || isSet (flag v (c .z)))) v)) ∷  -- p. 143
-    row 0x67 (λ g c v. sets (withFlag (c .x) (bit (not (eqb (flag v (c .y)) (flag v (c .z))))) v)) ∷  -- p. 144
-    row 0x68 (λ g c v. sets (withFlag (c .x) (bit (not (isSet (flag v (c .y))))) v)) ∷  -- p. 145
-    row 0x6E (λ g c v. jumpIf (compares (c .z) (bit (bitAt w32 (c .y) (variable v (c .x)))) 0) (c .word) v) ∷  -- p. 151
-    row 0x70 (λ g c v. jumpIf (compares (c .y) (inputAt g (c .x)) (c .z)) (c .word) v) ∷  -- p. 154
-    row 0x71 (λ g c v. jumpIf (compares (c .y) (output v (c .x)) (c .z)) (c .word) v) ∷  -- p. 156
-    row 0x72 (λ g c v. sets (withOutput (c .x) (c .y) v)) ∷  -- p. 158
-    row 0x73 (λ g c v. sets (withOutput (c .x) (flag v (c .y)) v)) ∷  -- p. 159
+    effectRow 0x60 (λ g c v. sets (withFlag (c .x) (c .y) v)) ∷  -- p. 137
+    effectRow 0x61 (λ g c v. jumpIf (compares (c .y) (flag v (c .x)) (c .z)) (c .word) v) ∷  -- p. 138
+    effectRow 0x62 (λ g c v. sets (withFlag (c .x) (flag v (c .y)) v)) ∷  -- p. 139
+    effectRow 0x63 (λ g c v. sets (withFlag (c .x) (inputAt g (c .y)) v)) ∷  -- p. 140
+    effectRow 0x64 (λ g c v. sets (withFlag (c .x) (output v (c .y)) v)) ∷  -- p. 141
+    effectRow 0x65 (λ g c v. sets (withFlag (c .x) (bit (isSet (flag v (c .y)) && isSet (flag v (c .z)))) v)) ∷  -- p. 142
+    effectRow 0x66 (λ g c v. sets (withFlag (c .x) (bit (isSet (flag v (c .y)) || isSet (flag v (c .z)))) v)) ∷  -- p. 143
+    effectRow 0x67 (λ g c v. sets (withFlag (c .x) (bit (not (eqb (flag v (c .y)) (flag v (c .z))))) v)) ∷  -- p. 144
+    effectRow 0x68 (λ g c v. sets (withFlag (c .x) (bit (not (isSet (flag v (c .y))))) v)) ∷  -- p. 145
+    effectRow 0x6E (λ g c v. jumpIf (compares (c .z) (bit (bitAt w32 (c .y) (variable v (c .x)))) 0) (c .word) v) ∷  -- p. 151
+    effectRow 0x70 (λ g c v. jumpIf (compares (c .y) (inputAt g (c .x)) (c .z)) (c .word) v) ∷  -- p. 154
+    effectRow 0x71 (λ g c v. jumpIf (compares (c .y) (output v (c .x)) (c .z)) (c .word) v) ∷  -- p. 156
+    effectRow 0x72 (λ g c v. sets (withOutput (c .x) (c .y) v)) ∷  -- p. 158
+    effectRow 0x73 (λ g c v. sets (withOutput (c .x) (flag v (c .y)) v)) ∷  -- p. 159
     []
 
 -- variables
-abbrev pub variableRows : List Row
+abbrev pub variableRows : List EffectRow
 variableRows =
-    row 0x80 (λ g c v. assigns c (c .value) v) ∷  -- p. 167
-    row 0x81 (λ g c v. jumpIf (holds (c .y) (variable v (c .x)) (c .value)) (c .word) v) ∷  -- p. 168
-    row 0x82 (λ g c v. assigns c (wrap w32 (variable v (c .y) +ℤ c .value)) v) ∷  -- p. 170
-    row 0x83 (λ g c v. assigns c (wrap w32 (variable v (c .y) -ℤ c .value)) v) ∷  -- p. 171
-    row 0x84 (λ g c v. assigns c (wrap w32 (variable v (c .y) *ℤ c .value)) v) ∷  -- p. 172
-    row 0x85 (λ g c v. divides c (quotient (variable v (c .y)) (c .value)) v) ∷  -- p. 173
-    row 0x86 (λ g c v. assigns c (wrap w32 (pos (flagNumber (v .cells .flags) (c .y) (c .z)))) v) ∷  -- p. 174
-    row 0x88 (λ g c v. assigns c (variable v (c .y)) v) ∷  -- p. 176
-    row 0x89 (λ g c v. jumpIf (holds (c .y) (variable v (c .x)) (variable v (c .z))) (c .word) v) ∷  -- p. 177
-    row 0x8A (λ g c v. assigns c (wrap w32 (variable v (c .y) +ℤ variable v (c .z))) v) ∷  -- p. 179
-    row 0x8B (λ g c v. assigns c (wrap w32 (variable v (c .y) -ℤ variable v (c .z))) v) ∷  -- p. 180
-    row 0x8C (λ g c v. assigns c (wrap w32 (variable v (c .y) *ℤ variable v (c .z))) v) ∷  -- p. 181
-    row 0x8D (λ g c v. divides c (quotient (variable v (c .y)) (variable v (c .z))) v) ∷  -- p. 182
+    effectRow 0x80 (λ g c v. assigns c (c .value) v) ∷  -- p. 167
+    effectRow 0x81 (λ g c v. jumpIf (holds (c .y) (variable v (c .x)) (c .value)) (c .word) v) ∷  -- p. 168
+    effectRow 0x82 (λ g c v. assigns c (wrap w32 (variable v (c .y) +ℤ c .value)) v) ∷  -- p. 170
+    effectRow 0x83 (λ g c v. assigns c (wrap w32 (variable v (c .y) -ℤ c .value)) v) ∷  -- p. 171
+    effectRow 0x84 (λ g c v. assigns c (wrap w32 (variable v (c .y) *ℤ c .value)) v) ∷  -- p. 172
+    effectRow 0x85 (λ g c v. divides c (quotient (variable v (c .y)) (c .value)) v) ∷  -- p. 173
+    effectRow 0x86 (λ g c v. assigns c (wrap w32 (pos (flagNumber (v .cells .flags) (c .y) (c .z)))) v) ∷  -- p. 174
+    effectRow 0x88 (λ g c v. assigns c (variable v (c .y)) v) ∷  -- p. 176
+    effectRow 0x89 (λ g c v. jumpIf (holds (c .y) (variable v (c .x)) (variable v (c .z))) (c .word) v) ∷  -- p. 177
+    effectRow 0x8A (λ g c v. assigns c (wrap w32 (variable v (c .y) +ℤ variable v (c .z))) v) ∷  -- p. 179
+    effectRow 0x8B (λ g c v. assigns c (wrap w32 (variable v (c .y) -ℤ variable v (c .z))) v) ∷  -- p. 180
+    effectRow 0x8C (λ g c v. assigns c (wrap w32 (variable v (c .y) *ℤ variable v (c .z))) v) ∷  -- p. 181
+    effectRow 0x8D (λ g c v. divides c (quotient (variable v (c .y)) (variable v (c .z))) v) ∷  -- p. 182
     []
 
 -- mathematics
-abbrev pub mathematicsRows : List Row
+abbrev pub mathematicsRows : List EffectRow
 mathematicsRows =
-    row 0x90 (λ g c v. flows v (Start mathematics (c .word))) ∷  -- p. 185
+    effectRow 0x90 (λ g c v. flows v (Start mathematics (c .word))) ∷  -- p. 185
     []
 
-abbrev pub rows : List Row
-rows = axisRows ++ (controlRows ++ (levelRows ++ (variableRows ++ mathematicsRows)))
+abbrev pub effectRows : List EffectRow
+effectRows = motionRows ++ (controlRows ++ (levelRows ++ (variableRows ++ mathematicsRows)))
 
 -- a code that is not carried does nothing: the task stays
-abbrev pub nothing : Deed
+abbrev pub nothing : CommandEffect
 nothing g c v = flows v (Stay 0 0)
 
-unfoldable pub deedIn : List Row → ℕ → Deed
-deedIn [] code = nothing
-deedIn (r ∷ rs) code = cond (eqb code (r .code)) (r .deed) (deedIn rs code)
+unfoldable pub effectIn : List EffectRow → ℕ → CommandEffect
+effectIn [] code = nothing
+effectIn (r ∷ rs) code = cond (eqb code (r .code)) (r .deed) (effectIn rs code)
 
 -- what a command does
-unfoldable pub effectOf : Deed
-effectOf g c v = deedIn rows (c .code) g c v
+unfoldable pub effectOf : CommandEffect
+effectOf g c v = effectIn effectRows (c .code) g c v

@@ -6,16 +6,16 @@ use mathlib.Core.List.{List}
 use lib.Dec.{eqb, ltb}
 use lib.ListN.{length, getD, set}
 use Rattle.limits.specs.Limits.{bias, taskCount, inputsLength}
-use Rattle.image_result.specs.Outcome.{done}
+use Rattle.image_result.specs.ImageResult.{done}
 use Rattle.image_header.specs.Rows.{sameHeader}
 use Rattle.image_header.specs.Scan.{headerOf, blocksOf}
 use Rattle.image_header.specs.declared.Header.{Header}
 use Rattle.image_header.specs.declared.reader.HeaderRead.{HeaderRead}
 use Rattle.walk_flow.specs.Terms.{Terms, under}
 use Rattle.walk_fault.specs.Fault.{faultNumber}
-use Rattle.walk_point.specs.Fault.{point}
+use Rattle.walk_point.specs.PointFault.{point}
 use Rattle.walk_point.specs.declared.Point.{Point}
-use Rattle.walk.specs.Program.{commandAt, faultAt, blockNumber}
+use Rattle.walk.specs.Blocks.{commandAt, faultAt, blockNumber}
 use Rattle.state.specs.State.{runs, ended, halted, emptyStack, task, taskAt, withNotes}
 use Rattle.state.specs.declared.Task.{Task}
 use Rattle.state.specs.declared.Values.{Values}
@@ -26,7 +26,7 @@ use Rattle.machine.specs.declared.Request.the-variants.{None}
 use Rattle.machine.specs.declared.Outcome.{Outcome}
 use Rattle.machine.specs.declared.Outcome.the-variants.{GoOn, Stay, Jump, Call, Return, Start, Restart, End, Halt}
 use Rattle.machine.specs.declared.Effect.{Effect}
-use Rattle.machine.specs.declared.Out.{Out}
+use Rattle.machine.specs.declared.StepOut.{StepOut}
 use Rattle.machine.specs.declared.Answer.{Answer}
 use Rattle.machine.specs.declared.Answer.the-variants.{Done, NoTask, Inputs as BadInputs, NotRunning, Differs, Halted}
 
@@ -75,7 +75,7 @@ tasksAfter first t k (Halt q) l = set l t (stopped halted k)
 -- ---- a step
 
 -- a refused step changes nothing and asks for no motion
-abbrev pub refuse : State → Answer → Out
+abbrev pub refuse : State → Answer → StepOut
 refuse s a = record { state = s; request = None; answer = a }
 
 -- where a task is
@@ -108,7 +108,7 @@ given s k x = record {
   turns = k .turns;
 }
 
-unfoldable pub performed : State → Inputs → Task → Effect → Out
+unfoldable pub performed : State → Inputs → Task → Effect → StepOut
 performed s x k e = record {
   state = record {
     values = noted (x .task) (x .start) (e .values);
@@ -127,7 +127,7 @@ termsHeld s = under (s .header)
 
 -- what was read of the lent image is the loaded header
 abbrev pub isLoaded : HeaderRead → Header → Bool
-isLoaded r h = done (r .outcome) && sameHeader (r .header) h
+isLoaded r h = done (r .result) && sameHeader (r .header) h
 
 abbrev pub blockFits : Terms → List ℕ → ℕ → Task → Bool
 blockFits h bs t k = eqb (blockNumber h bs (k .block)) 0 && eqb (faultNumber (faultAt h bs (pointOf t k))) 0
@@ -146,11 +146,11 @@ unfoldable pub fits : List ℕ → Terms → ℕ → Task → Bool
 fits image h t k = fitsAs (headerOf image) (blocksOf image) h t k
 
 -- the command at the task's block
-abbrev pub carriedOut : List ℕ → State → Inputs → Task → Out
+abbrev pub carriedOut : List ℕ → State → Inputs → Task → StepOut
 carriedOut bs s x k = performed s x k (effectOf (given s k x) (commandAt bs (k .block)) (s .values))
 
 -- 18, then 17, then the command
-unfoldable pub taskStep : List ℕ → State → Inputs → Task → Out
+unfoldable pub taskStep : List ℕ → State → Inputs → Task → StepOut
 taskStep image s x k =
     cond (eqb (k .status) runs)
     (cond (fits image (termsHeld s) (x .task) k)
@@ -159,7 +159,7 @@ taskStep image s x k =
     (refuse s NotRunning)
 
 -- 15 first: the task number, then the length of the input levels
-unfoldable pub step : List ℕ → State → Inputs → Out
+unfoldable pub step : List ℕ → State → Inputs → StepOut
 step image s x =
     cond (ltb (x .task) taskCount)
     (cond (eqb (length (x .levels)) inputsLength) (taskStep image s x (taskAt s (x .task))) (refuse s (BadInputs (length (x .levels)))))

@@ -2,10 +2,10 @@ pub mod Given
 pub mod Effect
 pub mod Engine
 pub mod Reference
-pub mod Ways
+pub mod Allows
 pub mod Alike
 pub mod Run
-pub mod Each
+pub mod StepRule
 pub mod Theorem
 pub mod Numbers
-pub mod Deep
+pub mod DepthAllows

@@ -9,7 +9,7 @@ use lib.ListN.{length, getD, set, replicate}
 use lib.IntN.{pos}
 use Rattle.image_header.specs.Scan.{headerOf, blocksOf}
 use Rattle.command_table.specs.Rows.{rowOf}
-use Rattle.walk.specs.Program.{commandAt}
+use Rattle.walk.specs.Blocks.{commandAt}
 use Rattle.state.specs.declared.Values.{Values}
 use Rattle.machine.specs.Given.{Inputs, level}
 use Rattle.machine.specs.Effect.{effectOf}
@@ -47,8 +47,8 @@ pub record Machine : Type 0 where
 abbrev pub idle : Thread
 idle = off (thread 0 0 0 0 [])
 
-unfoldable pub begun : List ℕ → Machine
-begun image = record {
+unfoldable pub referenceLoaded : List ℕ → Machine
+referenceLoaded image = record {
   values = record {
     cells = record { variables = replicate 256 (pos 0); flags = replicate 256 0; outputs = replicate 256 0 };
     motion = record { axis = record { position = pos 0; speed = 1; acceleration = 1; deceleration = 1 }; mark = 0 };
@@ -59,8 +59,8 @@ begun image = record {
 
 -- ---- a command's outcome
 
-abbrev pub goes : ℕ → Thread → Thread
-goes b k = thread b (k .start) 0 0 (k .returns)
+abbrev pub goesTo : ℕ → Thread → Thread
+goesTo b k = thread b (k .start) 0 0 (k .returns)
 
 -- to the latest entry, which comes off
 abbrev pub back : Thread → List ℕ → Thread
@@ -75,25 +75,25 @@ abbrev pub anew : ℕ → ℕ → List Thread → Thread
 anew u a l = thread a (cond (eqb u 0) (getD l 0 idle .start) a) 0 0 []
 
 unfoldable pub follows : ℕ → Thread → Outcome → List Thread → List Thread
-follows t k GoOn l = put t (goes (k .block + 1) k) l
+follows t k GoOn l = put t (goesTo (k .block + 1) k) l
 follows t k (Stay time turns) l = put t (thread (k .block) (k .start) time turns (k .returns)) l
-follows t k (Jump a) l = put t (goes a k) l
+follows t k (Jump a) l = put t (goesTo a k) l
 follows t k (Call a) l = put t (thread a (k .start) 0 0 ((k .block + 1) ∷ k .returns)) l
 follows t k Return l = put t (back k (k .returns)) l
-follows t k (Start u a) l = put u (anew u a l) (put t (goes (k .block + 1) k) l)
+follows t k (Start u a) l = put u (anew u a l) (put t (goesTo (k .block + 1) k) l)
 follows t k Restart l = put t (thread (k .start) (k .start) 0 0 []) l
 follows t k End l = put t (off k) l
 follows t k (Halt q) l = put t (off k) l
 
 -- ---- a step
 
-pub record Did : Type 0 where
+pub record ReferenceOut : Type 0 where
   pub machine : Machine
   pub request : Request
   pub answer : Answer
 
-abbrev pub stays : Machine → Answer → Did
-stays m a = record { machine = m; request = None; answer = a }
+abbrev pub standsStill : Machine → Answer → ReferenceOut
+standsStill m a = record { machine = m; request = None; answer = a }
 
 abbrev pub replies : Outcome → ℕ → Thread → Answer
 replies GoOn t k = Done
@@ -110,7 +110,7 @@ replies (Halt q) t k = Halted q (record { task = t; block = k .block; depth = le
 abbrev pub keeps : ℕ → ℕ → Values → Values
 keeps t start v = record { cells = v .cells; motion = v .motion; notes = cond (eqb t 0) (record { level = level start }) (v .notes) }
 
-unfoldable pub does : Machine → Inputs → Thread → Effect → Did
+unfoldable pub does : Machine → Inputs → Thread → Effect → ReferenceOut
 does m x k e = record {
   machine = record { values = keeps (x .task) (x .start) (e .values); threads = follows (x .task) k (e .outcome) (m .threads) };
   request = e .request;
@@ -131,11 +131,11 @@ lost End l = false
 lost (Halt q) l = false
 
 -- a return with nothing to return to stands still
-unfoldable pub tries : Machine → Inputs → Thread → Effect → Did
-tries m x k e = cond (lost (e .outcome) (k .returns)) (stays m Done) (does m x k e)
+unfoldable pub tries : Machine → Inputs → Thread → Effect → ReferenceOut
+tries m x k e = cond (lost (e .outcome) (k .returns)) (standsStill m Done) (does m x k e)
 
 -- the command at its block; past the end, and where there is no command, it stands still
-unfoldable pub acts : List ℕ → Machine → Inputs → Thread → Did
+unfoldable pub acts : List ℕ → Machine → Inputs → Thread → ReferenceOut
 acts image m x k =
     cond (ltb (k .block) (headerOf image .header .count))
     (cond (rowOf (commandAt (blocksOf image) (k .block) .code) .carried)
@@ -150,13 +150,13 @@ acts image m x k =
       turns = k .turns;
     })
     (commandAt (blocksOf image) (k .block)) (m .values)))
-    (stays m Done))
-    (stays m Done)
+    (standsStill m Done))
+    (standsStill m Done)
 
 -- what 15 and 18 describe changes nothing
-unfoldable pub turn : List ℕ → Machine → Inputs → Did
-turn image m x =
-    cond (ltb 2 (x .task)) (stays m (NoTask (x .task)))
+unfoldable pub referenceStep : List ℕ → Machine → Inputs → ReferenceOut
+referenceStep image m x =
+    cond (ltb 2 (x .task)) (standsStill m (NoTask (x .task)))
     (cond (eqb (length (x .levels)) 256)
-    (cond (getD (m .threads) (x .task) idle .runs) (acts image m x (getD (m .threads) (x .task) idle)) (stays m NotRunning))
-    (stays m (BadInputs (length (x .levels)))))
+    (cond (getD (m .threads) (x .task) idle .runs) (acts image m x (getD (m .threads) (x .task) idle)) (standsStill m NotRunning))
+    (standsStill m (BadInputs (length (x .levels)))))

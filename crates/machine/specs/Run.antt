@@ -6,16 +6,16 @@ use Rattle.limits.specs.Limits.{mostDepth}
 use Rattle.image_header.specs.Scan.{headerOf, blocksOf}
 use Rattle.walk_fault.specs.declared.Fault.the-variants.{Fine}
 use Rattle.walk_flow.specs.Terms.{termsOf}
-use Rattle.walk.specs.Program.{faultAt, blockNumber}
+use Rattle.walk.specs.Blocks.{faultAt, blockNumber}
 use Rattle.state.specs.declared.Task.{Task}
 use Rattle.state.specs.declared.State.{State}
 use Rattle.machine.specs.Given.{Inputs}
 use Rattle.machine.specs.Engine.{step, pointOf}
-use Rattle.machine.specs.declared.Out.{Out}
-use Rattle.machine.specs.Reference.{Machine, Did, turn}
+use Rattle.machine.specs.declared.StepOut.{StepOut}
+use Rattle.machine.specs.Reference.{Machine, ReferenceOut, referenceStep}
 
 -- what the engine hands out, step by step, and the state after the list
-unfoldable pub outs : List ℕ → State → List Inputs → List Out
+unfoldable pub outs : List ℕ → State → List Inputs → List StepOut
 outs image s [] = []
 outs image s (x ∷ xs) = step image s x ∷ outs image (step image s x .state) xs
 
@@ -24,18 +24,18 @@ stateAfter image s [] = s
 stateAfter image s (x ∷ xs) = stateAfter image (step image s x .state) xs
 
 -- the same of the reference machine
-unfoldable pub dids : List ℕ → Machine → List Inputs → List Did
-dids image m [] = []
-dids image m (x ∷ xs) = turn image m x ∷ dids image (turn image m x .machine) xs
+unfoldable pub referenceOuts : List ℕ → Machine → List Inputs → List ReferenceOut
+referenceOuts image m [] = []
+referenceOuts image m (x ∷ xs) = referenceStep image m x ∷ referenceOuts image (referenceStep image m x .machine) xs
 
 unfoldable pub machineAfter : List ℕ → Machine → List Inputs → Machine
 machineAfter image m [] = m
-machineAfter image m (x ∷ xs) = machineAfter image (turn image m x .machine) xs
+machineAfter image m (x ∷ xs) = machineAfter image (referenceStep image m x .machine) xs
 
 -- part 1: answers and motion requests are the same, step by step
-pub data SameHanded : List Out → List Did → Type 0 where
+pub data SameHanded : List StepOut → List ReferenceOut → Type 0 where
   none : SameHanded [] []
-  more : {o : Out} {d : Did} {os : List Out} {ds : List Did} → o .answer ≡ d .answer → o .request ≡ d .request → SameHanded os ds → SameHanded (o ∷ os) (d ∷ ds)
+  more : {o : StepOut} {d : ReferenceOut} {os : List StepOut} {ds : List ReferenceOut} → o .answer ≡ d .answer → o .request ≡ d .request → SameHanded os ds → SameHanded (o ∷ os) (d ∷ ds)
 
 -- part 3: a task that runs is at a block of the image that is permitted to it on that drive, at its depth, which is at most the limit
 pub record Permitted (image : List ℕ) (t : ℕ) (k : Task) : Type 0 where

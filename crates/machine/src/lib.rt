@@ -1,10 +1,10 @@
 // What a step hands out, and what a command comes to. No code here: specs/ says what commands do, what the engine's step and the reference machine
 // (document 01: plain machine) are, and proofs/ that they agree.
 use drive::Drive;
-use walk_point::Point;
 use state::Axis;
 use state::State;
 use state::Values;
+use walk_point::Point;
 
 // The motion request of a step. A move carries the stored position, speed, acceleration and deceleration; a stop its mode and a deceleration.
 pub enum Request {
@@ -79,7 +79,7 @@ pub struct Moment {
 }
 
 // What a step hands out.
-pub struct Out {
+pub struct StepOut {
     pub state: State,
     pub request: Request,
     pub answer: Answer,

@@ -7,12 +7,12 @@ use lib.ListN.{length, getD, set, replicate, take, drop}
 use Rattle.limits.specs.Limits.{cells, marksLength, stateLength}
 use Rattle.bytes.specs.Bytes.{indexOf}
 use Rattle.num_le.specs.LittleEndian.{leBytes}
-use Rattle.state_bytes.specs.Places.{numberAt, puts}
+use Rattle.state_bytes.specs.Bytes.{leNumberAt, puts}
 use Rattle.machine.specs.Given.{Inputs, inputsOf}
 use Rattle.text_verdict.specs.Input.{inputLength}
 use Rattle.bias.specs.Load.{Load, load}
 use Rattle.bias.specs.Step.{stepped}
-use Rattle.text_hex.specs.Hex.{bytesOf}
+use Rattle.text_hex.specs.Hex.{hexBytes}
 
 -- a record of steps: how often, the task, the start input, position reached, and four inputs that are high (0: none)
 abbrev pub recordLength : ℕ
@@ -34,7 +34,7 @@ repeated image x (suc n) b = stepped image (repeated image x n b) x .buffer
 
 -- the buffer with a byte put into it, as no firmware may do: the record has the place, low byte first, and the byte
 unfoldable pub withByte : List ℕ → ℕ → List ℕ → List ℕ
-withByte steps at b = puts b (numberAt 2 steps (at + 1)) (leBytes 1 (getD steps (at + 3) 0))
+withByte steps at b = puts b (leNumberAt 2 steps (at + 1)) (leBytes 1 (getD steps (at + 3) 0))
 
 -- after the record at a place: steps, or for none of them a byte put
 unfoldable pub recorded : List ℕ → List ℕ → ℕ → List ℕ → List ℕ
@@ -46,11 +46,11 @@ after image steps zero b = b
 after image steps (suc k) b = recorded image steps (recordLength * k) (after image steps k b)
 
 -- after a load, and the records if it is accepted
-unfoldable pub begun : List ℕ → List ℕ → Load → List ℕ
-begun image steps l = cond (eqb (l .verdict .number) 0) (after image steps (length steps / recordLength) (l .buffer)) (l .buffer)
+unfoldable pub afterLoad : List ℕ → List ℕ → Load → List ℕ
+afterLoad image steps l = cond (eqb (l .verdict .number) 0) (after image steps (length steps / recordLength) (l .buffer)) (l .buffer)
 
-unfoldable pub ran : List ℕ → List ℕ → List ℕ → List ℕ
-ran image steps b = begun image steps (load image marksLength b)
+unfoldable pub afterExample : List ℕ → List ℕ → List ℕ → List ℕ
+afterExample image steps b = afterLoad image steps (load image marksLength b)
 
 -- ---- a line
 
@@ -63,8 +63,8 @@ behind line k = drop (k + 1) line
 
 -- as many bytes as there is room for
 unfoldable pub fitting : ℕ → List ℕ → List ℕ
-fitting room digits = bytesOf digits (min (length digits / 2) room)
+fitting room digits = hexBytes digits (min (length digits / 2) room)
 
 -- the buffer at the end of an example
 unfoldable pub example : List ℕ → List ℕ
-example line = ran (fitting inputLength (take (spaceOf line) line)) (fitting 4096 (behind line (spaceOf line))) (replicate stateLength 0)
+example line = afterExample (fitting inputLength (take (spaceOf line) line)) (fitting 4096 (behind line (spaceOf line))) (replicate stateLength 0)

@@ -11,7 +11,7 @@ ghost use Rattle.limits.specs.Limits.{stateLength};
 ghost use Rattle.text_hex.specs.Lines.{linesOf};
 ghost use Rattle.machine.specs.Given.{inputsOf};
 ghost use Rattle.bias.specs.Step.{stepped};
-ghost use Rattle.manual.specs.Run.{recordLength, levelsAt, repeated, withByte, recorded, after, ran, spaceOf, behind, example};
+ghost use Rattle.manual.specs.Run.{recordLength, levelsAt, repeated, withByte, recorded, after, afterExample, spaceOf, behind, example};
 
 const LINE_END: u8 = b'\n';
 
@@ -82,7 +82,7 @@ fn behind(line: &[u8], k: usize) -> &[u8]
 // Loads an image and carries out the steps, if it is accepted.
 fn run(image: &[u8], steps: &[u8], state: &mut [u8])
     requires { ⌜ length (now state) ≡ stateLength ⌝ }
-    ensures { λ _. ⌜ now (state .exit) ≡ ran (now (image .entry)) (now (steps .entry)) (now (state .entry)) ⌝ }
+    ensures { λ _. ⌜ now (state .exit) ≡ afterExample (now (image .entry)) (now (steps .entry)) (now (state .entry)) ⌝ }
 {
     let mut marks = text_verdict::marks();
     let v = bias::bias_load(image, &mut marks, state);

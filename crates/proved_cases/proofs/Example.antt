@@ -9,32 +9,32 @@ use Rattle.image_header.specs.Rows as header
 use Rattle.image_header.specs.Scan as scan
 use Rattle.command_table.specs.Rows as rows
 use Rattle.command_operands.specs.Operands as operands
-use Rattle.command_judge.specs.Judged as judged
+use Rattle.command_judge.specs.BlockFault as judged
 use Rattle.num_arith.specs.Ops as ops
 use Rattle.walk_flow.specs.Flow as flow
-use Rattle.walk_flow.specs.Tasks as tasks
-use Rattle.walk_point.specs.Fault as fault
-use Rattle.walk.specs.Program as program
+use Rattle.walk_flow.specs.Permission as tasks
+use Rattle.walk_point.specs.PointFault as fault
+use Rattle.walk.specs.Blocks as program
 use Rattle.walk.specs.Index.{indexOf, pointAt}
 use Rattle.walk.specs.Successors as successors
 use Rattle.walk.specs.Graph.{least}
 use Rattle.walk.specs.Verdict as verdict
 use Rattle.walk.specs.Verdict.{verdictOf}
 use Rattle.walk.specs.declared.Verdict.the-variants.{Accepted}
-use Rattle.walk.proofs.Fast.{closureFast, walksFast, blocksFast, readFast, verdictFast, fast-is}
+use Rattle.walk.proofs.Verdicts.Fast.{closureFast, walksFast, blocksFast, readFast, verdictFast, fast-is}
 use Rattle.state.specs.State as state
 use Rattle.state.specs.declared.Task.{Task}
 use Rattle.machine.specs.Effect as effect
 use Rattle.machine.specs.Engine as engine
-use Rattle.machine.specs.declared.Out.{Out}
+use Rattle.machine.specs.declared.StepOut.{StepOut}
 use Rattle.machine.specs.Run.{outs, stateAfter}
-use Rattle.machine.specs.Theorem.{Run, loaded}
+use Rattle.machine.specs.Theorem.{ValueRun, loaded}
 use Rattle.machine.specs.declared.Answer.{Answer}
-use Rattle.machine.proofs.Runs.{every-run}
-use Rattle.proved_cases.specs.Example.{program as image, steps, answers, Place, places}
+use Rattle.machine.proofs.Runs.EveryRun.{every-run}
+use Rattle.proved_cases.specs.Example.{program as image, steps, exampleAnswers, Place, places}
 
-abbrev answersOf : List Out → List Answer
-answersOf = map (λ (o : Out). o .answer)
+abbrev answersOf : List StepOut → List Answer
+answersOf = map (λ (o : StepOut). o .answer)
 
 abbrev placesOf : List Task → List Place
 placesOf = map (λ (k : Task). record { status = k .status; block = k .block; depth = k .depth })
@@ -42,7 +42,7 @@ placesOf = map (λ (k : Task). record { status = k .status; block = k .block; de
 -- what is computed: the verdict, the answers, where the tasks are afterwards, and flag 1
 record Computed : Type 0 where
   verdict : verdictFast image marksLength ≡ Accepted
-  answers : answersOf (outs image (loaded image) steps) ≡ answers
+  exampleAnswers : answersOf (outs image (loaded image) steps) ≡ exampleAnswers
   places : placesOf (stateAfter image (loaded image) steps .tasks) ≡ places
   flag : getD (stateAfter image (loaded image) steps .values .cells .flags) 1 0 ≡ 1
 
@@ -51,7 +51,7 @@ unfolding
     types.takes types.cycleOf
     number.numberBytes number.secondByte number.firstByte number.numberAt
     header.checked header.firstSame header.sameHeader scan.standsAt scan.judged
-    scan.taken scan.more scan.scan scan.firstRefusal scan.lengthOutcome scan.readWith scan.closed scan.headerOf scan.blocksOf
+    scan.taken scan.more scan.scan scan.firstRefusal scan.lengthResult scan.readWith scan.closed scan.headerOf scan.blocksOf
     rows.rows rows.rowIn rows.rowOf
     operands.operands operands.allZero operands.unusedZero
     judged.operandFault judged.commandFault judged.rowFault judged.blockFault
@@ -65,20 +65,20 @@ unfolding
     closureFast walksFast blocksFast readFast verdictFast
     ops.quotient
     state.freshValues state.fresh
-    effect.divides effect.deedIn effect.effectOf
+    effect.divides effect.effectIn effect.effectOf
     engine.performed engine.fits engine.taskStep engine.step
     outs stateAfter
-computed = record { verdict = refl; answers = refl; places = refl; flag = refl }
+computed = record { verdict = refl; exampleAnswers = refl; places = refl; flag = refl }
 
 pub accepted : verdictOf image marksLength ≡ Accepted
 accepted = sym (fast-is image marksLength) ∙ computed .verdict
 
 -- the theorem, of these steps
-pub holds : Run image steps
+pub holds : ValueRun image steps
 holds = every-run image marksLength accepted steps
 
-pub answered : answersOf (outs image (loaded image) steps) ≡ answers
-answered = computed .answers
+pub answered : answersOf (outs image (loaded image) steps) ≡ exampleAnswers
+answered = computed .exampleAnswers
 
 pub placed : placesOf (stateAfter image (loaded image) steps .tasks) ≡ places
 placed = computed .places

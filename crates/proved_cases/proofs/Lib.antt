@@ -1,4 +1,4 @@
-pub mod Right
-pub mod Told
+pub mod AllRight
+pub mod Named
 pub mod Example
 pub mod Limits

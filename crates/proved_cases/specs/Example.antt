@@ -3,7 +3,7 @@
 use Prim.Native.Nat.{ℕ}
 use mathlib.Core.List.{List, [], _∷_, map}
 use lib.ListN.{replicate}
-use Rattle.walk_point.specs.Fault.{point}
+use Rattle.walk_point.specs.PointFault.{point}
 use Rattle.state.specs.State.{runs}
 use Rattle.machine.specs.Given.{Inputs}
 use Rattle.machine.specs.declared.Cause.the-variants.{ZeroDivisor}
@@ -42,8 +42,8 @@ abbrev pub steps : List Inputs
 steps = map stepOf order
 
 -- what is answered: mathematics halts by 19, its next step is refused by 18, that of task 3 by 15
-abbrev pub answers : List Answer
-answers =
+abbrev pub exampleAnswers : List Answer
+exampleAnswers =
     Done ∷ Done ∷ Done ∷ Done ∷ Done ∷ Done ∷ Done ∷ Done ∷ Halted ZeroDivisor (point 2 12 0) ∷ Done ∷ Done ∷ Done ∷ Done ∷ NotRunning ∷ NoTask 3 ∷ Done ∷ Done ∷ Done ∷ []
 
 -- what is left of a task

@@ -15,9 +15,9 @@ plain code = block code 0 0 0
 abbrev pub toward : ℕ → ℕ → List ℕ
 toward code b = block code b 0 0
 
-abbrev pub bytesOf : List (List ℕ) → List ℕ
-bytesOf [] = []
-bytesOf (b ∷ bs) = b ++ bytesOf bs
+abbrev pub blockBytes : List (List ℕ) → List ℕ
+blockBytes [] = []
+blockBytes (b ∷ bs) = b ++ blockBytes bs
 
 -- four numbers: format 1, a type, the boards in slots B and C
 abbrev pub headerWith : ℕ → ℕ → ℕ → List ℕ → List ℕ
@@ -33,7 +33,7 @@ header = headerFor 0x02
 
 -- an image for a type of drive with these boards that begins at block 0
 abbrev pub imageWith : ℕ → ℕ → ℕ → List (List ℕ) → List ℕ
-imageWith model b c blocks = headerWith model b c (0 ∷ length blocks ∷ bytesOf blocks)
+imageWith model b c blocks = headerWith model b c (0 ∷ length blocks ∷ blockBytes blocks)
 
 -- the same with both slots empty
 abbrev pub imageFor : ℕ → List (List ℕ) → List ℕ
@@ -41,7 +41,7 @@ imageFor model = imageWith model 0 0
 
 -- an image that begins at a block
 abbrev pub imageAt : ℕ → List (List ℕ) → List ℕ
-imageAt start blocks = header (start ∷ length blocks ∷ bytesOf blocks)
+imageAt start blocks = header (start ∷ length blocks ∷ blockBytes blocks)
 
 -- an image that begins at block 0
 abbrev pub image : List (List ℕ) → List ℕ

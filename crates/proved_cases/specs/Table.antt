@@ -7,8 +7,8 @@ use lib.IntN.{ℤ, pos, negsuc}
 use Rattle.image_number.specs.Number.{numberAt}
 use Rattle.image_number.specs.declared.Number.{Number}
 use Rattle.image_number.specs.declared.Number.the-variants.{Value, EndsEarly, NotShortest}
-use Rattle.image_result.specs.Outcome.{numberOf}
-use Rattle.image_result.specs.declared.Outcome.the-variants as outcome
+use Rattle.image_result.specs.ImageResult.{resultNumber}
+use Rattle.image_result.specs.declared.ImageResult.the-variants as outcome
 use Rattle.command_operands.specs.Operands.{command}
 use Rattle.command_operands.specs.declared.Command.{Command}
 use Rattle.walk.specs.Verdict.{verdictOf, verdictNumber, verdictPlace, verdictTask, verdictDepth}
@@ -19,7 +19,7 @@ use Rattle.state.specs.declared.State.{State}
 use Rattle.machine.specs.Given.{Given, Inputs}
 use Rattle.machine.specs.Effect.{effectOf, variable}
 use Rattle.machine.specs.Engine.{step}
-use Rattle.machine.specs.declared.Out.{Out}
+use Rattle.machine.specs.declared.StepOut.{StepOut}
 use Rattle.machine.specs.declared.Answer as machine
 use Rattle.machine.specs.Numbers.{answerNumber, answerPlace, answerTask, answerDepth}
 use Rattle.machine.specs.Run.{outs, stateAfter}
@@ -83,29 +83,29 @@ pub record Stand : Type 0 where
 abbrev pub stand : ℕ → ℕ → ℕ → Stand
 stand block time turns = record { block = block; time = time; turns = turns }
 
-pub data Answer : Type 0 where
+pub data Reply : Type 0 where
   -- document 01's number, then byte or block, task and depth; all 0 for an image that is accepted and a step that is carried out
-  refusal : ℕ → ℕ → ℕ → ℕ → Answer
-  value : ℕ → Answer
+  refusal : ℕ → ℕ → ℕ → ℕ → Reply
+  value : ℕ → Reply
   -- document 01's number
-  noNumber : ℕ → Answer
-  standing : Stand → Stand → Answer
-  whole : ℤ → Answer
-  motions : List Request → Answer
+  noNumber : ℕ → Reply
+  standing : Stand → Stand → Reply
+  whole : ℤ → Reply
+  motions : List Request → Reply
 
-abbrev pub accepted : Answer
+abbrev pub accepted : Reply
 accepted = refusal 0 0 0 0
 
-abbrev pub answerOf : Verdict → Answer
+abbrev pub answerOf : Verdict → Reply
 answerOf v = refusal (verdictNumber v) (verdictPlace v) (verdictTask v) (verdictDepth v)
 
-abbrev pub stepAnswerOf : machine.Answer → Answer
+abbrev pub stepAnswerOf : machine.Answer → Reply
 stepAnswerOf a = refusal (answerNumber a) (answerPlace a) (answerTask a) (answerDepth a)
 
-abbrev pub valueOf : Number → Answer
-valueOf (Value v next) = value v
-valueOf EndsEarly = noNumber (numberOf (outcome.EndsEarly 0))
-valueOf NotShortest = noNumber (numberOf (outcome.NotShortest 0))
+abbrev pub numberReply : Number → Reply
+numberReply (Value v next) = value v
+numberReply EndsEarly = noNumber (resultNumber (outcome.EndsEarly 0))
+numberReply NotShortest = noNumber (resultNumber (outcome.NotShortest 0))
 
 -- what a command of BIAS is given where all inputs are low and no wait is pending
 abbrev pub low : Given
@@ -122,17 +122,17 @@ abbrev pub standAt : Task → Stand
 standAt k = stand (k .block) (k .time) (k .turns)
 
 -- before and after one more step
-unfoldable pub standings : List ℕ → State → Answer
+unfoldable pub standings : List ℕ → State → Reply
 standings bytes s = standing (standAt (taskAt s 0)) (standAt (taskAt (step bytes s (biasStep 0) .state) 0))
 
-abbrev pub motionsOf : List Out → List Request
-motionsOf = map (λ (o : Out). o .request)
+abbrev pub motionsOf : List StepOut → List Request
+motionsOf = map (λ (o : StepOut). o .request)
 
-abbrev pub ask : Question → Answer
+abbrev pub ask : Question → Reply
 ask (verdict bytes) = answerOf (verdictOf bytes 27000)
 ask (lent n) = answerOf (verdictOf caseA n)
 ask (instead loadedImage lentImage) = stepAnswerOf (step lentImage (loaded loadedImage) (biasStep 0) .answer)
-ask (number bytes) = valueOf (numberAt bytes 0)
+ask (number bytes) = numberReply (numberAt bytes 0)
 ask (passes bytes k) = standings bytes (stateAfter bytes (loaded bytes) (replicate k (biasStep 0)))
 ask (divided a b) = whole (resultOf (command 0x85 0 1 0 0 b) a b)
 ask (dividedBy a b) = whole (resultOf (command 0x8D 0 1 2 0 (pos 0)) a b)
@@ -140,13 +140,13 @@ ask (requested bytes starts) = motions (motionsOf (outs bytes (loaded bytes) (ma
 
 -- ---- the table
 
-pub record Row : Type 0 where
+pub record Entry : Type 0 where
   pub name : Name
   pub question : Question
-  pub answer : Answer
+  pub answer : Reply
 
-abbrev pub row : Name → Question → Answer → Row
-row n q a = record { name = n; question = q; answer = a }
+abbrev pub entry : Name → Question → Reply → Entry
+entry n q a = record { name = n; question = q; answer = a }
 
 -- a move to the stored position, for ever; and one with the start mark set before it
 abbrev pub mover : List ℕ
@@ -166,63 +166,63 @@ outputSet pin = block 0x72 pin 1 0
 abbrev pub inputRead : ℕ → List ℕ
 inputRead pin = block 0x63 0 pin 0
 
-abbrev pub bitJump : List ℕ
-bitJump = plain 0x6E
+abbrev pub bitJumpBlock : List ℕ
+bitJumpBlock = plain 0x6E
 
-abbrev pub driveRow : ℕ → ℕ → ℕ → List (List ℕ) → Answer → Row
-driveRow model b c blocks = row (onDrive model b c blocks) (verdict (imageWith model b c blocks))
+abbrev pub driveRow : ℕ → ℕ → ℕ → List (List ℕ) → Reply → Entry
+driveRow model b c blocks = entry (onDrive model b c blocks) (verdict (imageWith model b c blocks))
 
-abbrev pub insteadRow : ℕ → Answer → Row
-insteadRow pin = row (outputInstead pin) (instead (image (outputSet 12 ∷ blockA ∷ [])) (image (outputSet pin ∷ blockA ∷ [])))
+abbrev pub insteadRow : ℕ → Reply → Entry
+insteadRow pin = entry (outputInstead pin) (instead (image (outputSet 12 ∷ blockA ∷ [])) (image (outputSet pin ∷ blockA ∷ [])))
 
-unfoldable pub table : List Row
+unfoldable pub table : List Entry
 table =
     -- A: 55 and seven 00: accepted
-    row A (verdict caseA) accepted ∷
+    entry A (verdict caseA) accepted ∷
     -- B: 50 and seven 00: 12 at block 0
-    row B (verdict (image (plain 0x50 ∷ []))) (refusal 12 0 0 0) ∷
+    entry B (verdict (image (plain 0x50 ∷ []))) (refusal 12 0 0 0) ∷
     -- C: A with start 1: 3 at byte 4
-    row C (verdict (imageAt 1 (blockA ∷ []))) (refusal 3 4 0 0) ∷
+    entry C (verdict (imageAt 1 (blockA ∷ []))) (refusal 3 4 0 0) ∷
     -- D: 52, 53, operands 00: 10 at block 0, at the greatest depth, which is 5 (change request 6)
-    row D (verdict (image (plain 0x52 ∷ plain 0x53 ∷ []))) (refusal 10 0 0 5) ∷
+    entry D (verdict (image (plain 0x52 ∷ plain 0x53 ∷ []))) (refusal 10 0 0 5) ∷
     -- E: 50, 53, 52, 55, operands 00, start 2: 11 at block 1, depth 0
-    row E (verdict (imageAt 2 (plain 0x50 ∷ plain 0x53 ∷ plain 0x52 ∷ plain 0x55 ∷ []))) (refusal 11 1 0 0) ∷
+    entry E (verdict (imageAt 2 (plain 0x50 ∷ plain 0x53 ∷ plain 0x52 ∷ plain 0x55 ∷ []))) (refusal 11 1 0 0) ∷
     -- F: 20 10 27 00 00 00 00 00, then 54, 55 with operands 00: 9 at task 1, block 0
-    row F (verdict (image (block 0x20 0x10 0x27 0 ∷ plain 0x54 ∷ plain 0x55 ∷ []))) (refusal 9 0 1 0) ∷
+    entry F (verdict (image (block 0x20 0x10 0x27 0 ∷ plain 0x54 ∷ plain 0x55 ∷ []))) (refusal 9 0 1 0) ∷
     -- G: 1F 01 00 FA 00 00 00 00, then A's block: accepted
-    row G (verdict (image (block 0x1F 1 0 0xFA ∷ blockA ∷ []))) accepted ∷
+    entry G (verdict (image (block 0x1F 1 0 0xFA ∷ blockA ∷ []))) accepted ∷
     -- H: 1F 01 01 FA instead: 7 at block 0
-    row H (verdict (image (block 0x1F 1 1 0xFA ∷ blockA ∷ []))) (refusal 7 0 0 0) ∷
+    entry H (verdict (image (block 0x1F 1 1 0xFA ∷ blockA ∷ []))) (refusal 7 0 0 0) ∷
     -- I: 72 08 01 then 00s: 6
-    row I (verdict (image (block 0x72 0x08 1 0 ∷ []))) (refusal 6 0 0 0) ∷
+    entry I (verdict (image (block 0x72 0x08 1 0 ∷ []))) (refusal 6 0 0 0) ∷
     -- I: 72 0C 01 and A's block: accepted
-    row I (verdict (image (block 0x72 0x0C 1 0 ∷ blockA ∷ []))) accepted ∷
+    entry I (verdict (image (block 0x72 0x0C 1 0 ∷ blockA ∷ []))) accepted ∷
     -- J: a wait of 1000 ms (59 F4 01) passes at k = 527 on type 2, where it was pending with k = 526
-    row J (passes (waiter 2) 527) (standing (stand 0 1000 526) (stand 1 0 0)) ∷
+    entry J (passes (waiter 2) 527) (standing (stand 0 1000 526) (stand 1 0 0)) ∷
     -- J: at 1185 on type 4
-    row J (passes (waiter 4) 1185) (standing (stand 0 1000 1184) (stand 1 0 0)) ∷
+    entry J (passes (waiter 4) 1185) (standing (stand 0 1000 1184) (stand 1 0 0)) ∷
     -- K: DC 0B is 1500
-    row K (number (0xDC ∷ 0x0B ∷ [])) (value 1500) ∷
+    entry K (number (0xDC ∷ 0x0B ∷ [])) (value 1500) ∷
     -- K: 80 00 gives 2, and 80 alone ends early, 1
-    row K (number (0x80 ∷ 0x00 ∷ [])) (noNumber 2) ∷
-    row K (number (0x80 ∷ [])) (noNumber 1) ∷
+    entry K (number (0x80 ∷ 0x00 ∷ [])) (noNumber 2) ∷
+    entry K (number (0x80 ∷ [])) (noNumber 1) ∷
     -- K: as the start of A, at byte 4
-    row K (verdict (header (0x80 ∷ 0x00 ∷ 1 ∷ blockA))) (refusal 2 4 0 0) ∷
+    entry K (verdict (header (0x80 ∷ 0x00 ∷ 1 ∷ blockA))) (refusal 2 4 0 0) ∷
     -- L: -7 by 2 is -3
-    row L (divided (negsuc 6) (pos 2)) (whole (negsuc 2)) ∷
-    row L (dividedBy (negsuc 6) (pos 2)) (whole (negsuc 2)) ∷
+    entry L (divided (negsuc 6) (pos 2)) (whole (negsuc 2)) ∷
+    entry L (dividedBy (negsuc 6) (pos 2)) (whole (negsuc 2)) ∷
     -- change request 6, a chain of 5 nested calls: accepted
-    row (chainOf 5) (verdict (chain 5)) accepted ∷
+    entry (chainOf 5) (verdict (chain 5)) accepted ∷
     -- of 6: 10, at the sixth call: block 10, depth 5
-    row (chainOf 6) (verdict (chain 6)) (refusal 10 10 0 5) ∷
+    entry (chainOf 6) (verdict (chain 6)) (refusal 10 10 0 5) ∷
     -- change request 6, one byte of marks under 27,000: 13, which tells their length
-    row (marksOf 26999) (lent 26999) (refusal 13 26999 0 0) ∷
+    entry (marksOf 26999) (lent 26999) (refusal 13 26999 0 0) ∷
     -- 27,000 are enough
-    row (marksOf 27000) (lent 27000) accepted ∷
+    entry (marksOf 27000) (lent 27000) accepted ∷
     -- change request 2, 54 01, 20, 50: the PLC's 9 at block 1 comes before the 12 of BIAS at block 2
-    row blockBeforeTask (verdict (image (toward 0x54 1 ∷ plain 0x20 ∷ plain 0x50 ∷ []))) (refusal 9 1 1 0) ∷
+    entry blockBeforeTask (verdict (image (toward 0x54 1 ∷ plain 0x20 ∷ plain 0x50 ∷ []))) (refusal 9 1 1 0) ∷
     -- change request 2, 54 03, 52 03, 55 02, 50: at block 3 the 12 of BIAS at depth 1 comes before the PLC's at depth 0
-    row taskBeforeDepth (verdict (image (toward 0x54 3 ∷ toward 0x52 3 ∷ toward 0x55 2 ∷ plain 0x50 ∷ []))) (refusal 12 3 0 1) ∷
+    entry taskBeforeDepth (verdict (image (toward 0x54 3 ∷ toward 0x52 3 ∷ toward 0x55 2 ∷ plain 0x50 ∷ []))) (refusal 12 3 0 1) ∷
     -- change request 3, 72 D9 01 on type 2: 23, pin 217 is on RP-EAE, which goes into slot C
     driveRow 2 0 0 (outputSet 0xD9 ∷ []) (refusal 23 0 0 0) ∷
     -- with slot C 1, and A's block behind it: accepted
@@ -241,14 +241,14 @@ table =
     -- 72 D9 02: 23 comes before the 7 of a level above 1
     driveRow 2 0 0 (block 0x72 0xD9 2 0 ∷ []) (refusal 23 0 0 0) ∷
     -- 6E on type 3: 6, which no board mends
-    driveRow 3 0 0 (bitJump ∷ []) (refusal 6 0 0 0) ∷
+    driveRow 3 0 0 (bitJumpBlock ∷ []) (refusal 6 0 0 0) ∷
     -- change request 3, a step at a block that 23 refuses, then one that 6 does: 17 for either
     insteadRow 217 (refusal 17 0 0 0) ∷
     insteadRow 8 (refusal 17 0 0 0) ∷
     -- at a block that neither refuses it is carried out
     insteadRow 13 accepted ∷
     -- faults: a start input that is high at load is no slope; one that is low and then high is
-    row heldStart (requested mover (1 ∷ 1 ∷ 0 ∷ 1 ∷ [])) (motions (None ∷ None ∷ None ∷ MoveTo startAxis ∷ [])) ∷
+    entry heldStart (requested mover (1 ∷ 1 ∷ 0 ∷ 1 ∷ [])) (motions (None ∷ None ∷ None ∷ MoveTo startAxis ∷ [])) ∷
     -- the start mark of 0E starts a move without a slope, which clears it
-    row startMark (requested marked (1 ∷ 1 ∷ 1 ∷ 1 ∷ [])) (motions (None ∷ MoveTo startAxis ∷ None ∷ None ∷ [])) ∷
+    entry startMark (requested marked (1 ∷ 1 ∷ 1 ∷ 1 ∷ [])) (motions (None ∷ MoveTo startAxis ∷ None ∷ None ∷ [])) ∷
     []

@@ -13,28 +13,28 @@ use Rattle.image_number.proofs.Choice.{clash}
 use Rattle.image_header.specs.Scan.{blocksOf}
 use Rattle.walk_point.specs.declared.Point.{Point}
 use Rattle.walk_flow.specs.Terms.{termsOf}
-use Rattle.walk.specs.Program.{faultAt}
-use Rattle.walk.specs.Says.{BadAt, NoForeign, Says, Judges}
+use Rattle.walk.specs.Blocks.{faultAt}
+use Rattle.walk.specs.IsVerdict.{BadAt, NoForeign, IsWalksVerdict, IsVerdict}
 use Rattle.walk.specs.Verdict.{verdictNumber}
 use Rattle.walk.specs.declared.Verdict.{Verdict}
 use Rattle.walk.specs.declared.Verdict.the-variants as verdict
-use Rattle.walk.proofs.Order.{block-first, then-task, then-depth}
+use Rattle.walk.proofs.Points.Order.{block-first, then-task, then-depth}
 use Rattle.state.specs.State.{runs, taskAt}
 use Rattle.state_layout.specs.Layout.{decoded, encoded}
-use Rattle.state_layout.specs.Test.{isState}
+use Rattle.state_layout.specs.IsState.{isState}
 use Rattle.machine.specs.Given.{Inputs}
 use Rattle.machine.specs.Engine.{step, blockFits}
 use Rattle.machine.specs.Numbers.{causeNumber, answerNumber}
-use Rattle.machine.specs.Reference.{begun, idle}
+use Rattle.machine.specs.Reference.{referenceLoaded, idle}
 use Rattle.machine.specs.Run.{machineAfter}
 use Rattle.machine.specs.Theorem.{loaded}
-use Rattle.machine.specs.Each.{Calls, noCalls, callsAfter, Step}
+use Rattle.machine.specs.StepRule.{Calls, noCalls, callsAfter, StepRule}
 use Rattle.machine.specs.declared.Cause.{Cause}
 use Rattle.machine.specs.declared.Cause.the-variants.{ZeroDivisor, BadContent}
 use Rattle.machine.specs.declared.Answer.{Answer}
 use Rattle.machine.specs.declared.Answer.the-variants.{Done, NoTask, Inputs as BadInputs, NotRunning, Differs, Halted}
-use Rattle.machine.proofs.Apart.{threadFor, both-run, alike-is, permitted-fits}
-use Rattle.bias_results.specs.Border.{verdictFor}
+use Rattle.machine.proofs.Runs.Apart.{threadFor, both-run, alike-is, permitted-fits}
+use Rattle.bias_results.specs.Results.{verdictFor}
 use Rattle.bias_results.specs.declared.BiasAnswer.{BiasAnswer}
 use Rattle.bias_results.specs.declared.BiasVerdict.{BiasVerdict}
 use Rattle.bias.specs.Load.{load}
@@ -80,8 +80,8 @@ module _ {image b : List ℕ} {calls : Calls} {x : Inputs} (e : StepOn image cal
   pub left : 15 ≤ stepped image b x .answer .number → stepped image b x .answer .number ≤ 18 → stepped image b x .buffer ≡ b
   left l h = let n = number-is in e .stays (is-refused (step image (decoded b) x .answer) (omega arith) (omega arith))
 
-  -- parts 4 to 6 are of the buffer before the step, and of the one after it (machine/proofs/Apart.antt takes them apart)
-  pub parts-of : (isState b ≡ true) × (Step image calls (decoded b) x × (decoded (stepped image b x .buffer) ≡ step image (decoded b) x .state))
+  -- parts 4 to 6 are of the buffer before the step, and of the one after it (machine/proofs/Runs/Apart.antt takes them apart)
+  pub parts-of : (isState b ≡ true) × (StepRule image calls (decoded b) x × (decoded (stepped image b x .buffer) ≡ step image (decoded b) x .state))
   parts-of = (e .held, (e .parts, e .state))
 
 pub first-step-on : {image b : List ℕ} {calls : Calls} {x : Inputs} {xs : List Inputs} → EveryStepOn image calls b (x ∷ xs)
@@ -145,16 +145,16 @@ module _ (d : Demand) (image : List ℕ) (n : ℕ) (b : List ℕ) where
     run = d .runs image n b bytes z xs
 
     -- 1
-    pub answers-are : answers image (load image n b .buffer) xs ≡ referenceAnswers image (begun image) xs
+    pub answers-are : answers image (load image n b .buffer) xs ≡ referenceAnswers image (referenceLoaded image) xs
     answers-are = run .same
 
     -- 2
-    pub states-are : (decoded (bufferAfter image (load image n b .buffer) xs) .values ≡ machineAfter image (begun image) xs .values)
+    pub states-are : (decoded (bufferAfter image (load image n b .buffer) xs) .values ≡ machineAfter image (referenceLoaded image) xs .values)
         × ((t : ℕ) → t < taskCount → taskAt (decoded (bufferAfter image (load image n b .buffer) xs)) t .status ≡ runs
-        → getD (machineAfter image (begun image) xs .threads) t idle ≡ threadFor (taskAt (decoded (bufferAfter image (load image n b .buffer) xs)) t))
+        → getD (machineAfter image (referenceLoaded image) xs .threads) t idle ≡ threadFor (taskAt (decoded (bufferAfter image (load image n b .buffer) xs)) t))
     states-are = alike-is _ _ (run .alike)
 
-    pub both-running : (t : ℕ) → t < taskCount → getD (machineAfter image (begun image) xs .threads) t idle .runs ≡ true
+    pub both-running : (t : ℕ) → t < taskCount → getD (machineAfter image (referenceLoaded image) xs .threads) t idle .runs ≡ true
         → taskAt (decoded (bufferAfter image (load image n b .buffer) xs)) t .status ≡ runs
     both-running t l r = both-run _ _ (run .alike .tasks t l) r
 
@@ -187,13 +187,13 @@ module _ (d : Demand) (image : List ℕ) (n : ℕ) (b : List ℕ) where
   -- ---- the place that a refusal by 9 to 12 names
 
   module _ (w : WellFormed image n b) (own : NoForeign (termsOf image) (blocksOf image)) where
-    judged-topmost : {v : Verdict} → Judges image n v → (verdictNumber v ≡ 0 → ⊥) → Topmost image (verdictFor v)
-    judged-topmost (Judges.marks short) r = absurd (let m = w .marks in omega arith)
-    judged-topmost (Judges.header room f) r = clash (sym (w .header) ∙ f)
-    judged-topmost (Judges.block room f c l all bad) r = absurd (bad (w .blocks c l))
-    judged-topmost (Judges.walks room f all v (Says.accepted g h)) r = absurd (r refl)
-    judged-topmost (Judges.walks room f all v (Says.foreign p g h)) r = absurd (own p g)
-    judged-topmost (Judges.walks room f all v (Says.bad g p q least)) r =
+    judged-topmost : {v : Verdict} → IsVerdict image n v → (verdictNumber v ≡ 0 → ⊥) → Topmost image (verdictFor v)
+    judged-topmost (IsVerdict.marks short) r = absurd (let m = w .marks in omega arith)
+    judged-topmost (IsVerdict.header room f) r = clash (sym (w .header) ∙ f)
+    judged-topmost (IsVerdict.block room f c l all bad) r = absurd (bad (w .blocks c l))
+    judged-topmost (IsVerdict.walks room f all v (IsWalksVerdict.accepted g h)) r = absurd (r refl)
+    judged-topmost (IsVerdict.walks room f all v (IsWalksVerdict.foreign p g h)) r = absurd (own p g)
+    judged-topmost (IsVerdict.walks room f all v (IsWalksVerdict.bad g p q least)) r =
         record {
           place = p;
           bad = q;

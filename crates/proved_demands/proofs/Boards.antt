@@ -12,12 +12,12 @@ use borrow.Author.Tests.{ne-eqb}
 use Rattle.limits.specs.Limits.{stateLength}
 use Rattle.num_le.specs.LittleEndian.{Bytes}
 use Rattle.drive.specs.Types.{type631}
-use Rattle.image_result.specs.Outcome.{numberOf}
-use Rattle.image_result.specs.declared.Outcome.{Outcome}
-use Rattle.image_result.specs.declared.Outcome.the-variants.{Done, EndsEarly, NotShortest, OutOfRange, LeftOver, NoRoom}
+use Rattle.image_result.specs.ImageResult.{resultNumber}
+use Rattle.image_result.specs.declared.ImageResult.{ImageResult}
+use Rattle.image_result.specs.declared.ImageResult.the-variants.{Done, EndsEarly, NotShortest, OutOfRange, LeftOver, NoRoom}
 use Rattle.image_header.specs.Scan.{headerOf, blocksOf}
 use Rattle.image_header.specs.declared.Header.{Header}
-use Rattle.command_judge.specs.Judged.{blockFaultNumber}
+use Rattle.command_judge.specs.BlockFault.{blockFaultNumber}
 use Rattle.command_judge.specs.Boards.{Buyable, OtherDrive}
 use Rattle.command_judge.specs.declared.BlockFault.{BlockFault}
 use Rattle.command_judge.specs.declared.BlockFault.the-variants as block
@@ -27,8 +27,8 @@ use Rattle.walk_fault.specs.Fault.{faultNumber}
 use Rattle.walk_fault.specs.declared.Fault.{Fault}
 use Rattle.walk_fault.specs.declared.Fault.the-variants as fault
 use Rattle.walk_flow.specs.Terms.{termsOf}
-use Rattle.walk.specs.Program.{blockAt, blockFaultAt, blockNumber, faultAt}
-use Rattle.walk.specs.Says.{Says, Judges}
+use Rattle.walk.specs.Blocks.{blockAt, blockFaultAt, blockNumber, faultAt}
+use Rattle.walk.specs.IsVerdict.{IsWalksVerdict, IsVerdict}
 use Rattle.walk.specs.Verdict.{verdictNumber}
 use Rattle.walk.specs.declared.Verdict.{Verdict}
 use Rattle.walk.specs.declared.Verdict.the-variants as verdict
@@ -41,7 +41,7 @@ use Rattle.machine.specs.declared.Cause.{Cause}
 use Rattle.machine.specs.declared.Cause.the-variants.{ZeroDivisor, BadContent}
 use Rattle.machine.specs.declared.Request.the-variants.{None}
 use Rattle.machine.specs.declared.Answer.the-variants.{Differs}
-use Rattle.bias_results.specs.Border.{verdictFor, answerFor}
+use Rattle.bias_results.specs.Results.{verdictFor, answerFor}
 use Rattle.bias_results.specs.declared.BiasAnswer.{BiasAnswer}
 use Rattle.bias_results.specs.declared.BiasVerdict.{BiasVerdict}
 use Rattle.bias.specs.Load.{load}
@@ -49,7 +49,7 @@ use Rattle.bias.specs.Step.{stepped}
 use Rattle.proved_demands.specs.Boards.{FirstFault}
 use Rattle.proved_demands.specs.Every.{Running, Way}
 use Rattle.proved_demands.specs.Theorem.{Loads}
-use Rattle.proved_demands.proofs.Every.{every-step}
+use Rattle.proved_demands.proofs.EveryStep.{every-step}
 use Rattle.proved_demands.proofs.Loads.{loads, loads-only}
 
 -- ---- 6 and 23 come from blocks alone
@@ -57,7 +57,7 @@ use Rattle.proved_demands.proofs.Loads.{loads, loads-only}
 abbrev ofDrive : ℕ → Bool
 ofDrive m = eqb m 6 || eqb m 23
 
-not-header : (o : Outcome) → T (ofDrive (numberOf o)) → ⊥
+not-header : (o : ImageResult) → T (ofDrive (resultNumber o)) → ⊥
 not-header Done t = t
 not-header (EndsEarly p) t = t
 not-header (NotShortest p) t = t
@@ -97,21 +97,21 @@ module _ (image : List ℕ) (n : ℕ) (b : List ℕ) where
       (ap (λ (g : BlockFault). verdictFor (verdict.Block g k)) (sym (i .fault))
       ∙ loads-only image n b _
       (Loads.judged (i .marks) (i .buffer) _
-      (Judges.block (i .marks) (i .header) k (i .block) (i .before) (λ z. refused f t (ap blockFaultNumber (sym (i .fault)) ∙ z)))))
+      (IsVerdict.block (i .marks) (i .header) k (i .block) (i .before) (λ z. refused f t (ap blockFaultNumber (sym (i .fault)) ∙ z)))))
 
   -- what such a number says of the block beside it
   First : BiasVerdict → Type 0
   First v = FirstFault image n b (v .place) (blockFaultAt (termsOf image) bs (v .place)) × (blockNumber (termsOf image) bs (v .place) ≡ v .number)
 
-  of-verdict : length b ≡ stateLength → {v : Verdict} → Judges image n v → T (ofDrive (verdictNumber v)) → First (verdictFor v)
+  of-verdict : length b ≡ stateLength → {v : Verdict} → IsVerdict image n v → T (ofDrive (verdictNumber v)) → First (verdictFor v)
   unfolding First
-  of-verdict right (Judges.marks short) t = absurd t
-  of-verdict right (Judges.header room d) t = absurd (not-header (headerOf image .outcome) t)
-  of-verdict right (Judges.block room d k l all bad) t =
+  of-verdict right (IsVerdict.marks short) t = absurd t
+  of-verdict right (IsVerdict.header room d) t = absurd (not-header (headerOf image .result) t)
+  of-verdict right (IsVerdict.block room d k l all bad) t =
       (record { marks = room; buffer = right; header = d; block = l; before = all; fault = refl }, refl)
-  of-verdict right (Judges.walks room d all v (Says.accepted f g)) t = absurd t
-  of-verdict right (Judges.walks room d all v (Says.foreign p f g)) t = absurd t
-  of-verdict right (Judges.walks room d all v (Says.bad f p q g)) t = absurd (not-walk (faultAt (termsOf image) bs p) t)
+  of-verdict right (IsVerdict.walks room d all v (IsWalksVerdict.accepted f g)) t = absurd t
+  of-verdict right (IsVerdict.walks room d all v (IsWalksVerdict.foreign p f g)) t = absurd t
+  of-verdict right (IsVerdict.walks room d all v (IsWalksVerdict.bad f p q g)) t = absurd (not-walk (faultAt (termsOf image) bs p) t)
 
   of-load : {v : BiasVerdict} → Loads image n b v → T (ofDrive (v .number)) → First v
   of-load (Loads.marks short) t = absurd t

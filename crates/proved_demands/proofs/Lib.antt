@@ -1,4 +1,4 @@
-pub mod Every
+pub mod EveryStep
 pub mod Loads
 pub mod Runs
 pub mod Demand

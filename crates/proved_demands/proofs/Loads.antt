@@ -10,9 +10,9 @@ use lib.Dec.{eqb}
 use lib.ListN.{length}
 use borrow.Author.Tests.{eqb-true, eqb-false}
 use Rattle.limits.specs.Limits.{marksLength, stateLength}
-use Rattle.image_result.specs.Outcome.{numberOf, done}
-use Rattle.image_result.specs.declared.Outcome.{Outcome}
-use Rattle.image_result.specs.declared.Outcome.the-variants.{Done, EndsEarly, NotShortest, OutOfRange, LeftOver, NoRoom}
+use Rattle.image_result.specs.ImageResult.{resultNumber, done}
+use Rattle.image_result.specs.declared.ImageResult.{ImageResult}
+use Rattle.image_result.specs.declared.ImageResult.the-variants.{Done, EndsEarly, NotShortest, OutOfRange, LeftOver, NoRoom}
 use Rattle.image_header.specs.Scan.{headerOf, blocksOf}
 use Rattle.image_header.specs.Longest.{longestImage}
 use Rattle.image_header.proofs.Longest.{longest-image}
@@ -21,19 +21,19 @@ use Rattle.walk_fault.specs.Fault.{isBad, faultNumber}
 use Rattle.walk_fault.specs.declared.Fault.{Fault}
 use Rattle.walk_fault.specs.declared.Fault.the-variants as fault
 use Rattle.walk_flow.specs.Terms.{termsOf}
-use Rattle.walk.specs.Program.{faultAt}
-use Rattle.walk.specs.Says.{NoForeign, Says, Judges}
+use Rattle.walk.specs.Blocks.{faultAt}
+use Rattle.walk.specs.IsVerdict.{NoForeign, IsWalksVerdict, IsVerdict}
 use Rattle.walk.specs.Verdict.{verdictNumber, verdictOf, isAccepted}
 use Rattle.walk.specs.declared.Verdict.{Verdict}
 use Rattle.walk.specs.declared.Verdict.the-variants as verdict
-use Rattle.walk.proofs.Judged.{verdict-judges, exactly}
+use Rattle.walk.proofs.Verdicts.OfImage.{verdict-judges, exactly}
 use Rattle.state_layout.specs.Layout.{encoded}
 use Rattle.machine.specs.Theorem.{loaded}
-use Rattle.bias_results.specs.Border.{verdictFor}
+use Rattle.bias_results.specs.Results.{verdictFor}
 use Rattle.bias_results.specs.declared.BiasVerdict.{BiasVerdict}
 use Rattle.bias.specs.Load.{Load, load}
 use Rattle.proved_demands.specs.Theorem.{Loads, LoadOf, WellFormed, SomeBad, SomeForeign, RefusedExactly}
-use Rattle.bias.proofs.Ways.{marks-short, no-buffer, of-image, verdict-is, stays, begins}
+use Rattle.bias.proofs.ByTest.{marks-short, no-buffer, of-image, verdict-is, stays, begins}
 
 module _ (image : List ℕ) (n : ℕ) (b : List ℕ) where
   -- by cases: 13, 16, or the image
@@ -65,7 +65,7 @@ module _ (image : List ℕ) (n : ℕ) (b : List ℕ) where
 
   -- ---- a load that answers 0
 
-  not-zero : (o : Outcome) → done o ≡ false → numberOf o ≡ 0 → ⊥
+  not-zero : (o : ImageResult) → done o ≡ false → resultNumber o ≡ 0 → ⊥
   not-zero Done d e = clash d
   not-zero (EndsEarly p) d e = omega arith
   not-zero (NotShortest p) d e = omega arith
@@ -89,13 +89,13 @@ module _ (image : List ℕ) (n : ℕ) (b : List ℕ) where
   not-accepted (verdict.Foreign k) d = refl
   not-accepted (verdict.Bad f p) d = refl
 
-  accepted-says : {v : Verdict} → Judges image n v → verdictNumber v ≡ 0 → v ≡ verdict.Accepted
-  accepted-says (Judges.marks short) e = absurd (omega arith)
-  accepted-says (Judges.header room d) e = absurd (not-zero (headerOf image .outcome) d e)
-  accepted-says (Judges.block room d c l all bad) e = absurd (bad e)
-  accepted-says (Judges.walks room d all v (Says.accepted f g)) e = refl
-  accepted-says (Judges.walks room d all v (Says.foreign p f g)) e = absurd (omega arith)
-  accepted-says (Judges.walks room d all v (Says.bad f p q g)) e = absurd (bad-number (faultAt (termsOf image) (blocksOf image) p) (q .1) e)
+  accepted-says : {v : Verdict} → IsVerdict image n v → verdictNumber v ≡ 0 → v ≡ verdict.Accepted
+  accepted-says (IsVerdict.marks short) e = absurd (omega arith)
+  accepted-says (IsVerdict.header room d) e = absurd (not-zero (headerOf image .result) d e)
+  accepted-says (IsVerdict.block room d c l all bad) e = absurd (bad e)
+  accepted-says (IsVerdict.walks room d all v (IsWalksVerdict.accepted f g)) e = refl
+  accepted-says (IsVerdict.walks room d all v (IsWalksVerdict.foreign p f g)) e = absurd (omega arith)
+  accepted-says (IsVerdict.walks room d all v (IsWalksVerdict.bad f p q g)) e = absurd (bad-number (faultAt (termsOf image) (blocksOf image) p) (q .1) e)
 
   -- the number of a load that comes to the image is that of its verdict
   number-is : marksLength ≤ n → length b ≡ stateLength → load image n b .verdict .number ≡ verdictNumber (verdictOf image n)
@@ -130,14 +130,14 @@ module _ (image : List ℕ) (n : ℕ) (b : List ℕ) where
   load-of = record { answer = λ v. (loads-only v, λ e. rw e loads); accepted = fresh-load; refused = kept-load }
 
   -- what a load answers 0 to is well formed, in both readings
-  fits-well : marksLength ≤ n → length b ≡ stateLength → {v : Verdict} → Judges image n v → verdictNumber v ≡ 0
+  fits-well : marksLength ≤ n → length b ≡ stateLength → {v : Verdict} → IsVerdict image n v → verdictNumber v ≡ 0
       → WellFormed image n b × NoForeign (termsOf image) (blocksOf image)
-  fits-well room right (Judges.marks short) e = absurd (omega arith)
-  fits-well room right (Judges.header m d) e = absurd (not-zero (headerOf image .outcome) d e)
-  fits-well room right (Judges.block m d c l all bad) e = absurd (bad e)
-  fits-well room right (Judges.walks m d all v (Says.accepted f g)) e = (record { marks = room; buffer = right; header = d; blocks = all }, f)
-  fits-well room right (Judges.walks m d all v (Says.foreign p f g)) e = absurd (omega arith)
-  fits-well room right (Judges.walks m d all v (Says.bad f p q g)) e = absurd (bad-number (faultAt (termsOf image) (blocksOf image) p) (q .1) e)
+  fits-well room right (IsVerdict.marks short) e = absurd (omega arith)
+  fits-well room right (IsVerdict.header m d) e = absurd (not-zero (headerOf image .result) d e)
+  fits-well room right (IsVerdict.block m d c l all bad) e = absurd (bad e)
+  fits-well room right (IsVerdict.walks m d all v (IsWalksVerdict.accepted f g)) e = (record { marks = room; buffer = right; header = d; blocks = all }, f)
+  fits-well room right (IsVerdict.walks m d all v (IsWalksVerdict.foreign p f g)) e = absurd (omega arith)
+  fits-well room right (IsVerdict.walks m d all v (IsWalksVerdict.bad f p q g)) e = absurd (bad-number (faultAt (termsOf image) (blocksOf image) p) (q .1) e)
 
   pub well-formed : load image n b .verdict .number ≡ 0 → WellFormed image n b × NoForeign (termsOf image) (blocksOf image)
   well-formed z = zero-way z (λ room right. fits-well room right (verdict-judges image n) (sym (number-is room right) ∙ z))
@@ -149,14 +149,14 @@ module _ (image : List ℕ) (n : ℕ) (b : List ℕ) where
   -- ---- refused exactly when some walk reaches a bad place or a 51 that would end another task
 
   module _ (w : WellFormed image n b) where
-    both-ways : {v : Verdict} → Judges image n v → (verdictNumber v ≡ 0 → ⊥) ↔ (SomeBad image ⊎ SomeForeign image)
-    both-ways (Judges.marks short) = absurd (let m = w .marks in omega arith)
-    both-ways (Judges.header room d) = clash (sym (w .header) ∙ d)
-    both-ways (Judges.block room d c l all bad) = absurd (bad (w .blocks c l))
-    both-ways (Judges.walks room d all v (Says.accepted f g)) =
+    both-ways : {v : Verdict} → IsVerdict image n v → (verdictNumber v ≡ 0 → ⊥) ↔ (SomeBad image ⊎ SomeForeign image)
+    both-ways (IsVerdict.marks short) = absurd (let m = w .marks in omega arith)
+    both-ways (IsVerdict.header room d) = clash (sym (w .header) ∙ d)
+    both-ways (IsVerdict.block room d c l all bad) = absurd (bad (w .blocks c l))
+    both-ways (IsVerdict.walks room d all v (IsWalksVerdict.accepted f g)) =
         (λ r. absurd (r refl), λ s. absurd (⊎-elim (λ (a : SomeBad image). g (a .place) (a .bad)) (λ (a : SomeForeign image). f (a .place) (a .foreign)) s))
-    both-ways (Judges.walks room d all v (Says.foreign p f g)) = (λ r. inr (record { place = p; foreign = f }), λ s e. omega arith)
-    both-ways (Judges.walks room d all v (Says.bad f p q g)) =
+    both-ways (IsVerdict.walks room d all v (IsWalksVerdict.foreign p f g)) = (λ r. inr (record { place = p; foreign = f }), λ s e. omega arith)
+    both-ways (IsVerdict.walks room d all v (IsWalksVerdict.bad f p q g)) =
         (λ r. inl (record { place = p; bad = q }), λ s e. bad-number (faultAt (termsOf image) (blocksOf image) p) (q .1) e)
 
     refused-by-form : (load image n b .verdict .number ≡ 0 → ⊥) ↔ (SomeBad image ⊎ SomeForeign image)

@@ -1,5 +1,5 @@
 -- The theorem over every list of steps, of the functions that C calls: along a run the buffer is the bytes of the state that the engine's run on values
--- has come to (machine/proofs/Runs.antt), since a good state is read back from its bytes and a step keeps good states.
+-- has come to (machine/proofs/Runs/EveryRun.antt), since a good state is read back from its bytes and a step keeps good states.
 use Prim.Native.Nat.{ℕ, _<_}
 use mathlib.Core.Path.{_≡_, refl, sym, ap, _∙_, subst}
 use mathlib.Core.Bool.{true, false}
@@ -12,41 +12,41 @@ use Rattle.image_number.proofs.Choice.{clash, either}
 use Rattle.image_header.specs.Scan.{headerOf, blocksOf}
 use Rattle.command_table.specs.Rows.{rowOf}
 use Rattle.walk_point.specs.declared.Point.{Point}
-use Rattle.walk.specs.Program.{commandAt}
+use Rattle.walk.specs.Blocks.{commandAt}
 use Rattle.walk.specs.Verdict.{verdictOf}
 use Rattle.walk.specs.declared.Verdict.the-variants as verdict
 use Rattle.state.specs.State.{runs, taskAt}
-use Rattle.state.specs.Good.{Good}
+use Rattle.state.specs.GoodState.{GoodState}
 use Rattle.state.specs.declared.State.{State}
 use Rattle.state_layout.specs.Layout.{decoded, encoded}
-use Rattle.state_layout.specs.Test.{isState}
-use Rattle.state_layout.proofs.Round.{decode-encode, good-state}
+use Rattle.state_layout.specs.IsState.{isState}
+use Rattle.state_layout.proofs.RoundTrip.{decode-encode, good-state}
 use Rattle.machine.specs.Given.{Inputs, level}
 use Rattle.machine.specs.Engine.{given, fits, pointOf, answerTo, performed, taskStep, step, termsHeld}
 use Rattle.machine.specs.Effect.{effectOf}
-use Rattle.machine.specs.Reference.{Thread, Machine, Did, idle, begun, replies, does, lost, tries, acts, turn}
+use Rattle.machine.specs.Reference.{Thread, Machine, ReferenceOut, idle, referenceLoaded, replies, does, lost, tries, acts, referenceStep}
 use Rattle.machine.specs.Alike.{Alike}
-use Rattle.machine.specs.Run.{outs, dids, stateAfter, machineAfter, SameHanded, Permitted}
-use Rattle.machine.specs.Each.{Calls, noCalls, callsAfter, Step, EachStep}
+use Rattle.machine.specs.Run.{outs, referenceOuts, stateAfter, machineAfter, SameHanded, Permitted}
+use Rattle.machine.specs.StepRule.{Calls, noCalls, callsAfter, StepRule, EachStep}
 use Rattle.machine.specs.Theorem.{loaded}
-use Rattle.machine.specs.declared.Out.{Out}
+use Rattle.machine.specs.declared.StepOut.{StepOut}
 use Rattle.machine.specs.declared.Effect.{Effect}
 use Rattle.machine.specs.declared.Outcome.{Outcome}
 use Rattle.machine.specs.declared.Outcome.the-variants as outcome
-use Rattle.machine.proofs.Keeps.{keeps-good}
+use Rattle.machine.proofs.Steps.KeepsGood.{keeps-good}
 use Rattle.machine.specs.Theorem as values
-use Rattle.machine.proofs.Runs as machine
-use Rattle.exec_step.proofs.Laws as engine
-use Rattle.bias_results.specs.Border.{answerFor}
+use Rattle.machine.proofs.Runs.EveryRun as machine
+use Rattle.exec_step.proofs.StepCases as engine
+use Rattle.bias_results.specs.Results.{answerFor}
 use Rattle.bias.specs.Step.{Stepped, handed, stepped}
 use Rattle.proved_demands.specs.Run.{answers, bufferAfter, referenceAnswers}
 use Rattle.proved_demands.specs.Theorem.{refused, differs, StepOn, EveryStepOn, Run, EveryRun}
 use Rattle.proved_demands.proofs.Loads.{accepted-load, fresh-load}
-use Rattle.bias.proofs.Ways.{no-task, bad-inputs, of-buffer, of-state, asked}
+use Rattle.bias.proofs.ByTest.{no-task, bad-inputs, of-buffer, of-state, asked}
 
 -- ---- one step of the bytes of a good state
 
-module _ (image : List ℕ) (s : State) (g : Good s) (x : Inputs) where
+module _ (image : List ℕ) (s : State) (g : GoodState s) (x : Inputs) where
   -- it is the step of the state
   is-step : stepped image (encoded s) x ≡ handed (step image s x)
   unfolding handed
@@ -88,7 +88,7 @@ refused-stays image s x =
     (λ r. refl))
     (λ r. refl)
   where
-    Stays : Out → Type 0
+    Stays : StepOut → Type 0
     Stays o = refused (o .answer) ≡ true → o .state ≡ s
 
     effect : Effect
@@ -106,8 +106,8 @@ reply-same outcome.Restart t k = refl
 reply-same outcome.End t k = refl
 reply-same (outcome.Halt n) t k = refl
 
-turn-same : (image : List ℕ) (m : Machine) (x : Inputs) → differs (turn image m x .answer) ≡ false
-unfolding turn acts tries does
+turn-same : (image : List ℕ) (m : Machine) (x : Inputs) → differs (referenceStep image m x .answer) ≡ false
+unfolding referenceStep acts tries does
 turn-same image m x =
     either Same (ltb 2 (x .task)) refl
     (either Same (eqb (length (x .levels)) 256)
@@ -119,7 +119,7 @@ turn-same image m x =
     refl)
     refl)
   where
-    Same : Did → Type 0
+    Same : ReferenceOut → Type 0
     Same d = differs (d .answer) ≡ false
 
     k : Thread
@@ -141,41 +141,41 @@ turn-same image m x =
 -- ---- a list of steps
 
 module _ (image : List ℕ) (bytes : Bytes image) where
-  next-good : (s : State) → Good s → (x : Inputs) → Good (step image s x .state)
+  next-good : (s : State) → GoodState s → (x : Inputs) → GoodState (step image s x .state)
   next-good s g x = keeps-good image bytes s g x
 
   -- the buffer is the bytes of the state
-  after-is : (s : State) → Good s → (xs : List Inputs) → bufferAfter image (encoded s) xs ≡ encoded (stateAfter image s xs)
+  after-is : (s : State) → GoodState s → (xs : List Inputs) → bufferAfter image (encoded s) xs ≡ encoded (stateAfter image s xs)
   unfolding bufferAfter stateAfter
   after-is s g [] = refl
   after-is s g (x ∷ xs) = ap (λ (b : List ℕ). bufferAfter image b xs) (buffer-is image s g x) ∙ after-is (step image s x .state) (next-good s g x) xs
 
-  answers-are : (s : State) → Good s → (m : Machine) (xs : List Inputs) → SameHanded (outs image s xs) (dids image m xs) → answers image (encoded s) xs ≡ referenceAnswers image m xs
-  unfolding answers referenceAnswers outs dids
+  answers-are : (s : State) → GoodState s → (m : Machine) (xs : List Inputs) → SameHanded (outs image s xs) (referenceOuts image m xs) → answers image (encoded s) xs ≡ referenceAnswers image m xs
+  unfolding answers referenceAnswers outs referenceOuts
   answers-are s g m [] h = refl
   answers-are s g m (x ∷ xs) (SameHanded.more a o h) =
       let e = answer-is image s g x ∙ (λ ι. answerFor (o ι) (a ι)) in
-      let f = ap (λ (b : List ℕ). answers image b xs) (buffer-is image s g x) ∙ answers-are (step image s x .state) (next-good s g x) (turn image m x .machine) xs h in
+      let f = ap (λ (b : List ℕ). answers image b xs) (buffer-is image s g x) ∙ answers-are (step image s x .state) (next-good s g x) (referenceStep image m x .machine) xs h in
       λ ι. e ι ∷ f ι
 
-  step-on : (s : State) → Good s → (calls : Calls) (x : Inputs) → Step image calls s x → differs (step image s x .answer) ≡ false → StepOn image calls (encoded s) x
+  step-on : (s : State) → GoodState s → (calls : Calls) (x : Inputs) → StepRule image calls s x → differs (step image s x .answer) ≡ false → StepOn image calls (encoded s) x
   step-on s g calls x p same =
       let d = decode-encode s g in
       record {
         held = good-state s g;
-        parts = subst (λ (r : State). Step image calls r x) (sym d) p;
+        parts = subst (λ (r : State). StepRule image calls r x) (sym d) p;
         answer = answer-is image s g x ∙ ap (λ (r : State). answerFor (step image r x .request) (step image r x .answer)) (sym d);
         state = ap decoded (buffer-is image s g x) ∙ decode-encode (step image s x .state) (next-good s g x) ∙ ap (λ (r : State). step image r x .state) (sym d);
         same = ap (λ (r : State). differs (step image r x .answer)) d ∙ same;
         stays = λ r. buffer-is image s g x ∙ ap encoded (refused-stays image s x (sym (ap (λ (r : State). refused (step image r x .answer)) d) ∙ r));
       }
 
-  each-on : (s : State) → Good s → (m : Machine) (calls : Calls) (xs : List Inputs) → EachStep image calls s xs → SameHanded (outs image s xs) (dids image m xs)
+  each-on : (s : State) → GoodState s → (m : Machine) (calls : Calls) (xs : List Inputs) → EachStep image calls s xs → SameHanded (outs image s xs) (referenceOuts image m xs)
       → EveryStepOn image calls (encoded s) xs
-  unfolding outs dids
+  unfolding outs referenceOuts
   each-on s g m calls [] h i = EveryStepOn.none
   each-on s g m calls (x ∷ xs) (EachStep.more p h) (SameHanded.more a o i) =
-      let later = each-on (step image s x .state) (next-good s g x) (turn image m x .machine) (callsAfter image s x calls) xs h i in
+      let later = each-on (step image s x .state) (next-good s g x) (referenceStep image m x .machine) (callsAfter image s x calls) xs h i in
       let first = subst (λ (b : List ℕ). EveryStepOn image (callsAfter image s x calls) b xs) (sym (buffer-is image s g x)) later in
       EveryStepOn.more (step-on s g calls x p (ap differs a ∙ turn-same image m x)) (subst (λ (r : State). EveryStepOn image (callsAfter image r x calls) (stepped image (encoded s) x .buffer) xs) (sym (decode-encode s g)) first)
 
@@ -183,10 +183,10 @@ module _ (image : List ℕ) (bytes : Bytes image) where
 
 module _ (image : List ℕ) (n : ℕ) (bytes : Bytes image) (ok : verdictOf image n ≡ verdict.Accepted) where
   -- the theorem on values
-  of-values : (xs : List Inputs) → values.Run image xs
+  of-values : (xs : List Inputs) → values.ValueRun image xs
   of-values xs = machine.every-run image n ok xs
 
-  loaded-good : Good (loaded image)
+  loaded-good : GoodState (loaded image)
   unfolding stateAfter
   loaded-good = of-values [] .good bytes
 
@@ -197,10 +197,10 @@ module _ (image : List ℕ) (n : ℕ) (bytes : Bytes image) (ok : verdictOf imag
       let e = after-is image bytes (loaded image) loaded-good xs in
       let d = ap decoded e ∙ decode-encode s (r .good bytes) in
       record {
-        same = answers-are image bytes (loaded image) loaded-good (begun image) xs (r .answers);
-        alike = subst (λ (q : State). Alike q (machineAfter image (begun image) xs)) (sym d) (r .alike);
+        same = answers-are image bytes (loaded image) loaded-good (referenceLoaded image) xs (r .answers);
+        alike = subst (λ (q : State). Alike q (machineAfter image (referenceLoaded image) xs)) (sym d) (r .alike);
         permitted = subst (λ (q : State). (t : ℕ) → t < taskCount → taskAt q t .status ≡ runs → Permitted image t (taskAt q t)) (sym d) (r .permitted);
-        steps = each-on image bytes (loaded image) loaded-good (begun image) noCalls xs (r .steps) (r .answers);
+        steps = each-on image bytes (loaded image) loaded-good (referenceLoaded image) noCalls xs (r .steps) (r .answers);
         held = ap isState e ∙ good-state s (r .good bytes);
       }
 

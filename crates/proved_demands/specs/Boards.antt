@@ -6,18 +6,18 @@ use mathlib.Core.Bool.{true}
 use mathlib.Core.List.{List}
 use lib.ListN.{length}
 use Rattle.limits.specs.Limits.{marksLength, stateLength}
-use Rattle.image_result.specs.Outcome.{done}
+use Rattle.image_result.specs.ImageResult.{done}
 use Rattle.image_header.specs.Scan.{headerOf, blocksOf}
 use Rattle.command_judge.specs.declared.BlockFault.{BlockFault}
 use Rattle.walk_flow.specs.Terms.{termsOf}
-use Rattle.walk.specs.Program.{blockFaultAt}
-use Rattle.walk.specs.Says.{BlockPasses}
+use Rattle.walk.specs.Blocks.{blockFaultAt}
+use Rattle.walk.specs.IsVerdict.{BlockPasses}
 
 pub record FirstFault (image : List ℕ) (n : ℕ) (b : List ℕ) (k : ℕ) (f : BlockFault) : Type 0 where
   -- 13, 16 and 1 to 4 let the load pass
   pub marks : marksLength ≤ n
   pub buffer : length b ≡ stateLength
-  pub header : done (headerOf image .outcome) ≡ true
+  pub header : done (headerOf image .result) ≡ true
   -- this is wrong with block k, and the blocks before it pass
   pub block : k < headerOf image .header .count
   pub before : (a : ℕ) → a < k → BlockPasses (termsOf image) (blocksOf image) a

@@ -1,5 +1,5 @@
 -- Every step, of whatever bytes, in a run or not (demand 1): which way it goes, and of each way the condition, the whole answer and the whole buffer. Proved
--- as `every-step` in proofs/Every.antt.
+-- as `every-step` in proofs/EveryStep.antt.
 use Prim.Native.Nat.{ℕ, _<_, _≤_}
 use mathlib.Core.Path.{_≡_}
 use mathlib.Core.Bool.{true, false}
@@ -12,15 +12,15 @@ use Rattle.state.specs.State.{runs, halted, task, taskAt}
 use Rattle.state.specs.declared.Task.{Task}
 use Rattle.state.specs.declared.State.{State}
 use Rattle.state_layout.specs.Layout.{decoded, encoded}
-use Rattle.state_layout.specs.Test.{isState}
+use Rattle.state_layout.specs.IsState.{isState}
 use Rattle.machine.specs.Given.{Inputs}
 use Rattle.image_header.specs.Scan.{blocksOf}
 use Rattle.machine.specs.Engine.{pointOf, noted, fits, carriedOut, termsHeld}
-use Rattle.machine.specs.Each.{commandOf, Reason}
+use Rattle.machine.specs.StepRule.{commandOf, Reason}
 use Rattle.machine.specs.declared.Cause.{Cause}
 use Rattle.machine.specs.declared.Request.the-variants.{None}
 use Rattle.machine.specs.declared.Answer.the-variants.{Done, NoTask, Inputs as BadInputs, NotRunning, Differs, Halted}
-use Rattle.bias_results.specs.Border.{noStateAnswer, answerFor}
+use Rattle.bias_results.specs.Results.{noStateAnswer, answerFor}
 use Rattle.bias_results.specs.declared.BiasAnswer.{BiasAnswer}
 use Rattle.bias.specs.Step.{stepped}
 

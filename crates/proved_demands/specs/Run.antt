@@ -3,8 +3,8 @@
 use Prim.Native.Nat.{ℕ}
 use mathlib.Core.List.{List, [], _∷_}
 use Rattle.machine.specs.Given.{Inputs}
-use Rattle.machine.specs.Reference.{Machine, turn}
-use Rattle.bias_results.specs.Border.{answerFor}
+use Rattle.machine.specs.Reference.{Machine, referenceStep}
+use Rattle.bias_results.specs.Results.{answerFor}
 use Rattle.bias_results.specs.declared.BiasAnswer.{BiasAnswer}
 use Rattle.bias.specs.Step.{stepped}
 
@@ -20,4 +20,4 @@ bufferAfter image b (x ∷ xs) = bufferAfter image (stepped image b x .buffer) x
 -- what the reference machine answers, as C would be handed it
 unfoldable pub referenceAnswers : List ℕ → Machine → List Inputs → List BiasAnswer
 referenceAnswers image m [] = []
-referenceAnswers image m (x ∷ xs) = answerFor (turn image m x .request) (turn image m x .answer) ∷ referenceAnswers image (turn image m x .machine) xs
+referenceAnswers image m (x ∷ xs) = answerFor (referenceStep image m x .request) (referenceStep image m x .answer) ∷ referenceAnswers image (referenceStep image m x .machine) xs

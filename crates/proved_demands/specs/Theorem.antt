@@ -8,26 +8,26 @@ use mathlib.Core.List.{List, [], _∷_}
 use lib.ListN.{length}
 use Rattle.limits.specs.Limits.{taskCount, marksLength, stateLength}
 use Rattle.num_le.specs.LittleEndian.{Bytes}
-use Rattle.image_result.specs.Outcome.{done}
+use Rattle.image_result.specs.ImageResult.{done}
 use Rattle.image_header.specs.Scan.{headerOf, blocksOf}
 use Rattle.walk_point.specs.declared.Point.{Point}
 use Rattle.walk_flow.specs.Terms.{termsOf}
-use Rattle.walk.specs.Says.{BadAt, ForeignAt, NoForeign, BlockPasses, Judges}
+use Rattle.walk.specs.IsVerdict.{BadAt, ForeignAt, NoForeign, BlockPasses, IsVerdict}
 use Rattle.walk.specs.declared.Verdict.{Verdict}
 use Rattle.walk.specs.declared.Verdict.the-variants.{MarksShort}
 use Rattle.state.specs.State.{runs, taskAt}
 use Rattle.state_layout.specs.Layout.{decoded, encoded}
-use Rattle.state_layout.specs.Test.{isState}
+use Rattle.state_layout.specs.IsState.{isState}
 use Rattle.machine.specs.Given.{Inputs}
 use Rattle.machine.specs.Engine.{step}
-use Rattle.machine.specs.Reference.{begun}
+use Rattle.machine.specs.Reference.{referenceLoaded}
 use Rattle.machine.specs.Alike.{Alike}
 use Rattle.machine.specs.Run.{machineAfter, Permitted}
 use Rattle.machine.specs.Theorem.{loaded}
-use Rattle.machine.specs.Each.{Calls, noCalls, callsAfter, Step}
+use Rattle.machine.specs.StepRule.{Calls, noCalls, callsAfter, StepRule}
 use Rattle.machine.specs.declared.Answer.{Answer}
 use Rattle.machine.specs.declared.Answer.the-variants.{Done, NoTask, Inputs as BadInputs, NotRunning, Differs, Halted}
-use Rattle.bias_results.specs.Border.{noState, numbered, verdictFor, answerFor}
+use Rattle.bias_results.specs.Results.{noState, numbered, verdictFor, answerFor}
 use Rattle.bias_results.specs.declared.BiasVerdict.{BiasVerdict}
 use Rattle.bias.specs.Load.{load}
 use Rattle.bias.specs.Step.{stepped}
@@ -56,8 +56,8 @@ differs (Halted q p) = false
 pub record StepOn (image : List ℕ) (calls : Calls) (b : List ℕ) (x : Inputs) : Type 0 where
   -- the buffer is a state
   pub held : isState b ≡ true
-  -- parts 4, 5 and 6 (machine/specs/Each.antt), of the state that the buffer holds
-  pub parts : Step image calls (decoded b) x
+  -- parts 4, 5 and 6 (machine/specs/StepRule.antt), of the state that the buffer holds
+  pub parts : StepRule image calls (decoded b) x
   -- which are of this step: what it hands out is the answer, and the state after it is what the buffer holds then
   pub answer : stepped image b x .answer ≡ answerFor (step image (decoded b) x .request) (step image (decoded b) x .answer)
   pub state : decoded (stepped image b x .buffer) ≡ step image (decoded b) x .state
@@ -77,9 +77,9 @@ pub data EveryStepOn (image : List ℕ) : Calls → List ℕ → List Inputs →
 -- of an image, the buffer that its load left, and a list of steps
 pub record Run (image b : List ℕ) (xs : List Inputs) : Type 0 where
   -- 1. every answer and every field of every motion request is the reference machine's, step by step
-  pub same : answers image b xs ≡ referenceAnswers image (begun image) xs
+  pub same : answers image b xs ≡ referenceAnswers image (referenceLoaded image) xs
   -- 2. afterwards the two states are alike in each thing that document 01 compares
-  pub alike : Alike (decoded (bufferAfter image b xs)) (machineAfter image (begun image) xs)
+  pub alike : Alike (decoded (bufferAfter image b xs)) (machineAfter image (referenceLoaded image) xs)
   -- 3. afterwards each task that runs is at a block of the image that is permitted to it, at its depth, which is at most the limit
   pub permitted : (t : ℕ) → t < taskCount → taskAt (decoded (bufferAfter image b xs)) t .status ≡ runs → Permitted image t (taskAt (decoded (bufferAfter image b xs)) t)
   -- 4, 5, 6. at every step
@@ -93,11 +93,11 @@ EveryRun = (image : List ℕ) (n : ℕ) (b : List ℕ) → Bytes image → load 
 
 -- ---- part 7: loads
 
--- 13, then 16, then what the image comes to (walk/specs/Says.antt): the header, the first block that 5 to 8 or 23 refuse, and else what walks say
+-- 13, then 16, then what the image comes to (walk/specs/IsVerdict.antt): the header, the first block that 5 to 8 or 23 refuse, and else what walks say
 pub data Loads (image : List ℕ) (n : ℕ) (b : List ℕ) : BiasVerdict → Type 0 where
   marks : n < marksLength → Loads image n b (verdictFor (MarksShort n))
   buffer : marksLength ≤ n → (length b ≡ stateLength → ⊥) → Loads image n b (numbered noState 0)
-  judged : marksLength ≤ n → length b ≡ stateLength → (v : Verdict) → Judges image n v → Loads image n b (verdictFor v)
+  judged : marksLength ≤ n → length b ≡ stateLength → (v : Verdict) → IsVerdict image n v → Loads image n b (verdictFor v)
 
 pub record LoadOf (image : List ℕ) (n : ℕ) (b : List ℕ) : Type 0 where
   -- the answer is that, and nothing else is
@@ -114,7 +114,7 @@ pub record WellFormed (image : List ℕ) (n : ℕ) (b : List ℕ) : Type 0 where
   -- 13, 16, 1 to 4 and, of each block by itself, 5 to 8 and 23 let them pass
   pub marks : marksLength ≤ n
   pub buffer : length b ≡ stateLength
-  pub header : done (headerOf image .outcome) ≡ true
+  pub header : done (headerOf image .result) ≡ true
   pub blocks : (k : ℕ) → k < headerOf image .header .count → BlockPasses (termsOf image) (blocksOf image) k
 
 -- some walk reaches a bad place

@@ -12,10 +12,10 @@ use Rattle.limits.specs.Limits.{marksLength, stateLength}
 use Rattle.num_le.specs.LittleEndian.{Bytes}
 use Rattle.image_number.proofs.Choice.{both}
 use Rattle.walk.specs.Verdict.{verdictOf, verdictNumber}
-use Rattle.bias_results.specs.Border.{numbered}
+use Rattle.bias_results.specs.Results.{numbered}
 use Rattle.bias.specs.Load.{Load, load}
 use Rattle.proved_demands.specs.Theorem.{Run}
-use Rattle.bias.proofs.Ways.{marks-short, no-buffer, of-image, verdict-is}
+use Rattle.bias.proofs.ByTest.{marks-short, no-buffer, of-image, verdict-is}
 use Rattle.proved_demands.proofs.Runs.{every-run}
 use Rattle.proved_cases.specs.Example.{program, steps}
 use Rattle.proved_cases.proofs.Example.{accepted}

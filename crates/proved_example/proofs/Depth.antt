@@ -7,21 +7,21 @@ use mathlib.Core.Bool.{Bool, true, false}
 use mathlib.Core.List.{List, [], _∷_}
 use lib.ListN.{length}
 use Rattle.limits.specs.Limits.{bias, taskCount, mostDepth, inputsLength}
-use Rattle.image_header.specs.Good.{Good as GoodHeader}
+use Rattle.image_header.specs.GoodHeader.{GoodHeader}
 use Rattle.image_header.specs.declared.Header.{Header}
 use Rattle.num_le.specs.LittleEndian.{Bytes}
 use Rattle.state.specs.State.{runs, task, emptyStack, neverStarted, freshValues, fresh, taskAt}
-use Rattle.state.specs.Good.{GoodTask, GoodWait, Good}
+use Rattle.state.specs.GoodState.{GoodTask, GoodWait, GoodState}
 use Rattle.state.specs.declared.State.{State}
 use Rattle.state.proofs.Fresh.{getD-replicate, values-good, fresh-good}
 use Rattle.state_layout.specs.Layout.{decoded, encoded}
-use Rattle.state_layout.specs.Test.{isState}
-use Rattle.state_layout.proofs.Round.{state-good, decode-encode, good-state}
+use Rattle.state_layout.specs.IsState.{isState}
+use Rattle.state_layout.proofs.RoundTrip.{state-good, decode-encode, good-state}
 use Rattle.machine.specs.Given.{Inputs}
-use Rattle.bias_results.specs.Border.{noStateAnswer}
+use Rattle.bias_results.specs.Results.{noStateAnswer}
 use Rattle.bias.specs.Load.{load}
-use Rattle.bias.specs.Step.{refuse, stepped}
-use Rattle.bias.proofs.Ways.{of-buffer, no-state}
+use Rattle.bias.specs.Step.{refuseStep, stepped}
+use Rattle.bias.proofs.ByTest.{of-buffer, no-state}
 use Rattle.proved_demands.specs.Run.{bufferAfter}
 use Rattle.proved_demands.proofs.Apart.{block-fits}
 use Rattle.proved_demands.proofs.Demand.{demand}
@@ -31,7 +31,7 @@ module _ (b : List ℕ) (bytes : Bytes b) (t : ℕ) (l : t < taskCount) where
   never-deeper e = state-good b bytes e .task t l .depth
 
   pub deeper-refused : 5 < taskAt (decoded b) t .depth → (image : List ℕ) (x : Inputs) → x .task < taskCount → length (x .levels) ≡ inputsLength
-      → stepped image b x ≡ refuse noStateAnswer b
+      → stepped image b x ≡ refuseStep noStateAnswer b
   deeper-refused deep image x h e = of-buffer image b x h e ∙ no-state image b x (none (isState b) refl)
     where
       none : (s : Bool) → isState b ≡ s → isState b ≡ false
@@ -54,7 +54,7 @@ module _ (h : Header) (g : GoodHeader h) where
     tasks = task runs (h .start) (h .start) 5 emptyStack 0 0 ∷ neverStarted ∷ neverStarted ∷ [];
   }
 
-  good : Good fiveDeep
+  good : GoodState fiveDeep
   unfolding fresh
   good = record { header = g; values = values-good; three = refl; task = tasks; first = refl }
     where

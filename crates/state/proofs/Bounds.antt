@@ -4,7 +4,7 @@ use native.Mathlib.Omega.{arith}
 use native.Mathlib.Nat.{mul-le-mul-left}
 use borrow.Author.Tests.{leb-false}
 use Rattle.drive.specs.Types.{types, cycleOf}
-use Rattle.state.specs.Good.{GoodWait}
+use Rattle.state.specs.GoodState.{GoodWait}
 
 cycle-positive : (m : ℕ) → m < types → 0 < cycleOf m
 unfolding cycleOf

@@ -8,10 +8,10 @@ use lib.IntN.{pos}
 use mir.Syntax.{w32}
 use mir.Val.{SFits}
 use Rattle.limits.specs.Limits.{taskCount, mostDepth, cells}
-use Rattle.image_header.specs.Good.{Good as GoodHeader}
+use Rattle.image_header.specs.GoodHeader.{GoodHeader}
 use Rattle.image_header.specs.declared.Header.{Header}
 use Rattle.state.specs.State.{noTask, fresh, freshValues, running, neverStarted}
-use Rattle.state.specs.Good.{GoodWait, GoodTask, GoodValues, Good}
+use Rattle.state.specs.GoodState.{GoodWait, GoodTask, GoodValues, GoodState}
 
 -- a list that holds one thing throughout holds it everywhere, where that is also what stands past its end
 pub getD-replicate : {A : Type 0} (n : ℕ) (x : A) (i : ℕ) → getD (replicate n x) i x ≡ x
@@ -70,7 +70,7 @@ module _ (h : Header) (g : GoodHeader h) where
     wait = GoodWait.none;
   }
 
-  pub fresh-good : Good (fresh h)
+  pub fresh-good : GoodState (fresh h)
   unfolding fresh
   fresh-good = record { header = g; values = values-good; three = refl; task = tasks; first = refl }
     where

@@ -9,7 +9,7 @@ use mir.Val.{SFits}
 use Rattle.limits.specs.Limits.{mostLevel, mostSpeed, mostRamp}
 use Rattle.state.specs.State.{withVariable, withFlag, withOutput, axisOf, withAxis, withMark, withNotes}
 use Rattle.state.specs.State.{withPosition, withSpeed, withAcceleration, withDeceleration}
-use Rattle.state.specs.Good.{InRange, GoodAxis, GoodValues}
+use Rattle.state.specs.GoodState.{InRange, GoodAxis, GoodValues}
 use Rattle.state.specs.declared.Axis.{Axis}
 use Rattle.state.specs.declared.Values.{Values}
 

@@ -20,8 +20,8 @@ use mir.Facts.{ofZ-toZ}
 use Rattle.num_arith.specs.Wrap.{word, wrap}
 use Rattle.num_arith.proofs.Cut.{word-fits, word-same, wrap-same}
 use Rattle.num_le.specs.LittleEndian.{Bytes, leBytes}
-use Rattle.state_bytes.specs.Places.{numberAt, signedAt, signedBytes, runs}
-use Rattle.state_bytes.proofs.Runs.{length-runs}
+use Rattle.state_bytes.specs.Bytes.{leNumberAt, signedAt, signedBytes, concatenated}
+use Rattle.state_bytes.proofs.Puts.{length-runs}
 
 pub record Has (s : List ℕ) (at : ℕ) (xs : List ℕ) : Type 0 where
   pub is : (k : ℕ) → k < length xs → getD s (at + k) 0 ≡ getD xs k 0
@@ -52,7 +52,7 @@ module _ {s : List ℕ} {at : ℕ} where
   tail h = record { is = λ k lt. (let q : at + 1 + k ≡ at + suc k = omega arith in ap (λ (j : ℕ). getD s j 0) q) ∙ h .is (suc k) (omega arith) }
 
 -- a number read where its bytes are
-pub number : (n : ℕ) {s : List ℕ} {at : ℕ} (v : ℕ) → v < 256 ^ n → Has s at (leBytes n v) → numberAt n s at ≡ v
+pub number : (n : ℕ) {s : List ℕ} {at : ℕ} (v : ℕ) → v < 256 ^ n → Has s at (leBytes n v) → leNumberAt n s at ≡ v
 number zero v lt h = omega arith
 number (suc n) {s} {at} v lt h =
     let p = pow-suc 256 n in
@@ -61,7 +61,7 @@ number (suc n) {s} {at} v lt h =
     omega arith
 
 -- a number of one byte is the byte
-pub one-byte : (s : List ℕ) (at : ℕ) → numberAt 1 s at ≡ getD s at 0
+pub one-byte : (s : List ℕ) (at : ℕ) → leNumberAt 1 s at ≡ getD s at 0
 one-byte s at = omega arith
 
 pub signed : {s : List ℕ} {at : ℕ} (v : ℤ) → SFits w32 v → Has s at (signedBytes v) → signedAt s at ≡ v
@@ -69,12 +69,12 @@ unfolding wrap
 signed v f h = ap (toZ w32) (number 4 (word w32 v) (word-fits w32 v .fits) h) ∙ wrap-same w32 v f
 
 -- each of a run of lists
-pub each : (f : ℕ → List ℕ) (m : ℕ) → ((k : ℕ) → length (f k) ≡ m) → (n : ℕ) {s : List ℕ} {at : ℕ} → Has s at (runs n f) → (k : ℕ) → k < n → Has s (at + m * k) (f k)
-unfolding runs
+pub each : (f : ℕ → List ℕ) (m : ℕ) → ((k : ℕ) → length (f k) ≡ m) → (n : ℕ) {s : List ℕ} {at : ℕ} → Has s at (concatenated n f) → (k : ℕ) → k < n → Has s (at + m * k) (f k)
+unfolding concatenated
 each f m long zero h k lt = absurd (omega arith)
 each f m long (suc n) {s} {at} h k lt =
-    below-more (λ (j : ℕ). Has s (at + m * j) (f j)) n (each f m long n (left (runs n f) (f n) h))
-    (right (runs n f) (f n) (m * n) (length-runs f m long n) h) k (omega arith)
+    below-more (λ (j : ℕ). Has s (at + m * j) (f j)) n (each f m long n (left (concatenated n f) (f n) h))
+    (right (concatenated n f) (f n) (m * n) (length-runs f m long n) h) k (omega arith)
 
 -- ---- the other way
 
@@ -110,28 +110,28 @@ module _ {s : List ℕ} {at : ℕ} where
             (lt-or-le k (length xs));
       }
 
-pub number-below : (n : ℕ) (s : List ℕ) (at : ℕ) → Bytes s → numberAt n s at < 256 ^ n
+pub number-below : (n : ℕ) (s : List ℕ) (at : ℕ) → Bytes s → leNumberAt n s at < 256 ^ n
 number-below zero s at b = omega arith
 number-below (suc n) s at b = let p = pow-suc 256 n in let e = number-below n s (at + 1) b in let g = b at in omega arith
 
 pub signed-fits : (s : List ℕ) (at : ℕ) → Bytes s → SFits w32 (signedAt s at)
-signed-fits s at b = toZ-fits w32 (numberAt 4 s at) (record { fits = number-below 4 s at b })
+signed-fits s at b = toZ-fits w32 (leNumberAt 4 s at) (record { fits = number-below 4 s at b })
 
-pub of-number : (n : ℕ) (s : List ℕ) (at : ℕ) → Bytes s → Has s at (leBytes n (numberAt n s at))
+pub of-number : (n : ℕ) (s : List ℕ) (at : ℕ) → Bytes s → Has s at (leBytes n (leNumberAt n s at))
 of-number zero s at b = nil
 of-number (suc n) s at b =
     let g = b at in
-    let q : numberAt (suc n) s at / 256 ≡ numberAt n s (at + 1) = omega arith in
+    let q : leNumberAt (suc n) s at / 256 ≡ leNumberAt n s (at + 1) = omega arith in
     cons (omega arith) (subst (λ (v : ℕ). Has s (at + 1) (leBytes n v)) (sym q) (of-number n s (at + 1) b))
 
 pub of-signed : (s : List ℕ) (at : ℕ) → Bytes s → Has s at (signedBytes (signedAt s at))
 of-signed s at b =
-    let f : Fits w32 (numberAt 4 s at) = record { fits = number-below 4 s at b } in
+    let f : Fits w32 (leNumberAt 4 s at) = record { fits = number-below 4 s at b } in
     subst (λ (v : ℕ). Has s at (leBytes 4 v)) (sym (word-same w32 (signedAt s at) (signed-fits s at b) ∙ ofZ-toZ f)) (of-number 4 s at b)
 
 -- a run of lists, from each
-pub run : (f : ℕ → List ℕ) (m : ℕ) → ((k : ℕ) → length (f k) ≡ m) → (n : ℕ) (s : List ℕ) (at : ℕ) → ((k : ℕ) → k < n → Has s (at + m * k) (f k)) → Has s at (runs n f)
-unfolding runs
+pub run : (f : ℕ → List ℕ) (m : ℕ) → ((k : ℕ) → length (f k) ≡ m) → (n : ℕ) (s : List ℕ) (at : ℕ) → ((k : ℕ) → k < n → Has s (at + m * k) (f k)) → Has s at (concatenated n f)
+unfolding concatenated
 run f m long zero s at h = nil
 run f m long (suc n) s at h =
-    join (runs n f) (f n) (m * n) (length-runs f m long n) (run f m long n s at (λ k lt. h k (omega arith))) (h n (omega arith))
+    join (concatenated n f) (f n) (m * n) (length-runs f m long n) (run f m long n s at (λ k lt. h k (omega arith))) (h n (omega arith))

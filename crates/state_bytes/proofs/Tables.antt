@@ -8,7 +8,7 @@ use mathlib.Core.List.{List, [], _∷_, _++_}
 use lib.ListN.{length, getD, set, take, length-append, List·getD-append}
 use lib.Seq.{take-suc-set, take-all, getD-at, ext-getD}
 use borrow.Author.Count.{below-more}
-use Rattle.state_bytes.specs.Places.{table}
+use Rattle.state_bytes.specs.Bytes.{table}
 
 module _ {A : Type 0} where
   -- no turn

@@ -4,7 +4,7 @@ use limits::STATE_LENGTH;
 ghost use mathlib.Core.Path.{_≡_};
 ghost use lib.ListN.{getD, set};
 ghost use Rattle.num_le.specs.LittleEndian.{leBytes};
-ghost use Rattle.state_bytes.specs.Places.{numberAt, signedAt, signedBytes, puts};
+ghost use Rattle.state_bytes.specs.Bytes.{leNumberAt, signedAt, signedBytes, puts};
 
 // The byte at an index.
 fn byte_from(s: &[u8], i: usize) -> u8
@@ -14,20 +14,20 @@ fn byte_from(s: &[u8], i: usize) -> u8
 }
 
 pub fn byte(s: &[u8; STATE_LENGTH], at: u16) -> u8
-    ensures { λ r. ⌜ r ≡ numberAt 1 (now (s .entry)) at ⌝ }
+    ensures { λ r. ⌜ r ≡ leNumberAt 1 (now (s .entry)) at ⌝ }
 {
     byte_from(s, at as usize)
 }
 
 pub fn word(s: &[u8; STATE_LENGTH], at: u16) -> u16
-    ensures { λ r. ⌜ r ≡ numberAt 2 (now (s .entry)) at ⌝ }
+    ensures { λ r. ⌜ r ≡ leNumberAt 2 (now (s .entry)) at ⌝ }
 {
     let i = at as usize;
     num_le::read_u16([byte_from(s, i), byte_from(s, i + 1)])
 }
 
 pub fn long(s: &[u8; STATE_LENGTH], at: u16) -> u32
-    ensures { λ r. ⌜ r ≡ numberAt 4 (now (s .entry)) at ⌝ }
+    ensures { λ r. ⌜ r ≡ leNumberAt 4 (now (s .entry)) at ⌝ }
 {
     let i = at as usize;
     num_le::read_u32([

@@ -12,7 +12,7 @@ ghost use mathlib.Core.List.{[], _∷_};
 ghost use Prim.Native.Nat.{_+_, _*_, _≤_};
 ghost use lib.ListN.{length};
 ghost use Rattle.limits.specs.Limits.{mostDepth, stateLength};
-ghost use Rattle.state_bytes.specs.Places.{puts};
+ghost use Rattle.state_bytes.specs.Bytes.{puts};
 ghost use Rattle.state_sections.specs.Records.{recordBytes};
 ghost use Rattle.state_layout.specs.Codecs.{variablesLength, variableBytes, layoutBytes, headerBytes, motionBytes, notesBytes, startWidths, stackBytes, taskLength, taskBytes};
 ghost use Rattle.state_layout.specs.Layout.{layoutAt, headerAt, motionAt, notesAt, startsAt, encoded};
@@ -29,14 +29,22 @@ pub fn encode(s: State) -> [u8; STATE_LENGTH]
     let mathematics = tasks[2];
     put_variables(&mut b, state_layout::VARIABLES_AT, &values.cells.variables);
     put_levels(&mut b, state_layout::FLAGS_AT as usize, &values.cells.flags);
-    put_levels(&mut b, state_layout::OUTPUTS_AT as usize, &values.cells.outputs);
+    put_levels(
+        &mut b,
+        state_layout::OUTPUTS_AT as usize,
+        &values.cells.outputs,
+    );
     put_layout(&mut b);
     put_header(&mut b, s.header);
     put_motion(&mut b, values.motion);
     put_notes(&mut b, values.notes);
     put_starts(&mut b, plc.start, mathematics.start);
     put_task(&mut b, state_layout::TASKS_AT, bias);
-    put_task(&mut b, state_layout::TASKS_AT + state_layout::TASK_LENGTH, plc);
+    put_task(
+        &mut b,
+        state_layout::TASKS_AT + state_layout::TASK_LENGTH,
+        plc,
+    );
     put_task(
         &mut b,
         state_layout::TASKS_AT + 2 * state_layout::TASK_LENGTH,

@@ -14,7 +14,7 @@ ghost use lib.Dec.{eqb};
 ghost use lib.ListN.{length};
 ghost use Rattle.limits.specs.Limits.{mostDepth, cells, stateLength};
 ghost use Rattle.state_layout.specs.Layout.{unusedLength};
-ghost use Rattle.state_layout.specs.Test.{allOf, levelIs, entryIs, waitIs, taskIs, motionIs, valuesAre, stateIs, unusedZero, frameIs, isState};
+ghost use Rattle.state_layout.specs.IsState.{allOf, levelIs, entryIs, waitIs, taskIs, motionIs, valuesAre, stateIs, unusedBytesZero, frameIs, isState};
 
 const UNUSED_AT: usize = state_layout::UNUSED_AT as usize;
 
@@ -43,7 +43,7 @@ pub fn frame_is(b: &[u8; STATE_LENGTH]) -> bool
 
 // Whether the unused bytes are 0.
 fn unused_zero(b: &[u8; STATE_LENGTH]) -> bool
-    ensures { λ r. ⌜ r ≡ unusedZero (now (b .entry)) unusedLength ⌝ }
+    ensures { λ r. ⌜ r ≡ unusedBytesZero (now (b .entry)) unusedLength ⌝ }
 {
     let mut zero = true;
     let mut k: usize = 0;

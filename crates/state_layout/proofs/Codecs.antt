@@ -13,19 +13,19 @@ use Rattle.limits.specs.Limits.{plc, mathematics, mostDepth, cells, mostLevel}
 use Rattle.num_arith.specs.Wrap.{word, wrap}
 use Rattle.num_arith.proofs.Cut.{word-fits, word-same, wrap-same}
 use Rattle.drive.specs.Types.{slotB, slotC}
-use Rattle.drive.proofs.Laws.{board-small}
+use Rattle.drive.proofs.EveryDrive.{board-small}
 use Rattle.image_header.specs.Numbers.{numbersOf, headerFrom}
-use Rattle.image_header.specs.Good.{Good as GoodHeader}
+use Rattle.image_header.specs.GoodHeader.{GoodHeader}
 use Rattle.image_header.specs.declared.Header.{Header}
 use Rattle.num_le.specs.LittleEndian.{Bytes, leBytes}
-use Rattle.state_bytes.specs.Places.{numberAt, signedAt, signedBytes}
-use Rattle.state_bytes.proofs.Runs.{length-runs}
+use Rattle.state_bytes.specs.Bytes.{leNumberAt, signedAt, signedBytes}
+use Rattle.state_bytes.proofs.Puts.{length-runs}
 use Rattle.state_bytes.proofs.Has.{Has, number, signed, each, run, number-below, of-number, of-signed}
 use Rattle.state_bytes.proofs.Tables.{table-is, length-table, getD-table}
 use Rattle.state_sections.specs.Records.{recordBytes, recordIn}
 use Rattle.state_sections.proofs.Sections.{lens, length-joined, section, moved, end, part, together, at-first}
 use Rattle.state_sections.proofs.Records.{FitWidths, record-back, record-has}
-use Rattle.state.specs.Good.{GoodMotion, GoodNotes}
+use Rattle.state.specs.GoodState.{GoodMotion, GoodNotes}
 use Rattle.state.specs.State.{taskAt}
 use Rattle.state.specs.declared.State.{State}
 use Rattle.state.specs.declared.Task.{Task}
@@ -143,7 +143,7 @@ stack-long l = length-runs (λ (i : ℕ). leBytes 2 (getD l i 0)) 2 (λ i. refl)
 stack-back : (l : List ℕ) (at : ℕ) (v : List ℕ) → length v ≡ mostDepth → ((i : ℕ) → i < mostDepth → getD v i 0 < 65536) → Has l at (stackBytes v) → stackIn l at ≡ v
 unfolding stackIn stackBytes
 stack-back l at v e f h =
-    table-is mostDepth (λ (i : ℕ). numberAt 2 l (at + 2 * i)) v 0 e
+    table-is mostDepth (λ (i : ℕ). leNumberAt 2 l (at + 2 * i)) v 0 e
     (λ k lt. number 2 (getD v k 0) (f k lt) (each (λ (j : ℕ). leBytes 2 (getD v j 0)) 2 (λ j. refl) mostDepth h k lt))
 
 stack-has : (b : List ℕ) (at : ℕ) → Bytes b → Has b at (stackBytes (stackIn b at))
@@ -151,7 +151,7 @@ unfolding stackBytes stackIn
 stack-has b at bytes =
     run (λ (j : ℕ). leBytes 2 (getD (stackIn b at) j 0)) 2 (λ j. refl) mostDepth b at
     (λ k lt.
-    subst (λ (v : ℕ). Has b (at + 2 * k) (leBytes 2 v)) (sym (getD-table mostDepth (λ (j : ℕ). numberAt 2 b (at + 2 * j)) 0 k lt))
+    subst (λ (v : ℕ). Has b (at + 2 * k) (leBytes 2 v)) (sym (getD-table mostDepth (λ (j : ℕ). leNumberAt 2 b (at + 2 * j)) 0 k lt))
     (of-number 2 b (at + 2 * k) bytes))
 
 pub parts-long : (k : Task) → lens (taskParts k) ≡ taskLengths

@@ -17,7 +17,7 @@ use Rattle.image_header.specs.Rows.{accepts}
 use Rattle.image_header.specs.declared.Header.{Header}
 use Rattle.image_header.proofs.Rows.{accepted-good, good-accepted}
 use Rattle.image_number.proofs.Choice.{by, both}
-use Rattle.state.specs.Good.{GoodWait, GoodTask, InRange, GoodCells, GoodMotion, GoodValues, Good}
+use Rattle.state.specs.GoodState.{GoodWait, GoodTask, InRange, GoodCells, GoodMotion, GoodValues, GoodState}
 use Rattle.state.specs.State.{halted, taskAt}
 use Rattle.state.specs.Wait.{due}
 use Rattle.state.specs.declared.Task.{Task}
@@ -25,7 +25,7 @@ use Rattle.state.specs.declared.Cells.{Cells}
 use Rattle.state.specs.declared.Motion.{Motion}
 use Rattle.state.specs.declared.Values.{Values}
 use Rattle.state.specs.declared.State.{State}
-use Rattle.state_layout.specs.Test.{allOf, waitIs, entryIs, taskIs, levelIs, cellsAre, motionIs, notesAre, valuesAre, stateIs}
+use Rattle.state_layout.specs.IsState.{allOf, waitIs, entryIs, taskIs, levelIs, cellsAre, motionIs, notesAre, valuesAre, stateIs}
 
 -- one of two tests was passed
 one : (a b : Bool) → (a || b) ≡ true → (a ≡ true) ⊎ (b ≡ true)
@@ -212,7 +212,7 @@ judged-values s x e =
       notes = record { level = leb-true (v .notes .level) mostLevel (r2 .1) };
     }
 
-pub good-judged : (s : State) → Good s → stateIs s ≡ true
+pub good-judged : (s : State) → GoodState s → stateIs s ≡ true
 unfolding stateIs
 good-judged s g =
     rw (
@@ -223,7 +223,7 @@ good-judged s g =
       task-judged (s .header) (taskAt s mathematics) (g .task mathematics (omega arith)),
     )
 
-pub judged-good : (s : State) → Shaped s → stateIs s ≡ true → Good s
+pub judged-good : (s : State) → Shaped s → stateIs s ≡ true → GoodState s
 unfolding stateIs
 judged-good s x e =
     let r1 = both (accepts (s .header)) _ e in

@@ -2,4 +2,4 @@ pub mod Bounds
 pub mod Codecs
 pub mod Buffer
 pub mod Judged
-pub mod Round
+pub mod RoundTrip

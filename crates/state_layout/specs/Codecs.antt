@@ -10,7 +10,7 @@ use Rattle.num_arith.specs.Wrap.{word}
 use Rattle.num_le.specs.LittleEndian.{leBytes}
 use Rattle.image_header.specs.Numbers.{numbersOf, headerFrom}
 use Rattle.image_header.specs.declared.Header.{Header}
-use Rattle.state_bytes.specs.Places.{numberAt, signedAt, signedBytes, table, runs}
+use Rattle.state_bytes.specs.Bytes.{leNumberAt, signedAt, signedBytes, table, concatenated}
 use Rattle.state_sections.specs.Sections.{joined, total, offset}
 use Rattle.state_sections.specs.Records.{recordBytes, recordIn}
 use Rattle.state.specs.State.{taskAt}
@@ -26,7 +26,7 @@ abbrev pub variablesLength : ℕ
 variablesLength = 4 * cells
 
 unfoldable pub variableBytes : List ℤ → List ℕ
-variableBytes l = runs cells (λ (k : ℕ). signedBytes (getD l k (pos 0)))
+variableBytes l = concatenated cells (λ (k : ℕ). signedBytes (getD l k (pos 0)))
 
 unfoldable pub variablesIn : List ℕ → ℕ → List ℤ
 variablesIn s at = table cells (λ (k : ℕ). signedAt s (at + 4 * k))
@@ -107,10 +107,10 @@ startsIn s at = recordIn startWidths s at
 -- ---- a task: status, depth, block; its call stack; the wait's T and k
 
 unfoldable pub stackBytes : List ℕ → List ℕ
-stackBytes l = runs mostDepth (λ (i : ℕ). leBytes 2 (getD l i 0))
+stackBytes l = concatenated mostDepth (λ (i : ℕ). leBytes 2 (getD l i 0))
 
 unfoldable pub stackIn : List ℕ → ℕ → List ℕ
-stackIn s at = table mostDepth (λ (i : ℕ). numberAt 2 s (at + 2 * i))
+stackIn s at = table mostDepth (λ (i : ℕ). leNumberAt 2 s (at + 2 * i))
 
 abbrev pub taskLengths : List ℕ
 taskLengths = 1 ∷ 1 ∷ 2 ∷ (2 * mostDepth) ∷ 4 ∷ 4 ∷ []
@@ -138,11 +138,11 @@ taskBytes k = joined (taskParts k)
 -- with its start
 abbrev pub taskIn : List ℕ → ℕ → ℕ → Task
 taskIn s at start = record {
-  status = numberAt 1 s at;
-  block = numberAt 2 s (at + taskPart 2);
+  status = leNumberAt 1 s at;
+  block = leNumberAt 2 s (at + taskPart 2);
   start = start;
-  depth = numberAt 1 s (at + taskPart 1);
+  depth = leNumberAt 1 s (at + taskPart 1);
   stack = stackIn s (at + taskPart 3);
-  time = numberAt 4 s (at + taskPart 4);
-  turns = numberAt 4 s (at + taskPart 5);
+  time = leNumberAt 4 s (at + taskPart 4);
+  turns = leNumberAt 4 s (at + taskPart 5);
 }

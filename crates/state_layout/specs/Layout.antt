@@ -1,5 +1,5 @@
 -- The state buffer (docs/STATE.md): its sections, one line for each, in the same order in `lengths` and in `sections`; a state's bytes; and the state that a
--- buffer holds. Every buffer is read as some state; 16 (specs/Test.antt) says which are one.
+-- buffer holds. Every buffer is read as some state; 16 (specs/IsState.antt) says which are one.
 use Prim.Native.Nat.{ℕ, _+_, _-_, _*_}
 use mathlib.Core.List.{List, [], _∷_}
 use lib.ListN.{getD}

@@ -1,3 +1,3 @@
 pub mod Codecs
 pub mod Layout
-pub mod Test
+pub mod IsState

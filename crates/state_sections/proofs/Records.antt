@@ -6,7 +6,7 @@ use mathlib.Core.List.{List, [], _∷_}
 use lib.ListN.{length}
 use Rattle.num_le.specs.LittleEndian.{Bytes, leBytes}
 use Rattle.num_le.proofs.LittleEndian.{bytes-length}
-use Rattle.state_bytes.specs.Places.{numberAt, puts}
+use Rattle.state_bytes.specs.Bytes.{leNumberAt, puts}
 use Rattle.state_bytes.proofs.Has.{Has, left, right, nil, join, number, of-number}
 use Rattle.state_sections.specs.Sections.{joined, total}
 use Rattle.state_sections.specs.Records.{packed, recordBytes, unpacked, recordIn}
@@ -54,7 +54,7 @@ unpacked-has : (ws l : List ℕ) (at off : ℕ) → Bytes l → Has l (at + off)
 unfolding joined
 unpacked-has [] l at off b = nil
 unpacked-has (w ∷ ws) l at off b =
-    join (leBytes w (numberAt w l (at + off))) (joined (packed ws (unpacked ws l at (off + w)))) w (bytes-length w _) (of-number w l (at + off) b)
+    join (leBytes w (leNumberAt w l (at + off))) (joined (packed ws (unpacked ws l at (off + w)))) w (bytes-length w _) (of-number w l (at + off) b)
     (moved (at + (off + w)) (at + off + w) (omega arith) (unpacked-has ws l at (off + w) b))
 
 pub record-has : (ws l : List ℕ) (at : ℕ) → Bytes l → Has l at (recordBytes ws (recordIn ws l at))

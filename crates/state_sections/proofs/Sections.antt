@@ -5,8 +5,8 @@ use native.Mathlib.Omega.{arith}
 use mathlib.Core.List.{List, [], _∷_}
 use lib.ListN.{length, getD, replicate, length-append, length-replicate, getD-replicate}
 use lib.Seq.{ext-getD}
-use Rattle.state_bytes.specs.Places.{puts}
-use Rattle.state_bytes.proofs.Runs.{next, into-zeros}
+use Rattle.state_bytes.specs.Bytes.{puts}
+use Rattle.state_bytes.proofs.Puts.{next, into-zeros}
 use Rattle.state_bytes.proofs.Has.{Has, whole, left, right, nil, join}
 use Rattle.state_sections.specs.Sections.{joined, total, offset, filled}
 

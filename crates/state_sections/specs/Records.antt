@@ -2,7 +2,7 @@
 use Prim.Native.Nat.{ℕ, _+_}
 use mathlib.Core.List.{List, [], _∷_}
 use Rattle.num_le.specs.LittleEndian.{leBytes}
-use Rattle.state_bytes.specs.Places.{numberAt}
+use Rattle.state_bytes.specs.Bytes.{leNumberAt}
 use Rattle.state_sections.specs.Sections.{joined}
 
 -- the bytes of each number, by the widths
@@ -18,7 +18,7 @@ recordBytes widths numbers = joined (packed widths numbers)
 -- the numbers of these widths that stand `off` bytes behind a place
 abbrev pub unpacked : List ℕ → List ℕ → ℕ → ℕ → List ℕ
 unpacked [] s at off = []
-unpacked (w ∷ ws) s at off = numberAt w s (at + off) ∷ unpacked ws s at (off + w)
+unpacked (w ∷ ws) s at off = leNumberAt w s (at + off) ∷ unpacked ws s at (off + w)
 
 -- the numbers of the record at a place
 abbrev pub recordIn : List ℕ → List ℕ → ℕ → List ℕ

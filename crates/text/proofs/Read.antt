@@ -16,8 +16,8 @@ use Rattle.image_number.proofs.Choice.{by}
 use Rattle.io.specs.Digits.{digits, Fewest}
 use Rattle.num_arith.specs.Wrap.{word}
 use Rattle.num_arith.proofs.Cut.{word-same}
-use Rattle.text_hex.specs.Hex.{digitOf, byteOf, bytesOf, allBytes}
-use Rattle.text.specs.Text.{digit, digitsOf, decimalOf, minus, signedOf, hexDigit, hexOf, hexFirst, hexAll, valueFrom, valueOf, below, signedValueOf, Digits}
+use Rattle.text_hex.specs.Hex.{digitOf, hexByte, hexBytes, allBytes}
+use Rattle.text.specs.Text.{digit, digitsOf, decimalOf, minus, signedOf, hexDigit, hexOf, hexFirst, hexAll, valueFrom, decimalValue, below, signedValueOf, Digits}
 
 -- ---- digits, by the fuel
 
@@ -71,10 +71,10 @@ value-more v [] d = refl
 value-more v (b ∷ ds) d = value-more (10 * v + (b - 48)) ds d
 
 -- the number of the digits is the number
-pub read-back : (n : ℕ) → valueOf (decimalOf n) ≡ n
-unfolding valueOf valueFrom
+pub read-back : (n : ℕ) → decimalValue (decimalOf n) ≡ n
+unfolding decimalValue valueFrom
 read-back =
-    by-digits (λ n ds. valueOf ds ≡ n)
+    by-digits (λ n ds. decimalValue ds ≡ n)
     (λ n h. omega arith)
     (λ n h e. value-more 0 (decimalOf (n / 10)) (digit (n % 10)) ∙ (let q : valueFrom 0 (decimalOf (n / 10)) ≡ n / 10 = e in rw q (omega arith)))
 
@@ -121,7 +121,7 @@ pub signed-back : (z : ℤ) → signedValueOf (signedOf z) ≡ z
 unfolding signedValueOf signedOf
 signed-back (pos n) = unsigned (decimalOf n) (first-digit n .0) (λ l. all-digits n 0 l .0) ∙ ap pos (read-back n)
   where
-    unsigned : (ds : List ℕ) → 0 < length ds → (0 < length ds → digit 0 ≤ getD ds 0 0) → signedValueOf ds ≡ pos (valueOf ds)
+    unsigned : (ds : List ℕ) → 0 < length ds → (0 < length ds → digit 0 ≤ getD ds 0 0) → signedValueOf ds ≡ pos (decimalValue ds)
     unsigned [] l d = absurd (omega arith)
     unsigned (b ∷ ds) l d = let g = d l in rw (ne-eqb b minus (λ e. omega arith))
 signed-back (negsuc n) = ap below (read-back (suc n))
@@ -141,15 +141,15 @@ digit-back d h = by d 10 (λ l. rw (lt-ltb d 10 l) (decimal l)) (λ l. rw (le-lt
         let z : (55 + d) / 64 ≡ 1 = omega arith in
         rw (q, z) (omega arith)
 
--- two hexadecimal digits give the byte back, as `hex` reads them
-pub hex-back : (b : ℕ) → b < 256 → byteOf (hexDigit (b / 16)) (hexDigit (b % 16)) ≡ b
+-- two hexadecimal digits give the byte back, as `text_hex` reads them
+pub hex-back : (b : ℕ) → b < 256 → hexByte (hexDigit (b / 16)) (hexDigit (b % 16)) ≡ b
 hex-back b h = rw (digit-back (b / 16) (omega arith), digit-back (b % 16) (omega arith)) (omega arith)
 
 -- ---- bytes in hexadecimal digits give the bytes back
 
 -- digits behind those of n bytes play no part
-first-digits : (l rest : List ℕ) (n : ℕ) → 2 * n ≤ length l → bytesOf (l ++ rest) n ≡ bytesOf l n
-unfolding bytesOf
+first-digits : (l rest : List ℕ) (n : ℕ) → 2 * n ≤ length l → hexBytes (l ++ rest) n ≡ hexBytes l n
+unfolding hexBytes
 first-digits l rest zero h = refl
 first-digits l rest (suc n) h =
     rw (first-digits l rest n (omega arith), List·getD-append l rest 0 (2 * n) (omega arith), List·getD-append l rest 0 (2 * n + 1) (omega arith))
@@ -160,8 +160,8 @@ module _ (bs : List ℕ) (bytes : (k : ℕ) → k < length bs → getD bs k 0 < 
   hex-length zero = refl
   hex-length (suc n) = let e = hex-length n in omega (arith, length-append (hexFirst bs n) (hexOf (getD bs n 0)))
 
-  first-back : (n : ℕ) → n ≤ length bs → bytesOf (hexFirst bs n) n ≡ take n bs
-  unfolding hexFirst hexOf bytesOf
+  first-back : (n : ℕ) → n ≤ length bs → hexBytes (hexFirst bs n) n ≡ take n bs
+  unfolding hexFirst hexOf hexBytes
   first-back zero h = refl
   first-back (suc n) h =
       let l = hexFirst bs n in

@@ -56,8 +56,8 @@ valueFrom v [] = v
 valueFrom v (d ∷ ds) = valueFrom (10 * v + (d - 48)) ds
 
 -- the number of decimal digits
-unfoldable pub valueOf : List ℕ → ℕ
-valueOf ds = valueFrom 0 ds
+unfoldable pub decimalValue : List ℕ → ℕ
+decimalValue ds = valueFrom 0 ds
 
 -- the number that lies n below 0
 abbrev pub below : ℕ → ℤ
@@ -67,7 +67,7 @@ below (suc n) = negsuc n
 -- the signed number of a text
 unfoldable pub signedValueOf : List ℕ → ℤ
 signedValueOf [] = pos 0
-signedValueOf (b ∷ ds) = cond (eqb b minus) (below (valueOf ds)) (pos (valueOf (b ∷ ds)))
+signedValueOf (b ∷ ds) = cond (eqb b minus) (below (decimalValue ds)) (pos (decimalValue (b ∷ ds)))
 
 -- every byte is a decimal digit
 abbrev pub Digits : List ℕ → Type 0

@@ -7,14 +7,14 @@ use lib.ListN.{length, getD}
 abbrev pub digitOf : ℕ → ℕ
 digitOf c = (c % 16 + 9 * (c / 64)) % 16
 
-abbrev pub byteOf : ℕ → ℕ → ℕ
-byteOf high low = 16 * digitOf high + digitOf low
+abbrev pub hexByte : ℕ → ℕ → ℕ
+hexByte high low = 16 * digitOf high + digitOf low
 
 -- the first n bytes of a line
-unfoldable pub bytesOf : List ℕ → ℕ → List ℕ
-bytesOf line zero = []
-bytesOf line (suc n) = bytesOf line n ++ (byteOf (getD line (2 * n) 0) (getD line (2 * n + 1) 0) ∷ [])
+unfoldable pub hexBytes : List ℕ → ℕ → List ℕ
+hexBytes line zero = []
+hexBytes line (suc n) = hexBytes line n ++ (hexByte (getD line (2 * n) 0) (getD line (2 * n + 1) 0) ∷ [])
 
 -- all of them
 abbrev pub allBytes : List ℕ → List ℕ
-allBytes line = bytesOf line (length line / 2)
+allBytes line = hexBytes line (length line / 2)

@@ -4,13 +4,13 @@ ghost use mathlib.Core.List.{_++_};
 ghost use Prim.Native.Nat.{_/_, min};
 ghost use lib.ListN.{length, drop};
 ghost use Rattle.io.specs.Counts.{Counts};
-ghost use Rattle.text_hex.specs.Hex.{digitOf, byteOf, bytesOf};
+ghost use Rattle.text_hex.specs.Hex.{digitOf, hexByte, hexBytes};
 
 // Puts the bytes of a line's digits to the front of out, as many as there are and as it has room for; gives how many.
 pub fn decode(line: &[u8], out: &mut [u8]) -> usize
     ensures { λ r. ⌜ r ≡ min (length (now (line .entry)) / 2) (length (now (out .entry))) ⌝ }
     ensures { λ r. ⌜ Counts r (now (out .exit)) ⌝ }
-    ensures { λ r. ⌜ now (out .exit) ≡ bytesOf (now (line .entry)) r ++ drop r (now (out .entry)) ⌝ }
+    ensures { λ r. ⌜ now (out .exit) ≡ hexBytes (now (line .entry)) r ++ drop r (now (out .entry)) ⌝ }
 {
     let n = least(line.len() / 2, out.len());
     let mut i = 0;
@@ -29,7 +29,7 @@ fn least(a: usize, b: usize) -> usize
 
 // The byte of two digits.
 fn byte(high: u8, low: u8) -> u8
-    ensures { λ r. ⌜ r ≡ byteOf high low ⌝ }
+    ensures { λ r. ⌜ r ≡ hexByte high low ⌝ }
 {
     16 * digit(high) + digit(low)
 }

@@ -5,7 +5,7 @@ use mathlib.Core.List.{List}
 use lib.Dec.{eqb}
 use lib.ListN.{getD}
 use Rattle.limits.specs.Limits.{bias, plc, mathematics, cells}
-use Rattle.state_bytes.specs.Places.{numberAt}
+use Rattle.state_bytes.specs.Bytes.{leNumberAt}
 use Rattle.state_layout.specs.Codecs.{taskLength}
 use Rattle.state_layout.specs.Layout.{variablesAt, flagsAt, outputsAt, motionAt, notesAt, startsAt, taskPlace}
 
@@ -35,5 +35,5 @@ unchanged a b =
     && (same a b (taskPlace bias) taskLength && (same a b (taskPlace plc) taskLength && same a b (taskPlace mathematics) taskLength))))))
 
 -- a number of one, two or four bytes
-unfoldable pub valueAt : List ℕ → ℕ → ℕ → ℕ
-valueAt b at n = cond (eqb n 4) (numberAt 4 b at) (cond (eqb n 2) (numberAt 2 b at) (numberAt 1 b at))
+unfoldable pub shownAt : List ℕ → ℕ → ℕ → ℕ
+shownAt b at n = cond (eqb n 4) (leNumberAt 4 b at) (cond (eqb n 2) (leNumberAt 2 b at) (leNumberAt 1 b at))

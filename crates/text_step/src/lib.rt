@@ -15,12 +15,12 @@ ghost use lib.Dec.{eqb, ltb};
 ghost use lib.ListN.{length};
 ghost use Rattle.limits.specs.Limits.{taskCount, cells, stateLength};
 ghost use Rattle.image_header.specs.Scan.{blocksOf};
-ghost use Rattle.walk.specs.Program.{blockAt};
+ghost use Rattle.walk.specs.Blocks.{blockAt};
 ghost use Rattle.state.specs.State.{runs};
-ghost use Rattle.state_bytes.specs.Places.{numberAt};
+ghost use Rattle.state_bytes.specs.Bytes.{leNumberAt};
 ghost use Rattle.state_layout.specs.Codecs.{taskLength};
 ghost use Rattle.state_layout.specs.Layout.{taskPlace};
-ghost use Rattle.text_step.specs.Changes.{same, sameCells, sameAxis, sameStarts, unchanged, valueAt};
+ghost use Rattle.text_step.specs.Changes.{same, sameCells, sameAxis, sameStarts, unchanged, shownAt};
 
 // The line of a step; a is the state buffer before it, b the one behind it. Gives whether nothing changed.
 pub fn show_step(
@@ -61,7 +61,7 @@ pub fn show_load(v: BiasVerdict) -> u32
 
 // The block and the command that a running task is at; gives whether it runs.
 fn show_place(image: &[u8], a: &[u8; STATE_LENGTH], task: u32) -> bool
-    ensures { λ s. ⌜ s ≡ ltb task taskCount && eqb (numberAt 1 (now (a .entry)) (taskPlace task)) runs ⌝ }
+    ensures { λ s. ⌜ s ≡ ltb task taskCount && eqb (leNumberAt 1 (now (a .entry)) (taskPlace task)) runs ⌝ }
 {
     if task >= TASK_COUNT {
         return false;
@@ -248,8 +248,14 @@ fn show_task(a: &[u8; STATE_LENGTH], b: &[u8; STATE_LENGTH], t: u8, nothing: boo
     text_print::show(b" at ", state_bytes::word(b, at + 2) as u64);
     text_print::show(b" depth ", state_bytes::byte(b, at + 1) as u64);
     text_print::show(b" status ", state_bytes::byte(b, at) as u64);
-    text_print::show(b" wait ", state_bytes::long(b, at + state_layout::TIME_AT) as u64);
-    text_print::show(b" ", state_bytes::long(b, at + state_layout::TURNS_AT) as u64);
+    text_print::show(
+        b" wait ",
+        state_bytes::long(b, at + state_layout::TIME_AT) as u64,
+    );
+    text_print::show(
+        b" ",
+        state_bytes::long(b, at + state_layout::TURNS_AT) as u64,
+    );
     false
 }
 
@@ -265,7 +271,7 @@ fn show_comma(nothing: bool) -> bool
 
 // A number of so many bytes: of four bytes a signed one. Gives the bytes as a number.
 fn show_value(b: &[u8; STATE_LENGTH], at: u16, width: u16) -> u32
-    ensures { λ s. ⌜ s ≡ valueAt (now (b .entry)) at width ⌝ }
+    ensures { λ s. ⌜ s ≡ shownAt (now (b .entry)) at width ⌝ }
 {
     if width == 4 {
         text_print::show_signed(b" = ", state_bytes::signed(b, at));

@@ -10,11 +10,11 @@ use lib.Seq.{take-all, length-take-le, getD-take}
 use lib.Dec.{eqb, ltb}
 use borrow.Author.Tests.{lt-ltb, le-ltb}
 use Rattle.limits.specs.Limits.{blockLength}
-use Rattle.image_result.specs.Outcome.{done}
+use Rattle.image_result.specs.ImageResult.{done}
 use Rattle.image_number.specs.Number.{numberAt, firstByte, secondByte}
 use Rattle.image_header.specs.Rows.{rowCount}
-use Rattle.image_header.specs.Scan.{fromImage, taken, more, scan, mostHeaderBytes, firstRefusal, lengthOutcome, readWith, closed, headerOf, blocksOf, scannedHeader}
-use Rattle.image_result.specs.declared.Outcome.the-variants.{LeftOver}
+use Rattle.image_header.specs.Scan.{fromImage, taken, more, scan, mostHeaderBytes, firstRefusal, lengthResult, readWith, closed, headerOf, blocksOf, scannedHeader}
+use Rattle.image_result.specs.declared.ImageResult.the-variants.{LeftOver}
 use Rattle.image_number.specs.declared.Number.{Number}
 use Rattle.image_number.specs.declared.Number.the-variants.{Value}
 use Rattle.image_header.specs.declared.reader.Scan.{Scan}
@@ -54,7 +54,7 @@ module _ (a b : List ℕ) (long-a : longestImage < length a) (long-b : longestIm
 
   same-more : (row : ℕ) (s : Scan) → s .at + 1 < mostHeaderBytes → more (length a) (fromImage a) row s ≡ more (length b) (fromImage b) row s
   unfolding more
-  same-more row s h = ap (λ (x : Scan). cond (done (s .outcome)) x s) (same-taken row s h)
+  same-more row s h = ap (λ (x : Scan). cond (done (s .result)) x s) (same-taken row s h)
 
   same-scan : (k : ℕ) → k ≤ rowCount → scan (length a) (fromImage a) k ≡ scan (length b) (fromImage b) k
   unfolding scan
@@ -65,18 +65,18 @@ module _ (a b : List ℕ) (long-a : longestImage < length a) (long-b : longestIm
       same-more k (scan (length a) (fromImage a) k) (omega arith) ∙ ap (λ (s : Scan). more (length b) (fromImage b) k s) e
 
   -- the numbers of a, where the scan let them pass, leave room for no byte more
-  within : done (scan (length a) (fromImage a) rowCount .outcome) ≡ true → scan (length a) (fromImage a) rowCount .at + blockLength * scannedHeader (scan (length a) (fromImage a) rowCount) .count ≤ longestImage
+  within : done (scan (length a) (fromImage a) rowCount .result) ≡ true → scan (length a) (fromImage a) rowCount .at + blockLength * scannedHeader (scan (length a) (fromImage a) rowCount) .count ≤ longestImage
   within h = image-end (length a) (fromImage a) (image-sized a) (accepted-header (length a) (fromImage a) h)
 
-  left-over : (at count n : ℕ) → at + blockLength * count ≤ longestImage → longestImage < n → lengthOutcome at count n ≡ LeftOver (at + blockLength * count)
-  unfolding lengthOutcome
+  left-over : (at count n : ℕ) → at + blockLength * count ≤ longestImage → longestImage < n → lengthResult at count n ≡ LeftOver (at + blockLength * count)
+  unfolding lengthResult
   left-over at count n h l = rw (le-ltb n (at + blockLength * count) (omega arith), lt-ltb (at + blockLength * count) n (omega arith))
 
-  same-length : (s : Scan) → (done (s .outcome) ≡ true → s .at + blockLength * scannedHeader s .count ≤ longestImage) → closed s (length a) ≡ closed s (length b)
+  same-length : (s : Scan) → (done (s .result) ≡ true → s .at + blockLength * scannedHeader s .count ≤ longestImage) → closed s (length a) ≡ closed s (length b)
   unfolding closed firstRefusal
-  same-length s h = ap (readWith s) (go (done (s .outcome)) refl)
+  same-length s h = ap (readWith s) (go (done (s .result)) refl)
     where
-      go : (t : Bool) → done (s .outcome) ≡ t → cond t (lengthOutcome (s .at) (scannedHeader s .count) (length a)) (s .outcome) ≡ cond t (lengthOutcome (s .at) (scannedHeader s .count) (length b)) (s .outcome)
+      go : (t : Bool) → done (s .result) ≡ t → cond t (lengthResult (s .at) (scannedHeader s .count) (length a)) (s .result) ≡ cond t (lengthResult (s .at) (scannedHeader s .count) (length b)) (s .result)
       go true e = left-over (s .at) (scannedHeader s .count) (length a) (h e) long-a ∙ sym (left-over (s .at) (scannedHeader s .count) (length b) (h e) long-b)
       go false e = refl
 
@@ -87,7 +87,7 @@ module _ (a b : List ℕ) (long-a : longestImage < length a) (long-b : longestIm
       ∙ ap (λ (s : Scan). closed s (length b)) (same-scan rowCount (omega arith))
 
   -- it is refused, and has no blocks
-  refused : (t : Bool) → done (headerOf a .outcome) ≡ t → t ≡ false
+  refused : (t : Bool) → done (headerOf a .result) ≡ t → t ≡ false
   refused false e = refl
   refused true e =
       let r = read-fine a e in
@@ -98,7 +98,7 @@ module _ (a b : List ℕ) (long-a : longestImage < length a) (long-b : longestIm
   same-blocks : blocksOf a ≡ blocksOf b
   unfolding blocksOf
   same-blocks =
-      let e = refused (done (headerOf a .outcome)) refl in
+      let e = refused (done (headerOf a .result)) refl in
       rw (← same-header, e)
 
   same-verdict : (marks : ℕ) → verdictOf a marks ≡ verdictOf b marks

@@ -13,16 +13,16 @@ use Rattle.image_header.specs.Rows as header
 use Rattle.image_header.specs.Scan as scan
 use Rattle.command_table.specs.Rows as rows
 use Rattle.command_operands.specs.Operands as operands
-use Rattle.command_judge.specs.Judged as judged
+use Rattle.command_judge.specs.BlockFault as judged
 use Rattle.walk_flow.specs.Flow as flow
-use Rattle.walk_flow.specs.Tasks as tasks
-use Rattle.walk_point.specs.Fault as fault
-use Rattle.walk.specs.Program as program
+use Rattle.walk_flow.specs.Permission as tasks
+use Rattle.walk_point.specs.PointFault as fault
+use Rattle.walk.specs.Blocks as program
 use Rattle.walk.specs.Index.{indexOf, pointAt}
 use Rattle.walk.specs.Successors as successors
 use Rattle.walk.specs.Graph.{least}
 use Rattle.walk.specs.Verdict as verdict
-use Rattle.walk.proofs.Fast.{closureFast, walksFast, blocksFast, readFast, verdictFast, fast-is}
+use Rattle.walk.proofs.Verdicts.Fast.{closureFast, walksFast, blocksFast, readFast, verdictFast, fast-is}
 use Rattle.walk.specs.Verdict.{verdictOf, verdictNumber, verdictPlace, verdictTask, verdictDepth}
 use Rattle.walk.specs.declared.Verdict.{Verdict}
 use Rattle.text_verdict.specs.Line.{lineRoom, lineOf, Holds}
@@ -50,13 +50,13 @@ documented =
     ∷ 32 ∷ 116 ∷ 97 ∷ 115 ∷ 107 ∷ 32 ∷ 48
     ∷ 32 ∷ 100 ∷ 101 ∷ 112 ∷ 116 ∷ 104 ∷ 32 ∷ 48 ∷ 10 ∷ []
 
--- by the verdict's fast twin (crates/walk/proofs/Fast.antt)
+-- by the verdict's fast twin (crates/walk/proofs/Verdicts/Fast.antt)
 computed : lineOf (verdictFast caseB marksLength) ≡ documented
 unfolding lineOf decimalOf digitsOf
     types.takes
     number.numberBytes number.secondByte number.firstByte number.numberAt
     header.checked header.firstSame header.sameHeader scan.standsAt scan.judged
-    scan.taken scan.more scan.scan scan.firstRefusal scan.lengthOutcome scan.readWith scan.closed scan.headerOf scan.blocksOf
+    scan.taken scan.more scan.scan scan.firstRefusal scan.lengthResult scan.readWith scan.closed scan.headerOf scan.blocksOf
     rows.rows rows.rowIn rows.rowOf
     operands.operands operands.allZero operands.unusedZero
     judged.operandFault judged.commandFault judged.rowFault judged.blockFault

@@ -1,15 +1,15 @@
 // Runs vectors with known answers over the crates arith, drive, image and loader, a line for each, and a table of the pins of every drive.
 // What it prints is held to the file stdout, whose answers are document 01's. Each function shows what it does, and gives it back.
-use num_arith::Quotient;
 use drive::Drive;
 use drive::Presence;
+use drive_pins::PinKind;
 use image_header::reader;
 use image_header::reader::HeaderRead;
-use libc::STDOUT_FILENO;
 use image_number::Number;
-use image_result::Outcome;
-use drive_pins::PinKind;
+use image_result::ImageResult;
 use image_writer::Written;
+use libc::STDOUT_FILENO;
+use num_arith::Quotient;
 ghost use mathlib.Core.Path.{_≡_};
 ghost use mathlib.Core.List.{[], _∷_};
 ghost use Prim.Native.Nat.{_+_};
@@ -24,7 +24,7 @@ ghost use Rattle.image_header.specs.Scan.{headerOf};
 ghost use Rattle.walk.specs.Verdict.{acceptedBlocks};
 ghost use Rattle.image_writer.specs.Writer.{written, outAfter};
 ghost use Rattle.drive_pins.specs.declared.PinKind.the-variants.{Input, OutputWritten, OutputRead};
-ghost use Rattle.image_result.specs.declared.Outcome.the-variants.{Done, EndsEarly, NotShortest, OutOfRange, LeftOver, NoRoom};
+ghost use Rattle.image_result.specs.declared.ImageResult.the-variants.{Done, EndsEarly, NotShortest, OutOfRange, LeftOver, NoRoom};
 ghost use Rattle.image_number.specs.declared.Number.{Number};
 ghost use Rattle.vectors.specs.Pins.{presentPins, shownPin};
 
@@ -103,41 +103,41 @@ fn number_rows() -> [Number; 10]
 }
 
 // Document 01's cases A and C and the accepted image of I; then A cut by a byte, A with a byte more, and no byte.
-fn case_rows() -> [Outcome; 6]
+fn case_rows() -> [ImageResult; 6]
     ensures { λ r. ⌜ r ≡ Done ∷ OutOfRange 4 ∷ Done ∷ EndsEarly 13 ∷ LeftOver 14 ∷ EndsEarly 0 ∷ [] ⌝ }
 {
     [
-        header_outcome(b"\x01\x02\x00\x00\x00\x01\x55\x00\x00\x00\x00\x00\x00\x00"),
-        header_outcome(b"\x01\x02\x00\x00\x01\x01\x55\x00\x00\x00\x00\x00\x00\x00"),
-        header_outcome(
+        header_result(b"\x01\x02\x00\x00\x00\x01\x55\x00\x00\x00\x00\x00\x00\x00"),
+        header_result(b"\x01\x02\x00\x00\x01\x01\x55\x00\x00\x00\x00\x00\x00\x00"),
+        header_result(
             b"\x01\x02\x00\x00\x00\x02\x72\x0c\x01\x00\x00\x00\x00\x00\x55\x00\x00\x00\x00\x00\x00\x00",
         ),
-        header_outcome(b"\x01\x02\x00\x00\x00\x01\x55\x00\x00\x00\x00\x00\x00"),
-        header_outcome(b"\x01\x02\x00\x00\x00\x01\x55\x00\x00\x00\x00\x00\x00\x00\x00"),
-        header_outcome(b""),
+        header_result(b"\x01\x02\x00\x00\x00\x01\x55\x00\x00\x00\x00\x00\x00"),
+        header_result(b"\x01\x02\x00\x00\x00\x01\x55\x00\x00\x00\x00\x00\x00\x00\x00"),
+        header_result(b""),
     ]
 }
 
 // Headers that are refused by 2 or 3, one that is accepted, and one that ends early. Behind all but the last stands A's block.
-fn range_rows() -> [Outcome; 11]
+fn range_rows() -> [ImageResult; 11]
     ensures { λ r. ⌜ r ≡ NotShortest 1 ∷ OutOfRange 0 ∷ OutOfRange 1 ∷ OutOfRange 2 ∷ OutOfRange 2 ∷ OutOfRange 3 ∷ Done ∷ OutOfRange 5 ∷ OutOfRange 5 ∷ OutOfRange 4 ∷ EndsEarly 8 ∷ [] ⌝ }
 {
     [
         // Type 2 in two bytes.
-        header_outcome(b"\x01\x82\x00\x00\x00\x00\x01\x55\x00\x00\x00\x00\x00\x00\x00"),
+        header_result(b"\x01\x82\x00\x00\x00\x00\x01\x55\x00\x00\x00\x00\x00\x00\x00"),
         // Format 2, type 5.
-        header_outcome(b"\x02\x02\x00\x00\x00\x01\x55\x00\x00\x00\x00\x00\x00\x00"),
-        header_outcome(b"\x01\x05\x00\x00\x00\x01\x55\x00\x00\x00\x00\x00\x00\x00"),
+        header_result(b"\x02\x02\x00\x00\x00\x01\x55\x00\x00\x00\x00\x00\x00\x00"),
+        header_result(b"\x01\x05\x00\x00\x00\x01\x55\x00\x00\x00\x00\x00\x00\x00"),
         // RP-2C8 on type 3, a board in each slot of a 631, RP-2C8 and RP-SBT on type 4.
-        header_outcome(b"\x01\x03\x02\x00\x00\x01\x55\x00\x00\x00\x00\x00\x00\x00"),
-        header_outcome(b"\x01\x00\x01\x00\x00\x01\x55\x00\x00\x00\x00\x00\x00\x00"),
-        header_outcome(b"\x01\x00\x00\x01\x00\x01\x55\x00\x00\x00\x00\x00\x00\x00"),
-        header_outcome(b"\x01\x04\x02\x02\x00\x01\x55\x00\x00\x00\x00\x00\x00\x00"),
+        header_result(b"\x01\x03\x02\x00\x00\x01\x55\x00\x00\x00\x00\x00\x00\x00"),
+        header_result(b"\x01\x00\x01\x00\x00\x01\x55\x00\x00\x00\x00\x00\x00\x00"),
+        header_result(b"\x01\x00\x00\x01\x00\x01\x55\x00\x00\x00\x00\x00\x00\x00"),
+        header_result(b"\x01\x04\x02\x02\x00\x01\x55\x00\x00\x00\x00\x00\x00\x00"),
         // Counts 0 and 1501; start 128 with counts 1 and 1500, the last without blocks.
-        header_outcome(b"\x01\x02\x00\x00\x00\x00\x55\x00\x00\x00\x00\x00\x00\x00"),
-        header_outcome(b"\x01\x02\x00\x00\x00\xdd\x0b\x55\x00\x00\x00\x00\x00\x00\x00"),
-        header_outcome(b"\x01\x02\x00\x00\x80\x01\x01\x55\x00\x00\x00\x00\x00\x00\x00"),
-        header_outcome(b"\x01\x02\x00\x00\x80\x01\xdc\x0b"),
+        header_result(b"\x01\x02\x00\x00\x00\x00\x55\x00\x00\x00\x00\x00\x00\x00"),
+        header_result(b"\x01\x02\x00\x00\x00\xdd\x0b\x55\x00\x00\x00\x00\x00\x00\x00"),
+        header_result(b"\x01\x02\x00\x00\x80\x01\x01\x55\x00\x00\x00\x00\x00\x00\x00"),
+        header_result(b"\x01\x02\x00\x00\x80\x01\xdc\x0b"),
     ]
 }
 
@@ -161,22 +161,22 @@ fn block_rows() -> [usize; 6]
 }
 
 // Case A, then headers and lengths of blocks that are refused.
-fn write_rows() -> [Outcome; 8]
+fn write_rows() -> [ImageResult; 8]
     ensures { λ r. ⌜ r ≡ Done ∷ OutOfRange 0 ∷ OutOfRange 2 ∷ OutOfRange 6 ∷ OutOfRange 5 ∷ OutOfRange 4 ∷ EndsEarly 7 ∷ LeftOver 16 ∷ [] ⌝ }
 {
     let a = b"\x55\x00\x00\x00\x00\x00\x00\x00";
     [
-        write_outcome([1, 2, 0, 0, 0, 1], a),
+        write_result([1, 2, 0, 0, 0, 1], a),
         // Format 2; RP-2C8 on type 3.
-        write_outcome([2, 2, 0, 0, 0, 1], a),
-        write_outcome([1, 3, 2, 0, 0, 1], a),
+        write_result([2, 2, 0, 0, 0, 1], a),
+        write_result([1, 3, 2, 0, 0, 1], a),
         // Count 0 behind a start of two bytes and of one; a start that no number of two bytes is.
-        write_outcome([1, 2, 0, 0, 200, 0], a),
-        write_outcome([1, 2, 0, 0, 5, 0], a),
-        write_outcome([1, 2, 0, 0, 70000, 1], a),
+        write_result([1, 2, 0, 0, 200, 0], a),
+        write_result([1, 2, 0, 0, 5, 0], a),
+        write_result([1, 2, 0, 0, 70000, 1], a),
         // Blocks of 7 and of 16 bytes.
-        write_outcome([1, 2, 0, 0, 0, 1], b"\x55\x00\x00\x00\x00\x00\x00"),
-        write_outcome(
+        write_result([1, 2, 0, 0, 0, 1], b"\x55\x00\x00\x00\x00\x00\x00"),
+        write_result(
             [1, 2, 0, 0, 0, 1],
             b"\x55\x00\x00\x00\x00\x00\x00\x00\x55\x00\x00\x00\x00\x00\x00\x00",
         ),
@@ -184,7 +184,7 @@ fn write_rows() -> [Outcome; 8]
 }
 
 // Case A into 13 bytes and into 14.
-fn room_rows() -> [Outcome; 2]
+fn room_rows() -> [ImageResult; 2]
     ensures { λ r. ⌜ r ≡ NoRoom 14 ∷ Done ∷ [] ⌝ }
 {
     let mut short = [0xaau8; 13];
@@ -192,8 +192,8 @@ fn room_rows() -> [Outcome; 2]
     let a = b"\x55\x00\x00\x00\x00\x00\x00\x00";
     let refused = write_row([1, 2, 0, 0, 0, 1], a, &mut short);
     let accepted = write_row([1, 2, 0, 0, 0, 1], a, &mut exact);
-    let first = refused.outcome;
-    let second = accepted.outcome;
+    let first = refused.result;
+    let second = accepted.result;
     [first, second]
 }
 
@@ -314,11 +314,11 @@ fn number_row(bytes: &[u8]) -> Number
 }
 
 // What comes of an image's header.
-fn header_outcome(image: &[u8]) -> Outcome
-    ensures { λ r. ⌜ r ≡ headerOf (now (image .entry)) .outcome ⌝ }
+fn header_result(image: &[u8]) -> ImageResult
+    ensures { λ r. ⌜ r ≡ headerOf (now (image .entry)) .result ⌝ }
 {
     let r = header_row(image);
-    r.outcome
+    r.result
 }
 
 // The header of an image, and how long its blocks are.
@@ -355,11 +355,11 @@ fn show_blocks(blocks: &[u8]) -> usize
 fn show_header(r: HeaderRead) -> HeaderRead
     ensures { λ s. ⌜ s ≡ r ⌝ }
 {
-    let outcome = r.outcome;
+    let result = r.result;
     let header = r.header;
     let d = header.drive;
     io::write_all(STDOUT_FILENO, b"header ");
-    show_outcome(outcome);
+    show_result(result);
     text_print::show(b": format ", header.format as u64);
     io::write_all(STDOUT_FILENO, b" ");
     show_drive(d);
@@ -370,12 +370,12 @@ fn show_header(r: HeaderRead) -> HeaderRead
 }
 
 // A refusal's number and place.
-fn show_outcome(outcome: Outcome) -> Outcome
-    ensures { λ r. ⌜ r ≡ outcome ⌝ }
+fn show_result(result: ImageResult) -> ImageResult
+    ensures { λ r. ⌜ r ≡ result ⌝ }
 {
-    text_print::show(b"refusal ", outcome.number() as u64);
-    text_print::show(b" place ", outcome.place() as u64);
-    outcome
+    text_print::show(b"refusal ", result.number() as u64);
+    text_print::show(b" place ", result.place() as u64);
+    result
 }
 
 // A drive's type and boards.
@@ -389,12 +389,12 @@ fn show_drive(d: Drive) -> Drive
 }
 
 // What comes of writing into a buffer of 16 bytes, each AA.
-fn write_outcome(numbers: [u32; 6], blocks: &[u8]) -> Outcome
-    ensures { λ r. ⌜ r ≡ written numbers (length (now (blocks .entry))) 16 .outcome ⌝ }
+fn write_result(numbers: [u32; 6], blocks: &[u8]) -> ImageResult
+    ensures { λ r. ⌜ r ≡ written numbers (length (now (blocks .entry))) 16 .result ⌝ }
 {
     let mut out = [0xaau8; 16];
     let w = write_row(numbers, blocks, &mut out);
-    w.outcome
+    w.result
 }
 
 // What the writer answers, and the buffer's bytes after it.
@@ -412,9 +412,9 @@ fn write_row(numbers: [u32; 6], blocks: &[u8], out: &mut [u8]) -> Written
 fn show_written(w: Written) -> Written
     ensures { λ r. ⌜ r ≡ w ⌝ }
 {
-    let outcome = w.outcome;
+    let result = w.result;
     io::write_all(STDOUT_FILENO, b"write ");
-    show_outcome(outcome);
+    show_result(result);
     text_print::show(b" length ", w.length as u64);
     io::write_all(STDOUT_FILENO, b" out");
     w

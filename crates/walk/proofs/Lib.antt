@@ -1,14 +1,5 @@
 pub mod Choice
-pub mod GraphLaws
-pub mod Least
-pub mod Order
-pub mod IndexLaws
-pub mod Within
-pub mod Moves
+pub mod Graph
+pub mod Points
 pub mod Steps
-pub mod History
-pub mod Exactly
-pub mod Judged
-pub mod Fast
-pub mod Ahead
-pub mod ClosedFacts
+pub mod Verdicts

@@ -1,10 +1,10 @@
--- The number of a point in the loader's marks: one mark for each block, task and depth. Only the laws of proofs/IndexLaws.antt are used of it:
+-- The number of a point in the loader's marks: one mark for each block, task and depth. Only the laws of proofs/Points/Index.antt are used of it:
 -- it gives the point back, it is below the marks' length, and its order is the report order.
 use Prim.Native.Nat.{ℕ, _+_, _*_, _/_, _%_, _<_, _≤_}
 use mathlib.Core.Bool.{Bool, _&&_, _||_}
 use lib.Dec.{eqb, ltb}
 use Rattle.limits.specs.Limits.{taskCount, mostBlocks, mostDepth, depths}
-use Rattle.walk_point.specs.Fault.{point}
+use Rattle.walk_point.specs.PointFault.{point}
 use Rattle.walk_point.specs.declared.Point.{Point}
 
 -- the points that have a mark

@@ -1,6 +1,6 @@
-pub mod Program
+pub mod Blocks
 pub mod Walk
-pub mod Says
+pub mod IsVerdict
 pub mod Index
 pub mod Successors
 pub mod Graph

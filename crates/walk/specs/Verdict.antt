@@ -1,19 +1,19 @@
 -- The verdict on an image with marks of some length, computed: 13, then 1 to 4, then 5 to 8 and 23 of the blocks, then the least foreign 51 (7), then the least bad point (9 to 12). That it is what walks
--- say is proved in proofs/Exactly.antt.
+-- say is proved in proofs/Verdicts/OfWalks.antt.
 use Prim.Native.Nat.{ℕ, zero, suc, _+_, _*_}
 use mathlib.Core.Bool.{Bool, true, false, cond}
 use mathlib.Core.List.{List, [], _∷_}
 use lib.Dec.{eqb, ltb}
 use Rattle.limits.specs.Limits.{bias, mostBlocks, marksLength}
-use Rattle.image_result.specs.Outcome.{numberOf, placeOf, done}
+use Rattle.image_result.specs.ImageResult.{resultNumber, resultPlace, done}
 use Rattle.image_header.specs.Scan.{headerOf, blocksOf}
 use Rattle.walk_flow.specs.Terms.{Terms, termsIn}
 use Rattle.image_header.specs.declared.reader.HeaderRead.{HeaderRead}
-use Rattle.command_judge.specs.Judged.{blockFaultNumber}
+use Rattle.command_judge.specs.BlockFault.{blockFaultNumber}
 use Rattle.walk_fault.specs.Fault.{isForeign, isBad, faultNumber}
-use Rattle.walk_point.specs.Fault.{point}
+use Rattle.walk_point.specs.PointFault.{point}
 use Rattle.walk_fault.specs.declared.Fault.the-variants.{Foreign}
-use Rattle.walk.specs.Program.{blockFaultAt, blockNumber, faultAt}
+use Rattle.walk.specs.Blocks.{blockFaultAt, blockNumber, faultAt}
 use Rattle.walk.specs.Index.{indexOf, pointAt}
 use Rattle.walk.specs.Successors.{nextOf}
 use Rattle.walk.specs.Graph.{closure, least}
@@ -62,7 +62,7 @@ blocksVerdict h bs b (suc n) = cond (eqb (blockNumber h bs b) 0) (blocksVerdict 
 -- ---- the image
 
 unfoldable pub readVerdict : HeaderRead → List ℕ → Verdict
-readVerdict r bs = cond (done (r .outcome)) (blocksVerdict (termsIn r) bs 0 (r .header .count)) (verdict.Image (r .outcome))
+readVerdict r bs = cond (done (r .result)) (blocksVerdict (termsIn r) bs 0 (r .header .count)) (verdict.Image (r .result))
 
 -- the verdict on an image, with marks of n bytes
 unfoldable pub verdictOf : List ℕ → ℕ → Verdict
@@ -73,7 +73,7 @@ verdictOf image n = cond (ltb n marksLength) (verdict.MarksShort n) (readVerdict
 abbrev pub verdictNumber : Verdict → ℕ
 verdictNumber verdict.Accepted = 0
 verdictNumber (verdict.MarksShort n) = 13
-verdictNumber (verdict.Image o) = numberOf o
+verdictNumber (verdict.Image o) = resultNumber o
 verdictNumber (verdict.Block f b) = blockFaultNumber f
 verdictNumber (verdict.Foreign b) = faultNumber Foreign
 verdictNumber (verdict.Bad f p) = faultNumber f
@@ -82,7 +82,7 @@ verdictNumber (verdict.Bad f p) = faultNumber f
 abbrev pub verdictPlace : Verdict → ℕ
 verdictPlace verdict.Accepted = 0
 verdictPlace (verdict.MarksShort n) = n
-verdictPlace (verdict.Image o) = placeOf o
+verdictPlace (verdict.Image o) = resultPlace o
 verdictPlace (verdict.Block f b) = b
 verdictPlace (verdict.Foreign b) = b
 verdictPlace (verdict.Bad f p) = p .block

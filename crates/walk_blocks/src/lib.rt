@@ -1,15 +1,15 @@
 // The blocks of an image one by one: the bytes of a block, its command, what is wrong with it by itself, and what it breaks at a point. Blocks are any bytes:
 // a byte past their end is read as 0.
 use command_judge::BlockFault;
-use walk_fault::Fault;
+use command_operands::Command;
 use image_header::Header;
 use limits::BLOCK_LENGTH;
-use command_operands::Command;
+use walk_fault::Fault;
 use walk_point::Point;
 ghost use mathlib.Core.Path.{_≡_};
 ghost use lib.ListN.{getD};
 ghost use Rattle.walk_flow.specs.Terms.{under};
-ghost use Rattle.walk.specs.Program.{blockAt, blockFaultAt, commandAt, faultAt};
+ghost use Rattle.walk.specs.Blocks.{blockAt, blockFaultAt, commandAt, faultAt};
 
 // What the command at a point breaks there.
 pub fn fault_at(header: Header, blocks: &[u8], p: Point) -> Fault

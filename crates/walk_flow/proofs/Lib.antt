@@ -1,3 +1,3 @@
-mod Tests
-pub mod Laws
-pub mod Columns
+mod NoBox
+pub mod ForeignEnd
+pub mod Boxes

@@ -1,3 +1,3 @@
 pub mod Terms
 pub mod Flow
-pub mod Tasks
+pub mod Permission

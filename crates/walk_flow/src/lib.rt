@@ -1,11 +1,11 @@
 // What a command may continue with (document 01, "Walks"), and which task may execute it: 7 of a 51 that ends another task, and the boxes of 9.
-use image_header::Header;
 use command_operands::Command;
 use command_table::FlowKind;
+use image_header::Header;
 ghost use mathlib.Core.Path.{_≡_};
 ghost use Rattle.walk_flow.specs.Terms.{under};
 ghost use Rattle.walk_flow.specs.Flow.{flowBy, endingBy, flowOf};
-ghost use Rattle.walk_flow.specs.Tasks.{foreign, permitted};
+ghost use Rattle.walk_flow.specs.Permission.{foreign, permitted};
 
 // What a command may continue with; the blocks named are those of its operands.
 pub enum Flow {

@@ -14,11 +14,11 @@ use Rattle.command_operands.specs.declared.Command.{Command}
 use Rattle.walk_fault.specs.Fault.{faultNumber}
 use Rattle.walk_fault.specs.declared.Fault.{Fault}
 use Rattle.walk_fault.specs.declared.Fault.the-variants.{Fine, Foreign, Forbidden, TooDeep, NoCall, PastEnd}
-use Rattle.walk_point.specs.Fault.{point, faultOf}
+use Rattle.walk_point.specs.PointFault.{point, faultOf}
 use Rattle.walk_point.specs.declared.Point.{Point}
 use Rattle.walk.specs.Index.{indexOf}
-use Rattle.walk.specs.Program.{commandAt, faultAt}
-use Rattle.walk.specs.Successors.{beyond, goes, unless, flowAt, indices}
+use Rattle.walk.specs.Blocks.{commandAt, faultAt}
+use Rattle.walk.specs.Successors.{beyond, leadsTo, unless, flowAt, indices}
 
 no-fault : (f : Fault) → faultNumber f ≡ 0 → f ≡ Fine
 no-fault Fine e = refl
@@ -68,7 +68,7 @@ only q r k l = absurd (omega arith)
 none : (r : Point) (k : ℕ) → suc k < length {A = Point} [] → indexOf r ≡ getD (indices []) (suc k) 0
 none r k l = absurd (omega arith)
 
-further : (p : Point) (f : Flow) (k : ℕ) → suc k < length (goes p f) → indexOf (beyond p) ≡ getD (indices (goes p f)) (suc k) 0
+further : (p : Point) (f : Flow) (k : ℕ) → suc k < length (leadsTo p f) → indexOf (beyond p) ≡ getD (indices (leadsTo p f)) (suc k) 0
 further p Next k l = only _ (beyond p) k l
 further p Wait k l = only _ (beyond p) k l
 further p (Jump a) k l = only _ (beyond p) k l
@@ -84,14 +84,14 @@ further p (Start u a) k l = started (eqb u (p .task)) l
 further p Restart k l = none (beyond p) k l
 further p End k l = none (beyond p) k l
 
-pub behind-first : (p : Point) (f : Flow) (k : ℕ) → 0 < k → k < length (goes p f) → indexOf (beyond p) ≡ getD (indices (goes p f)) k 0
+pub behind-first : (p : Point) (f : Flow) (k : ℕ) → 0 < k → k < length (leadsTo p f) → indexOf (beyond p) ≡ getD (indices (leadsTo p f)) k 0
 behind-first p f zero o l = absurd (omega arith)
 behind-first p f (suc k) o l = further p f k l
 
 -- the first, whatever is asked for where there is none
-pub first-is : (p : Point) (f : Flow) → 0 < length (goes p f) → (n : ℕ) → getD (indices (goes p f)) 0 n ≡ getD (indices (goes p f)) 0 0
+pub first-is : (p : Point) (f : Flow) → 0 < length (leadsTo p f) → (n : ℕ) → getD (indices (leadsTo p f)) 0 n ≡ getD (indices (leadsTo p f)) 0 0
 unfolding indices
-first-is p f l n = some (goes p f) l
+first-is p f l n = some (leadsTo p f) l
   where
     some : (qs : List Point) → 0 < length qs → getD (indices qs) 0 n ≡ getD (indices qs) 0 0
     some [] l = absurd (omega arith)

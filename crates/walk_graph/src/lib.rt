@@ -1,16 +1,16 @@
 // The blocks of an image as a graph of points: what the command at a point continues with, how many points that leads to, and the k-th of them by its number
 // in the marks. Blocks are any bytes.
-use walk_flow::Flow;
 use image_header::Header;
+use walk_flow::Flow;
 use walk_point::Point;
 ghost use mathlib.Core.Path.{_≡_};
 ghost use mathlib.Core.Bool.{cond};
 ghost use Prim.Native.Nat.{_<_};
 ghost use lib.ListN.{length, getD};
 ghost use Rattle.walk_flow.specs.Terms.{under};
-ghost use Rattle.walk_point.specs.Fault.{point};
+ghost use Rattle.walk_point.specs.PointFault.{point};
 ghost use Rattle.walk.specs.Index.{indexOf};
-ghost use Rattle.walk.specs.Successors.{beyond, goes, flowAt, indices};
+ghost use Rattle.walk.specs.Successors.{beyond, leadsTo, flowAt, indices};
 
 // What the command at a point continues with: nothing where it breaks something.
 pub fn flow_at(header: Header, blocks: &[u8], p: Point) -> Flow
@@ -33,7 +33,7 @@ pub fn number(task: u8, block: u32, depth: u32) -> usize
 
 // How many points a flow leads to.
 pub fn count(p: Point, f: Flow) -> usize
-    ensures { λ r. ⌜ r ≡ length (goes p f) ⌝ }
+    ensures { λ r. ⌜ r ≡ length (leadsTo p f) ⌝ }
 {
     match f {
         Flow::Next => 1,
@@ -57,8 +57,8 @@ fn count_started(own: bool) -> usize
 
 // The k-th of them, by its number in the marks: the block that the flow names, if it names one, then the next block.
 pub fn successor(p: Point, f: Flow, k: usize) -> usize
-    requires { ⌜ k < length (goes p f) ⌝ }
-    ensures { λ r. ⌜ r ≡ getD (indices (goes p f)) k 0 ⌝ }
+    requires { ⌜ k < length (leadsTo p f) ⌝ }
+    ensures { λ r. ⌜ r ≡ getD (indices (leadsTo p f)) k 0 ⌝ }
 {
     if k > 0 {
         return next(p);
@@ -68,7 +68,7 @@ pub fn successor(p: Point, f: Flow, k: usize) -> usize
 
 // The first of them; the next block where there is none.
 fn first(p: Point, f: Flow) -> usize
-    ensures { λ r. ⌜ r ≡ getD (indices (goes p f)) 0 (indexOf (beyond p)) ⌝ }
+    ensures { λ r. ⌜ r ≡ getD (indices (leadsTo p f)) 0 (indexOf (beyond p)) ⌝ }
 {
     match f {
         Flow::Next => next(p),

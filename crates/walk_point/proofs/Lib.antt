@@ -1,1 +1,1 @@
-mod Tests
+mod TwoBlocks

@@ -1,14 +1,14 @@
 // Points of a walk and what one point breaks (document 01, "Walks"; refusals 7 of a foreign 51, then 9, 10, 11, 12).
+use command_operands::Command;
+use image_header::Header;
 use walk_fault::Fault;
 use walk_flow::Flow;
-use image_header::Header;
-use command_operands::Command;
 ghost use mathlib.Core.Path.{_≡_};
 ghost use mathlib.Core.Bool.{cond};
 ghost use mathlib.Core.List.{[], _∷_};
 ghost use Rattle.walk_flow.specs.Terms.{under};
 ghost use Rattle.walk_flow.specs.Flow.{continues};
-ghost use Rattle.walk_point.specs.Fault.{tooDeep, noCall, anyPast, flowFault, faultOf};
+ghost use Rattle.walk_point.specs.PointFault.{tooDeep, noCall, anyPast, flowFault, faultOf};
 
 // A point of a walk (document 01: place): a task at a block, inside this many calls.
 pub struct Point {

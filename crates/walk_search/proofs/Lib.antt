@@ -1,6 +1,6 @@
-mod Laws
+mod Searching
 mod Front
 mod Minima
 mod Upwards
-mod Whole
+mod PartByPart
 pub mod Fixed

@@ -14,18 +14,18 @@ use Rattle.walk_flow.specs.Terms.{Terms}
 use Rattle.image_number.proofs.Choice.{clash, by}
 use Rattle.walk_point.specs.declared.Point.{Point}
 use Rattle.walk_fault.specs.declared.Fault.{Fault}
-use Rattle.walk.specs.Program.{faultAt}
+use Rattle.walk.specs.Blocks.{faultAt}
 use Rattle.walk.specs.Index.{pointAt}
 use Rattle.walk.specs.Graph.{In, Reach, has, lesser, least}
 use Rattle.walk.proofs.Choice.{test, has-in, in-has}
 use Rattle.walk.specs.Successors.{nextOf}
 use Rattle.walk_fault.specs.Fault.{isForeign, isBad}
 use Rattle.walk.specs.Verdict.{rootOf, reached, leastForeign, leastBad}
-use Rattle.walk.proofs.IndexLaws.{has-point}
-use Rattle.walk.proofs.Least.{least-only}
-use Rattle.walk.proofs.History.{number-inside}
-use Rattle.walk.proofs.Exactly.{exact}
-use Rattle.walk_search.specs.Search.{Ready, Searched, lowered}
+use Rattle.walk.proofs.Points.Index.{has-point}
+use Rattle.walk.proofs.Graph.Least.{least-only}
+use Rattle.walk.proofs.Steps.History.{number-inside}
+use Rattle.walk.proofs.Verdicts.OfWalks.{exact}
+use Rattle.walk_search.specs.Search.{WalkBounds, Searched, lowered}
 
 -- the keys: the block of a number's point, and the number itself
 abbrev pub blockOf : ℕ → ℕ
@@ -84,7 +84,7 @@ module _ (h : Terms) (bs : List ℕ) where
       go true e = least-lower marks foreignAt blockOf mostBlocks i m s k e
       go false e = least-kept marks foreignAt blockOf mostBlocks i m s (λ _ t. clash (sym t ∙ e))
 
-  module _ (r : Ready h) (marks : List ℕ) (g : Searched h bs marks) where
+  module _ (r : WalkBounds h) (marks : List ℕ) (g : Searched h bs marks) where
     -- what is marked is reached
     marked-in : (p : ℕ) → (getD marks p 0 ≡ 0 → ⊥) → In p (reached h bs)
     marked-in p m = test (has (reached h bs) p) (λ e. has-in (reached h bs) p e) (λ e. absurd (m (g .mark p ∙ rw e refl)))
@@ -134,7 +134,7 @@ pub fault-bad : (h : Terms) (bs : List ℕ) (i : ℕ) (p : Point) (f : Fault) �
 fault-bad h bs i p f e k b = ap isBad (sym (fault-is h bs i p f e k)) ∙ b
 
 -- the first bad point: none before it is bad
-pub first-bad : (h : Terms) (bs : List ℕ) (r : Ready h) (marks : List ℕ) (g : Searched h bs marks) (i : ℕ)
+pub first-bad : (h : Terms) (bs : List ℕ) (r : WalkBounds h) (marks : List ℕ) (g : Searched h bs marks) (i : ℕ)
     → LeastSo marks (badAt h bs) self marksLength i marksLength → (getD marks i 0 ≡ 0 → ⊥) → badAt h bs i ≡ true → i ≡ leastBad h bs (reached h bs)
 first-bad h bs r marks g i s m b = bad-is h bs r marks g i (record { below = below; found = inr (record { at = i; marked = m; passes = b; key-is = refl }) })
   where

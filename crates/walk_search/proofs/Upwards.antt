@@ -7,7 +7,7 @@ use native.Mathlib.Omega.{arith}
 use borrow.Author.Tests.{eq-eqb, ne-eqb}
 use Rattle.walk_flow.specs.Terms.{Terms}
 use Rattle.image_number.proofs.Choice.{by}
-use Rattle.walk.specs.Program.{blockFaultAt, blockNumber}
+use Rattle.walk.specs.Blocks.{blockFaultAt, blockNumber}
 use Rattle.walk.specs.Verdict.{walksVerdict, blocksVerdict}
 use Rattle.walk.specs.declared.Verdict.the-variants.{Block}
 use Rattle.walk_search.specs.Search.{FirstRefused}

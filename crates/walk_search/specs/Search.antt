@@ -9,7 +9,7 @@ use lib.Dec.{eqb}
 use Rattle.limits.specs.Limits.{mostBlocks, marksLength}
 use Rattle.walk_flow.specs.Terms.{Terms}
 use Rattle.walk_fault.specs.Fault.{isForeign}
-use Rattle.walk.specs.Program.{blockNumber, faultAt}
+use Rattle.walk.specs.Blocks.{blockNumber, faultAt}
 use Rattle.walk.specs.Index.{pointAt}
 use Rattle.walk.specs.Graph.{In, Reach, has, lesser}
 use Rattle.walk.specs.Verdict.{reached}
@@ -22,7 +22,7 @@ abbrev pub pageCount : ℕ
 pageCount = (marksLength + pageLength - 1) / pageLength
 
 -- a header with which walks stay within the marks: what the header's own refusals leave
-pub record Ready (h : Terms) : Type 0 where
+pub record WalkBounds (h : Terms) : Type 0 where
   pub most : h .header .count ≤ mostBlocks
   pub begins : h .header .start < h .header .count
 

@@ -11,7 +11,7 @@ ghost use Rattle.limits.specs.Limits.{marksLength};
 ghost use Rattle.walk_flow.specs.Terms.{under};
 ghost use Rattle.walk.specs.Verdict.{blocksVerdict, verdictOf, acceptedBlocks, isAccepted};
 ghost use Rattle.walk_search.specs.After.{After};
-ghost use Rattle.walk_search.specs.Search.{Ready, FirstRefused};
+ghost use Rattle.walk_search.specs.Search.{WalkBounds, FirstRefused};
 
 mod search;
 
@@ -25,9 +25,9 @@ pub fn judge(image: &[u8], marks: &mut [u8]) -> Verdict
         return Verdict::MarksShort(marks.len());
     }
     let read = reader::read(image);
-    let outcome = read.outcome;
-    if !outcome.is_done() {
-        return Verdict::Image(outcome);
+    let result = read.result;
+    if !result.is_done() {
+        return Verdict::Image(result);
     }
     judge_blocks(read.header, reader::block_part(image), marks)
 }
@@ -55,7 +55,7 @@ fn kept_length(verdict: Verdict, length: usize) -> usize
 
 // The blocks of an image with this header, judged upwards by 5 to 8 and 23, then the walks.
 fn judge_blocks(header: Header, blocks: &[u8], marks: &mut [u8]) -> Verdict
-    requires { ⌜ Ready (under header) ⌝ }
+    requires { ⌜ WalkBounds (under header) ⌝ }
     requires { ⌜ marksLength ≤ length (now marks) ⌝ }
     ensures { λ r. ⌜ r ≡ blocksVerdict (under header) (now (blocks .entry)) 0 (header .count) ⌝ }
     ensures { λ _. ⌜ After marksLength (now (marks .entry)) (now (marks .exit)) ⌝ }

@@ -3,8 +3,8 @@
 // become pending.
 use image_header::Header;
 use limits::MARKS_LENGTH;
-use walk_point::Point;
 use walk::Verdict;
+use walk_point::Point;
 ghost use mathlib.Core.Path.{_≡_};
 ghost use Prim.Native.Nat.{_<_, _≤_};
 ghost use lib.ListN.{length, getD};
@@ -14,7 +14,7 @@ ghost use Rattle.walk.specs.Index.{pointAt};
 ghost use Rattle.walk.specs.Successors.{nextOf};
 ghost use Rattle.walk.specs.Verdict.{rootOf, reached, leastForeign, leastBad, verdictBy, walksVerdict};
 ghost use Rattle.walk_search.specs.After.{After};
-ghost use Rattle.walk_search.specs.Search.{Ready, Paged, board, touched, visited, Going, Searched, Swept, Fresh, lowered};
+ghost use Rattle.walk_search.specs.Search.{WalkBounds, Paged, board, touched, visited, Going, Searched, Swept, Fresh, lowered};
 
 // Marks to a page, and pages.
 const PAGE_LENGTH: usize = 128;
@@ -31,7 +31,7 @@ const DONE: u8 = 2;
 // What the walks of an image with this header and these blocks come to, found in the first n bytes of marks. (n is MARKS_LENGTH; it is no
 // literal here, so that no proof counts it out.)
 pub fn judge_walks(header: Header, blocks: &[u8], marks: &mut [u8], n: usize) -> Verdict
-    requires { ⌜ Ready (under header) ⌝ }
+    requires { ⌜ WalkBounds (under header) ⌝ }
     requires { ⌜ n ≡ marksLength ⌝ }
     requires { ⌜ n ≤ length (now marks) ⌝ }
     ensures { λ r. ⌜ r ≡ walksVerdict (under header) (now (blocks .entry)) ⌝ }
@@ -41,7 +41,7 @@ pub fn judge_walks(header: Header, blocks: &[u8], marks: &mut [u8], n: usize) ->
 }
 
 fn search(header: Header, blocks: &[u8], marks: &mut [u8]) -> Verdict
-    requires { ⌜ Ready (under header) ⌝ }
+    requires { ⌜ WalkBounds (under header) ⌝ }
     requires { ⌜ length (now marks) ≡ marksLength ⌝ }
     ensures { λ r. ⌜ r ≡ walksVerdict (under header) (now (blocks .entry)) ⌝ }
     ensures { λ _. ⌜ Searched (under header) (now (blocks .entry)) (now (marks .exit)) ⌝ }
@@ -75,7 +75,7 @@ fn clear(marks: &mut [u8], first: usize)
 
 // From the first point to all that is reached.
 fn walk(header: Header, blocks: &[u8], marks: &mut [u8], dirty: &mut [u8; PAGE_COUNT])
-    requires { ⌜ Ready (under header) ⌝ }
+    requires { ⌜ WalkBounds (under header) ⌝ }
     requires { ⌜ Paged (now marks) (now dirty) 0 ⌝ }
     requires { ⌜ Going (nextOf (under header) (now blocks)) (rootOf (under header)) (now marks) 0 ⌝ }
     ensures { λ _. ⌜ Searched (under header) (now (blocks .entry)) (now (marks .exit)) ⌝ }
@@ -111,7 +111,7 @@ fn visit(
     dirty: &mut [u8; PAGE_COUNT],
     p: usize,
 ) -> usize
-    requires { ⌜ Ready (under header) ⌝ }
+    requires { ⌜ WalkBounds (under header) ⌝ }
     requires { ⌜ Going (nextOf (under header) (now blocks)) (rootOf (under header)) (now marks) p ⌝ }
     requires { ⌜ p < marksLength ⌝ }
     requires { ⌜ getD (now marks) p 0 ≡ 1 ⌝ }
@@ -162,7 +162,7 @@ fn point_at(i: usize) -> Point
 
 // The least of what is marked: the least foreign block, or else the least bad point.
 fn least(header: Header, blocks: &[u8], marks: &[u8]) -> Verdict
-    requires { ⌜ Ready (under header) ⌝ }
+    requires { ⌜ WalkBounds (under header) ⌝ }
     requires { ⌜ Searched (under header) (now blocks) (now marks) ⌝ }
     ensures { λ r. ⌜ r ≡ walksVerdict (under header) (now (blocks .entry)) ⌝ }
 {
@@ -173,7 +173,7 @@ fn least(header: Header, blocks: &[u8], marks: &[u8]) -> Verdict
 
 // The least block of a marked point with a 51 that ends another task; MOST_BLOCKS where there is none.
 fn least_foreign(header: Header, blocks: &[u8], marks: &[u8]) -> usize
-    requires { ⌜ Ready (under header) ⌝ }
+    requires { ⌜ WalkBounds (under header) ⌝ }
     requires { ⌜ Searched (under header) (now blocks) (now marks) ⌝ }
     ensures { λ r. ⌜ r ≡ leastForeign (under header) (now (blocks .entry)) (reached (under header) (now (blocks .entry))) ⌝ }
 {
@@ -207,7 +207,7 @@ fn lower(header: Header, blocks: &[u8], i: usize, found: usize) -> usize
 
 // The least marked point that is bad; MARKS_LENGTH where there is none.
 fn least_bad(header: Header, blocks: &[u8], marks: &[u8]) -> usize
-    requires { ⌜ Ready (under header) ⌝ }
+    requires { ⌜ WalkBounds (under header) ⌝ }
     requires { ⌜ Searched (under header) (now blocks) (now marks) ⌝ }
     ensures { λ r. ⌜ r ≡ leastBad (under header) (now (blocks .entry)) (reached (under header) (now (blocks .entry))) ⌝ }
 {

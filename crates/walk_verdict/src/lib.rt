@@ -10,7 +10,7 @@ pub fn number(v: Verdict) -> u32
     match v {
         Verdict::Accepted => 0,
         Verdict::MarksShort(_) => 13,
-        Verdict::Image(outcome) => outcome.number(),
+        Verdict::Image(result) => result.number(),
         Verdict::Block(fault, _) => fault.number(),
         Verdict::Foreign(_) => 7,
         Verdict::Bad(fault, _) => fault.number(),
@@ -24,7 +24,7 @@ pub fn place(v: Verdict) -> usize
     match v {
         Verdict::Accepted => 0,
         Verdict::MarksShort(length) => length,
-        Verdict::Image(outcome) => outcome.place(),
+        Verdict::Image(result) => result.place(),
         Verdict::Block(_, block) => block,
         Verdict::Foreign(block) => block,
         Verdict::Bad(_, point) => point.block as usize,

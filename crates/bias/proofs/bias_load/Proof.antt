@@ -1,6 +1,6 @@
 -- `bias::bias_load` meets its contract: 13, 16, then the image.
 use borrow.Author.Needs.{needs}
-use Rattle.bias.proofs.Ways.{marks-short, no-buffer, of-image, load-refused}
+use Rattle.bias.proofs.ByTest.{marks-short, no-buffer, of-image, load-refused}
 use Rattle.bias.specs.Load.{Load}
 use denote.Ref.{now}
 use mathlib.Core.Path.{refl, sym, ap, _∙_}

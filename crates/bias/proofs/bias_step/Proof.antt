@@ -1,6 +1,6 @@
 -- `bias::bias_step` meets its contract: 15, 16, then the step.
 use borrow.Author.Needs.{needs}
-use Rattle.bias.proofs.Ways.{no-task, bad-inputs, of-buffer, no-state, wrong-length, step-refused}
+use Rattle.bias.proofs.ByTest.{no-task, bad-inputs, of-buffer, no-state, wrong-length, step-refused}
 use Rattle.bias.specs.Step.{Stepped}
 use Rattle.machine.specs.Given.{inputsOf}
 use denote.Ref.{now}

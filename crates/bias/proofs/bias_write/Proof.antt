@@ -1,6 +1,6 @@
 -- `bias::bias_write` meets its contract: the writer's.
 use borrow.Author.Needs.{needs}
-use Rattle.bias_results.specs.Border.{writtenFor}
+use Rattle.bias_results.specs.Results.{writtenFor}
 use mathlib.Core.Path.{ap, _∙_}
 use Rattle.bias.proofs.bias_write.Statement.{statement}
 use Rattle.bias.proofs.bias_write.Tie as tie

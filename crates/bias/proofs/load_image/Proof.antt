@@ -1,7 +1,7 @@
 -- `bias::load_image` meets its contract, by the verdict.
 use borrow.Author.Needs.{needs}
-use Rattle.bias.proofs.Ways.{verdict-is, stays, begins}
-use Rattle.bias_results.specs.Border.{verdictFor}
+use Rattle.bias.proofs.ByTest.{verdict-is, stays, begins}
+use Rattle.bias_results.specs.Results.{verdictFor}
 use Rattle.state_layout.specs.Layout.{encoded}
 use Rattle.walk.specs.Verdict.{isAccepted}
 use denote.Ref.{now}

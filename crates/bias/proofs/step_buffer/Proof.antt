@@ -1,12 +1,12 @@
 -- `bias::step_buffer` meets its contract: 16, test by test, then the step.
 use borrow.Author.Needs.{needs}
-use Rattle.bias.proofs.Ways.{no-state, of-state, step-refused, frame-of, read-of, state-of, frame-not, judged-no-state, judged-state}
+use Rattle.bias.proofs.ByTest.{no-state, of-state, step-refused, frame-of, read-of, state-of, frame-not, judged-no-state, judged-state}
 use Rattle.bias.specs.Step.{Stepped, handed}
 use Rattle.machine.specs.Engine.{step}
 use Rattle.machine.specs.Given.{inputsOf}
-use Rattle.state_layout.proofs.Round.{state-good}
+use Rattle.state_layout.proofs.RoundTrip.{state-good}
 use Rattle.state.specs.declared.State.{State}
-use Rattle.state.specs.Good.{Good}
+use Rattle.state.specs.GoodState.{GoodState}
 use Rattle.num_le.specs.LittleEndian.{Bytes}
 use denote.Ref.{now}
 use borrow.Author.Tests.{not-true, not-false}
@@ -35,7 +35,7 @@ step-state-requires c κs =
     let u = frame-of (now (a .state)) _ (copied .0) _ (c .before .before .before .before .frame-is .ensures) ∙ not-false _ (c .before .before .before .if1 .left) in
     let s = state-of (now (a .state)) _ (copied .0) _ (c .before .before .before .before .before .before .decode .ensures) _ (c .before .before .state-is .ensures) ∙ not-false _ (c .before .if2 .left) in
     let d = read-of (now (a .state)) _ (copied .0) _ (c .before .before .before .before .before .before .decode .ensures) in
-    (c .before .before .before .before .before .before .before .before .before .before .before .before .before .pre, subst Good (sym d) (state-good (now (a .state)) (subst Bytes (copied .0) (copied .1)) (judged-state (now (a .state)) (c .before .before .before .before .before .before .before .before .before .before .before .before .before .pre) u s)))
+    (c .before .before .before .before .before .before .before .before .before .before .before .before .before .pre, subst GoodState (sym d) (state-good (now (a .state)) (subst Bytes (copied .0) (copied .1)) (judged-state (now (a .state)) (c .before .before .before .before .before .before .before .before .before .before .before .before .before .pre) u s)))
 
 returns-3 : tie.Need-returns-3
 returns-3 c =

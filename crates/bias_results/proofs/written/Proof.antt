@@ -1,6 +1,6 @@
 -- `border::written` meets its contract: the length, or the refusal.
 use mathlib.Core.Path.{sym, _∙_}
-use Rattle.bias_results.specs.Border.{numbered}
+use Rattle.bias_results.specs.Results.{numbered}
 use borrow.Author.Needs.{needs}
 use Rattle.bias_results.proofs.written.Statement.{statement}
 use Rattle.bias_results.proofs.written.Tie as tie

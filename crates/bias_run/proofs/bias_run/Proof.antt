@@ -7,7 +7,7 @@ use mathlib.Core.Path.{ap, _∙_}
 use Prim.Native.Nat.{ℕ}
 use Rattle.proved_demands.specs.Run.{bufferAfter}
 use Rattle.bias_run.specs.Steps.{stepsOf}
-use Rattle.bias_run.proofs.Laws.{refused, accepted, theorem}
+use Rattle.bias_run.proofs.StepByStep.{refused, accepted, theorem}
 use Rattle.bias_run.proofs.bias_run.Statement.{statement}
 use Rattle.bias_run.proofs.bias_run.Tie as tie
 

@@ -9,7 +9,7 @@ use native.Mathlib.Omega.{arith}
 use Prim.Native.Nat.{ℕ, _+_, _-_, _≤_}
 use Rattle.proved_demands.specs.Run.{bufferAfter}
 use Rattle.bias_run.specs.Steps.{headLength, stepsFrom, stepsOf}
-use Rattle.bias_run.proofs.Laws.{stands, one-more, none-whole, none-left}
+use Rattle.bias_run.proofs.StepByStep.{stands, one-more, none-whole, none-left}
 use Rattle.bias_run.proofs.run_steps.Statement.{statement}
 use Rattle.bias_run.proofs.run_steps.Tie as tie
 

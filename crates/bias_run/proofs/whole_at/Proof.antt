@@ -8,7 +8,7 @@ use mathlib.Core.Path.{sym, ap, _∙_}
 use native.Mathlib.Omega.{arith}
 use Prim.Native.Nat.{ℕ, _-_}
 use Rattle.bias_run.specs.Steps.{headLength, lengthAt, nextAt}
-use Rattle.bias_run.proofs.Laws.{fits-is}
+use Rattle.bias_run.proofs.StepByStep.{fits-is}
 use Rattle.bias_run.proofs.whole_at.Statement.{statement}
 use Rattle.bias_run.proofs.whole_at.Tie as tie
 

@@ -8,7 +8,7 @@ use borrow.Author.Tests.{not-true, not-false}
 use Rattle.image_header.specs.declared.Header.{Header}
 use Rattle.command_table.specs.declared.Row.{Row}
 use Rattle.command_operands.specs.Operands.{laidOut}
-use Rattle.command_judge.specs.Judged.{commandFault, rowFault, blockFault}
+use Rattle.command_judge.specs.BlockFault.{commandFault, rowFault, blockFault}
 use Rattle.command_judge.specs.declared.BlockFault.the-variants.{NotCarried}
 use Rattle.command_judge.proofs.judge.Statement.{statement}
 use Rattle.command_judge.proofs.judge.Tie as tie

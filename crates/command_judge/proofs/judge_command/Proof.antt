@@ -1,6 +1,6 @@
 -- `judge_command` meets its contract: each arm is the definition's case of what the drive has.
 use borrow.Author.Needs.{needs}
-use Rattle.command_judge.specs.Judged.{commandFault}
+use Rattle.command_judge.specs.BlockFault.{commandFault}
 use Rattle.command_judge.proofs.judge_command.Statement.{statement}
 use Rattle.command_judge.proofs.judge_command.Tie as tie
 

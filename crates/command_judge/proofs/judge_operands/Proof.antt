@@ -1,6 +1,6 @@
 -- `judge_operands` meets its contract: each of its tests is the definition's next one.
 use borrow.Author.Tests.{not-true, not-false}
-use Rattle.command_judge.specs.Judged.{operandFault}
+use Rattle.command_judge.specs.BlockFault.{operandFault}
 use Rattle.command_judge.proofs.judge_operands.Statement.{statement}
 use Rattle.command_judge.proofs.judge_operands.Tie as tie
 

@@ -2,7 +2,7 @@
 use mathlib.Core.Path.{sym}
 use native.Mathlib.Omega.{arith}
 use borrow.Author.Needs.{needs}
-use Rattle.drive.proofs.Cases.{past-boards, past-types, by-least}
+use Rattle.drive.proofs.TypesAndSlots.{past-boards, past-types, by-least}
 use Rattle.drive.proofs.may_take.Statement.{statement}
 use Rattle.drive.proofs.may_take.Tie as tie
 

@@ -1,13 +1,13 @@
 -- `mathematics` meets its contract: each arm of the match is the row of its code.
 use denote.Ref.{now}
 use Rattle.machine.specs.Given.{givenAt}
-use Rattle.machine.specs.Effect.{mathematicsRows, deedIn}
+use Rattle.machine.specs.Effect.{mathematicsRows, effectIn}
 use Rattle.exec_effect.proofs.Found.{found, missed}
 use Rattle.exec_control.proofs.mathematics.Statement.{statement}
 use Rattle.exec_control.proofs.mathematics.Tie as tie
 
 pub mathematics-spec : {M : Type 1} → statement M
-unfolding deedIn
+unfolding effectIn
 mathematics-spec =
     tie.close
     (tie.spec

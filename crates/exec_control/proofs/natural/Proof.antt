@@ -1,5 +1,5 @@
 -- `natural` meets its contract.
-use Rattle.exec_control.proofs.Cases.{below, asked, above}
+use Rattle.exec_control.proofs.TimedWaits.{below, asked, above}
 use Rattle.exec_control.proofs.natural.Statement.{statement}
 use Rattle.exec_control.proofs.natural.Tie as tie
 

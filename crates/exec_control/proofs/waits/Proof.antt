@@ -3,7 +3,7 @@ use mathlib.Core.Path.{_∙_}
 use mathlib.Core.List.{[]}
 use native.Mathlib.Omega.{arith}
 use Rattle.machine.specs.Given.{givenAt}
-use Rattle.exec_control.proofs.Cases.{waits-first, waits-later}
+use Rattle.exec_control.proofs.TimedWaits.{waits-first, waits-later}
 use Rattle.exec_control.proofs.waits.Statement.{statement}
 use Rattle.exec_control.proofs.waits.Tie as tie
 

@@ -1,13 +1,13 @@
 -- `perform` meets its contract: each arm of the match is the row of its code.
 use denote.Ref.{now}
 use Rattle.machine.specs.Given.{givenAt}
-use Rattle.machine.specs.Effect.{levelRows, deedIn}
+use Rattle.machine.specs.Effect.{levelRows, effectIn}
 use Rattle.exec_effect.proofs.Found.{found, missed}
 use Rattle.exec_levels.proofs.perform.Statement.{statement}
 use Rattle.exec_levels.proofs.perform.Tie as tie
 
 pub perform-spec : {M : Type 1} → statement M
-unfolding deedIn
+unfolding effectIn
 perform-spec =
     tie.close
     (tie.spec

@@ -4,10 +4,10 @@ use Prim.Native.Nat.{ℕ}
 use mathlib.Core.Bool.{_&&_}
 use lib.Dec.{eqb}
 use denote.Ref.{now}
-use Rattle.command_judge.specs.Judged.{blockFaultNumber}
+use Rattle.command_judge.specs.BlockFault.{blockFaultNumber}
 use Rattle.walk_fault.specs.Fault.{faultNumber}
 use Rattle.walk_flow.specs.Terms.{under}
-use Rattle.walk.specs.Program.{faultAt}
+use Rattle.walk.specs.Blocks.{faultAt}
 use Rattle.exec_step.proofs.block_fits.Statement.{statement}
 use Rattle.exec_step.proofs.block_fits.Tie as tie
 

@@ -1,7 +1,7 @@
 -- `performed` meets its contract.
 use mathlib.Core.Path.{ap, _∙_}
 use Rattle.machine.specs.Engine.{answerTo}
-use Rattle.exec_step.proofs.Laws.{together}
+use Rattle.exec_step.proofs.StepCases.{together}
 use Rattle.exec_step.proofs.performed.Statement.{statement}
 use Rattle.exec_step.proofs.performed.Tie as tie
 

@@ -10,7 +10,7 @@ use Rattle.state.specs.State.{taskAt}
 use Rattle.machine.specs.Given.{inputsOf}
 use Rattle.machine.specs.Engine.{refuse, carriedOut}
 use Rattle.machine.specs.declared.Answer.the-variants.{Differs}
-use Rattle.exec_step.proofs.Laws.{ready, not-running, differs, carried, fits-of, block-passes}
+use Rattle.exec_step.proofs.StepCases.{ready, not-running, differs, carried, fits-of, block-passes}
 use Rattle.exec_step.proofs.task_step.Statement.{statement}
 use Rattle.exec_step.proofs.task_step.Tie as tie
 

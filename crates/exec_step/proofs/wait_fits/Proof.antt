@@ -4,7 +4,7 @@ use mathlib.Core.Bool.{_||_}
 use lib.Dec.{eqb}
 use Rattle.command_operands.specs.declared.Command.{Command}
 use Rattle.machine.specs.Engine.{isWait}
-use Rattle.exec_step.proofs.Laws.{not-not}
+use Rattle.exec_step.proofs.StepCases.{not-not}
 use Rattle.exec_step.proofs.wait_fits.Statement.{statement}
 use Rattle.exec_step.proofs.wait_fits.Tie as tie
 

@@ -7,17 +7,17 @@ use borrow.Author.Needs.{needs}
 use Rattle.state.specs.declared.Task.{Task}
 use Rattle.machine.specs.Engine.{tasksAfter}
 use Rattle.machine.specs.declared.Outcome.{Outcome}
-use Rattle.machine.specs.Deep.{Deep}
+use Rattle.machine.specs.DepthAllows.{DepthAllows}
 use Rattle.exec_tasks.proofs.after.Statement.{statement}
 use Rattle.exec_tasks.proofs.after.Tie as tie
 
 call-to-requires : tie.Need-call-to-requires
-call-to-requires c κs = let st = c .before .before .before in (st .pre .0, subst (Deep (st .args .k .depth)) (c .before .outcome3 .given .1) (st .pre .1))
+call-to-requires c κs = let st = c .before .before .before in (st .pre .0, subst (DepthAllows (st .args .k .depth)) (c .before .outcome3 .given .1) (st .pre .1))
 
 return-from-requires : tie.Need-return-from-requires
 return-from-requires c κs =
     let st = c .before .before in
-    let d = subst (Deep (st .args .k .depth)) (c .enum-told2 .given .1) (st .pre .1) in
+    let d = subst (DepthAllows (st .args .k .depth)) (c .enum-told2 .given .1) (st .pre .1) in
     (d .0, omega arith)
 
 returns : tie.Need-returns

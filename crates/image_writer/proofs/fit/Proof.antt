@@ -3,20 +3,20 @@ use borrow.Author.Needs.{needs}
 use mathlib.Core.Path.{sym, ap, _∙_}
 use native.Mathlib.Omega.{arith}
 use borrow.Author.Tests.{not-true, not-false}
-use Rattle.image_result.specs.Outcome.{done}
+use Rattle.image_result.specs.ImageResult.{done}
 use Rattle.image_header.specs.Scan.{scannedHeader, firstRefusal}
-use Rattle.image_writer.specs.Writer.{roomOutcome, writtenWith, fitted}
+use Rattle.image_writer.specs.Writer.{roomResult, writtenWith, judgedWrite}
 use Rattle.image_header.proofs.Read.{neither}
 use Rattle.image_writer.proofs.Judged.{room-right}
 use Rattle.image_writer.proofs.fit.Statement.{statement}
 use Rattle.image_writer.proofs.fit.Tie as tie
 
 returns : tie.Need-returns
-unfolding fitted writtenWith
+unfolding judgedWrite writtenWith
 returns c =
     let st = c .before .before .before .before .before .before in
     let o = c .before .before .before .first-refusal in
-    let told = o .ensures ∙ ap (firstRefusal (st .args .s .outcome)) (c .before .before .before .before .judge-room .ensures) in
+    let told = o .ensures ∙ ap (firstRefusal (st .args .s .result)) (c .before .before .before .before .judge-room .ensures) in
     let d = c .before .before .is-done in
     rw (← told, sym (d .ensures) ∙ not-true (d .result) (c .before .if1 .taken)) (c .not-written .ensures)
 
@@ -24,21 +24,21 @@ add-t14 : tie.Need-add-t14
 add-t14 c =
     let st = c .before .before .before .before .before in
     let o = c .before .before .first-refusal in
-    let told = o .ensures ∙ ap (firstRefusal (st .args .s .outcome)) (c .before .before .before .judge-room .ensures) in
+    let told = o .ensures ∙ ap (firstRefusal (st .args .s .result)) (c .before .before .before .judge-room .ensures) in
     let d = c .before .is-done in
     let s = st .args .s in
-    let room = roomOutcome (s .at) (scannedHeader s .count) (st .args .blocks) (st .args .room) in
+    let room = roomResult (s .at) (scannedHeader s .count) (st .args .blocks) (st .args .room) in
     let ok = sym (ap done told) ∙ sym (d .ensures) ∙ not-false (d .result) (c .if1 .left) in
-    let r = room-right (s .at) (scannedHeader s .count) (st .args .blocks) (st .args .room) (neither (s .outcome) room ok .1) .1 in
+    let r = room-right (s .at) (scannedHeader s .count) (st .args .blocks) (st .args .room) (neither (s .result) room ok .1) .1 in
     let h = st .fits .room .fits in
     omega arith
 
 returns-2 : tie.Need-returns-2
-unfolding fitted writtenWith
+unfolding judgedWrite writtenWith
 returns-2 c =
     let st = c .before .before .before .before .before in
     let o = c .before .before .first-refusal in
-    let told = o .ensures ∙ ap (firstRefusal (st .args .s .outcome)) (c .before .before .before .judge-room .ensures) in
+    let told = o .ensures ∙ ap (firstRefusal (st .args .s .result)) (c .before .before .before .judge-room .ensures) in
     let d = c .before .is-done in
     rw (← told, sym (d .ensures) ∙ not-false (d .result) (c .if1 .left))
 

@@ -4,18 +4,18 @@ use native.Mathlib.Omega.{arith}
 use Prim.Native.Nat.{_*_}
 use borrow.Author.Tests.{lt-ltb, le-ltb}
 use Rattle.limits.specs.Limits.{blockLength}
-use Rattle.image_writer.specs.Writer.{roomOutcome}
+use Rattle.image_writer.specs.Writer.{roomResult}
 use Rattle.image_writer.proofs.judge_room.Statement.{statement}
 use Rattle.image_writer.proofs.judge_room.Tie as tie
 
 returns : tie.Need-returns
-unfolding roomOutcome
+unfolding roomResult
 returns c =
     let a = c .before .args in
     rw (lt-ltb (a .blocks) (blockLength * a .count) (omega (arith, c .if1 .taken)))
 
 pub judge-room-spec : {M : Type 1} → statement M
-unfolding roomOutcome
+unfolding roomResult
 judge-room-spec =
     tie.close
     (tie.spec

@@ -3,7 +3,7 @@ use borrow.Author.Needs.{needs}
 use mathlib.Core.Path.{_≡_, ap, _∙_}
 use Prim.Native.Nat.{_≤_, _-_}
 use native.Mathlib.Omega.{arith}
-use Rattle.image_writer.specs.Writer.{given}
+use Rattle.image_writer.specs.Writer.{givenNumbers}
 use Rattle.image_header.specs.Rows.{rowCount}
 use Rattle.image_header.specs.Scan.{scan}
 use Rattle.image_header.specs.declared.reader.Scan.{Scan}
@@ -13,7 +13,7 @@ use Rattle.image_writer.proofs.judge_rows.Statement.{statement}
 use Rattle.image_writer.proofs.judge_rows.Tie as tie
 
 abbrev Inv-loop : tie.InvT-loop
-Inv-loop numbers s₀ row₀ s row = (s ≡ scan 0 (given numbers) row) × (row ≤ rowCount)
+Inv-loop numbers s₀ row₀ s row = (s ≡ scan 0 (givenNumbers numbers) row) × (row ≤ rowCount)
 
 abbrev μ-loop : tie.MeasureT-loop
 μ-loop numbers s₀ row₀ s row = rowCount - row
@@ -22,8 +22,8 @@ judge-row-requires : tie.Need-judge-row-requires Inv-loop μ-loop
 judge-row-requires c κs =
     let i = c .before .loop .inv in
     let ns = c .before .before .before .args .t1 in
-    let m = at-most 0 (given ns) (given-near ns) (c .before .loop .row) in
-    let e : c .before .loop .s .at ≡ scan 0 (given ns) (c .before .loop .row) .at = ap (λ (s : Scan). s .at) (i .0) in
+    let m = at-most 0 (givenNumbers ns) (given-near ns) (c .before .loop .row) in
+    let e : c .before .loop .s .at ≡ scan 0 (givenNumbers ns) (c .before .loop .row) .at = ap (λ (s : Scan). s .at) (i .0) in
     let l = c .loop-test .taken in
     omega arith
 
@@ -31,7 +31,7 @@ loop-again : tie.Need-loop-again Inv-loop μ-loop
 loop-again c =
     let at-loop = c .before .before in
     let ns = c .before .before .before .before .args .t1 in
-    (c .judge-row .ensures ∙ same-number ns (at-loop .loop .row) (at-loop .loop .s) ∙ next-row 0 (given ns) (at-loop .loop .row) (at-loop .loop .s) (at-loop .loop .inv .0), omega arith)
+    (c .judge-row .ensures ∙ same-number ns (at-loop .loop .row) (at-loop .loop .s) ∙ next-row 0 (givenNumbers ns) (at-loop .loop .row) (at-loop .loop .s) (at-loop .loop .inv .0), omega arith)
 
 returns : tie.Need-returns Inv-loop μ-loop
 returns c =

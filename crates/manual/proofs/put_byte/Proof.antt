@@ -2,7 +2,7 @@
 use borrow.Author.Needs.{needs}
 use Rattle.manual.specs.Run.{withByte}
 use Rattle.num_le.specs.LittleEndian.{leBytes}
-use Rattle.state_bytes.specs.Places.{puts}
+use Rattle.state_bytes.specs.Bytes.{puts}
 use denote.Ref.{now}
 use lib.ListN.{getD}
 use mathlib.Core.List.{List}

@@ -12,7 +12,7 @@ use Rattle.num_arith.specs.Ops.{quotient}
 use Rattle.num_arith.specs.declared.Quotient.the-variants.{Value}
 use Rattle.num_arith.proofs.Cut.{wrap-same}
 use Rattle.num_arith.proofs.Range.{quot-fits, quot-neg, got}
-use Rattle.num_arith.proofs.Tests.{is-zero, no-zero}
+use Rattle.num_arith.proofs.Comparisons.{is-zero, no-zero}
 use Rattle.num_arith.proofs.div.Statement.{statement}
 use Rattle.num_arith.proofs.div.Tie as tie
 

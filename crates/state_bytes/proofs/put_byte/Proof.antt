@@ -4,7 +4,7 @@ use Prim.Native.Nat.{_%_}
 use native.Mathlib.Omega.{arith}
 use denote.Ref.{now}
 use lib.ListN.{set}
-use Rattle.state_bytes.specs.Places.{puts}
+use Rattle.state_bytes.specs.Bytes.{puts}
 use borrow.Author.Needs.{needs}
 use Rattle.state_bytes.proofs.put_byte.Statement.{statement}
 use Rattle.state_bytes.proofs.put_byte.Tie as tie

@@ -1,5 +1,5 @@
 -- `places::put_long` meets its contract: one byte put after the other.
-use Rattle.state_bytes.proofs.Runs.{four}
+use Rattle.state_bytes.proofs.Puts.{four}
 use borrow.Author.Needs.{needs}
 use Rattle.state_bytes.proofs.put_long.Statement.{statement}
 use Rattle.state_bytes.proofs.put_long.Tie as tie

@@ -6,7 +6,7 @@ use mir.Syntax.{w32}
 use mir.Facts.{toZ-ofZ}
 use Rattle.num_arith.specs.Wrap.{word}
 use Rattle.num_le.specs.LittleEndian.{leBytes}
-use Rattle.state_bytes.specs.Places.{puts}
+use Rattle.state_bytes.specs.Bytes.{puts}
 use borrow.Author.Needs.{needs}
 use Rattle.state_bytes.proofs.put_signed.Statement.{statement}
 use Rattle.state_bytes.proofs.put_signed.Tie as tie

@@ -1,5 +1,5 @@
 -- `places::put_word` meets its contract: one byte put after the other.
-use Rattle.state_bytes.proofs.Runs.{two}
+use Rattle.state_bytes.proofs.Puts.{two}
 use borrow.Author.Needs.{needs}
 use Rattle.state_bytes.proofs.put_word.Statement.{statement}
 use Rattle.state_bytes.proofs.put_word.Tie as tie

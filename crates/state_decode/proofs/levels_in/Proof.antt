@@ -5,7 +5,7 @@ use mathlib.Core.Path.{_≡_, refl}
 use denote.Ref.{now}
 use lib.ListN.{length, getD, take, length-set}
 use Rattle.limits.specs.Limits.{cells}
-use Rattle.state_bytes.specs.Places.{table}
+use Rattle.state_bytes.specs.Bytes.{table}
 use Rattle.state_bytes.proofs.Tables.{none, more, all}
 use Rattle.state_layout.specs.Codecs.{levelsIn}
 use borrow.Author.Needs.{needs}

@@ -5,7 +5,7 @@ use mathlib.Core.Path.{_≡_}
 use denote.Ref.{now}
 use lib.ListN.{length, take, length-set}
 use Rattle.limits.specs.Limits.{mostDepth}
-use Rattle.state_bytes.specs.Places.{table, numberAt}
+use Rattle.state_bytes.specs.Bytes.{table, leNumberAt}
 use Rattle.state_bytes.proofs.Tables.{none, more, all}
 use Rattle.state_layout.specs.Codecs.{stackIn}
 use borrow.Author.Needs.{needs}
@@ -13,7 +13,7 @@ use Rattle.state_decode.proofs.stack_in.Statement.{statement}
 use Rattle.state_decode.proofs.stack_in.Tie as tie
 
 abbrev Inv-loop : tie.InvT-loop
-Inv-loop b at r₀ i₀ r i = (i ≤ mostDepth) × ((length r ≡ mostDepth) × (take i r ≡ table i (λ (j : ℕ). numberAt 2 b (at + 2 * j))))
+Inv-loop b at r₀ i₀ r i = (i ≤ mostDepth) × ((length r ≡ mostDepth) × (take i r ≡ table i (λ (j : ℕ). leNumberAt 2 b (at + 2 * j))))
 
 abbrev μ-loop : tie.MeasureT-loop
 μ-loop b at r₀ i₀ r i = mostDepth - i
@@ -22,14 +22,14 @@ loop-again : tie.Need-loop-again Inv-loop μ-loop
 loop-again c =
     let l = c .before .before .loop in
     let a = c .before .before .before .args in
-    (search needs, (simp length-set (search needs), more (l .r) (l .i) (λ (j : ℕ). numberAt 2 (now (a .b)) (a .at + 2 * j)) _ (omega arith) (l .inv .1 .1) (c .word .ensures)))
+    (search needs, (simp length-set (search needs), more (l .r) (l .i) (λ (j : ℕ). leNumberAt 2 (now (a .b)) (a .at + 2 * j)) _ (omega arith) (l .inv .1 .1) (c .word .ensures)))
 
 returns : tie.Need-returns Inv-loop μ-loop
 unfolding stackIn
 returns c =
     let l = c .before .loop in
     let a = c .before .before .args in
-    all (l .r) (l .i) mostDepth (λ (j : ℕ). numberAt 2 (now (a .b)) (a .at + 2 * j)) (l .inv .0) (c .loop-test .left) (l .inv .1 .0) (l .inv .1 .1)
+    all (l .r) (l .i) mostDepth (λ (j : ℕ). leNumberAt 2 (now (a .b)) (a .at + 2 * j)) (l .inv .0) (c .loop-test .left) (l .inv .1 .0) (l .inv .1 .1)
 
 pub stack-in-spec : {M : Type 1} → statement M
 stack-in-spec =

@@ -5,7 +5,7 @@ use mathlib.Core.Path.{_≡_}
 use denote.Ref.{now}
 use lib.ListN.{length, take, length-set}
 use Rattle.limits.specs.Limits.{cells}
-use Rattle.state_bytes.specs.Places.{table, signedAt}
+use Rattle.state_bytes.specs.Bytes.{table, signedAt}
 use Rattle.state_bytes.proofs.Tables.{none, more, all}
 use mir.Syntax.{w32}
 use Rattle.num_arith.proofs.Range.{got}

@@ -3,8 +3,8 @@ use Prim.Native.Nat.{_-_, _≤_}
 use native.Mathlib.Omega.{arith}
 use mathlib.Core.Path.{_≡_, refl}
 use lib.ListN.{length, take}
-use Rattle.state_bytes.specs.Places.{puts}
-use Rattle.state_bytes.proofs.Runs.{puts-none, puts-more, puts-all}
+use Rattle.state_bytes.specs.Bytes.{puts}
+use Rattle.state_bytes.proofs.Puts.{puts-none, puts-more, puts-all}
 use borrow.Author.Needs.{needs}
 use Rattle.state_encode.proofs.put_levels.Statement.{statement}
 use Rattle.state_encode.proofs.put_levels.Tie as tie

@@ -7,7 +7,7 @@ use lib.IntN.{ℤ}
 use lib.Signed.{mag}
 use mir.Syntax.{w32}
 use mir.Facts.{toZ-ofZ}
-use Rattle.state_bytes.specs.Places.{puts, signedBytes}
+use Rattle.state_bytes.specs.Bytes.{puts, signedBytes}
 use Rattle.state_sections.proofs.Sections.{put, done}
 use Rattle.state_sections.proofs.Records.{record-put}
 use Rattle.state_layout.specs.Codecs.{motionWidths, motionRecord}

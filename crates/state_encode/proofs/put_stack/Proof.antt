@@ -4,15 +4,15 @@ use mathlib.Core.Path.{_≡_, refl, _∙_}
 use lib.ListN.{getD}
 use Rattle.limits.specs.Limits.{mostDepth}
 use Rattle.num_le.specs.LittleEndian.{leBytes}
-use Rattle.state_bytes.specs.Places.{puts, runs}
-use Rattle.state_bytes.proofs.Runs.{runs-none, runs-more, runs-all}
+use Rattle.state_bytes.specs.Bytes.{puts, concatenated}
+use Rattle.state_bytes.proofs.Puts.{runs-none, runs-more, runs-all}
 use Rattle.state_layout.specs.Codecs.{stackBytes}
 use borrow.Author.Needs.{needs}
 use Rattle.state_encode.proofs.put_stack.Statement.{statement}
 use Rattle.state_encode.proofs.put_stack.Tie as tie
 
 abbrev Inv-loop : tie.InvT-loop
-Inv-loop b₀ at stack i₀ b i = (i ≤ mostDepth) × (b ≡ puts b₀ at (runs i (λ (j : ℕ). leBytes 2 (getD stack j 0))))
+Inv-loop b₀ at stack i₀ b i = (i ≤ mostDepth) × (b ≡ puts b₀ at (concatenated i (λ (j : ℕ). leBytes 2 (getD stack j 0))))
 
 abbrev μ-loop : tie.MeasureT-loop
 μ-loop b₀ at stack i₀ b i = mostDepth - i

@@ -6,15 +6,15 @@ use lib.IntN.{ℤ, pos}
 use mir.Syntax.{w32}
 use mir.Facts.{toZ-ofZ}
 use Rattle.limits.specs.Limits.{cells}
-use Rattle.state_bytes.specs.Places.{puts, runs, signedBytes}
-use Rattle.state_bytes.proofs.Runs.{runs-none, runs-more, runs-all}
+use Rattle.state_bytes.specs.Bytes.{puts, concatenated, signedBytes}
+use Rattle.state_bytes.proofs.Puts.{runs-none, runs-more, runs-all}
 use Rattle.state_layout.specs.Codecs.{variableBytes}
 use borrow.Author.Needs.{needs}
 use Rattle.state_encode.proofs.put_variables.Statement.{statement}
 use Rattle.state_encode.proofs.put_variables.Tie as tie
 
 abbrev Inv-loop : tie.InvT-loop
-Inv-loop b₀ at variables k₀ b k = (k ≤ cells) × (b ≡ puts b₀ at (runs k (λ (j : ℕ). signedBytes (getD variables j (pos 0)))))
+Inv-loop b₀ at variables k₀ b k = (k ≤ cells) × (b ≡ puts b₀ at (concatenated k (λ (j : ℕ). signedBytes (getD variables j (pos 0)))))
 
 abbrev μ-loop : tie.MeasureT-loop
 μ-loop b₀ at variables k₀ b k = cells - k

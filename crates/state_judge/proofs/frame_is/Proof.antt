@@ -1,5 +1,5 @@
 -- `frame_is` meets its contract, test by test.
-use Rattle.state_layout.specs.Test.{frameIs}
+use Rattle.state_layout.specs.IsState.{frameIs}
 use borrow.Author.Needs.{needs}
 use Rattle.state_judge.proofs.frame_is.Statement.{statement}
 use Rattle.state_judge.proofs.frame_is.Tie as tie

@@ -1,5 +1,5 @@
 -- `is_state` meets its contract: the buffer is read, and what was read is judged.
-use Rattle.state_layout.specs.Test.{isState}
+use Rattle.state_layout.specs.IsState.{isState}
 use borrow.Author.Needs.{needs}
 use Rattle.state_judge.proofs.is_state.Statement.{statement}
 use Rattle.state_judge.proofs.is_state.Tie as tie

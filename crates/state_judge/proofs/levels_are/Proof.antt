@@ -4,7 +4,7 @@ use native.Mathlib.Omega.{arith}
 use native.Mathlib.Numerals.{add-one}
 use mathlib.Core.Path.{_≡_, refl, ap, _∙_}
 use Rattle.limits.specs.Limits.{cells}
-use Rattle.state_layout.specs.Test.{allOf, levelIs}
+use Rattle.state_layout.specs.IsState.{allOf, levelIs}
 use borrow.Author.Needs.{needs}
 use Rattle.state_judge.proofs.levels_are.Statement.{statement}
 use Rattle.state_judge.proofs.levels_are.Tie as tie

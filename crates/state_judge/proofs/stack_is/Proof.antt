@@ -4,7 +4,7 @@ use native.Mathlib.Omega.{arith}
 use native.Mathlib.Numerals.{add-one}
 use mathlib.Core.Path.{_≡_, refl, ap, _∙_}
 use Rattle.limits.specs.Limits.{mostDepth}
-use Rattle.state_layout.specs.Test.{allOf, entryIs}
+use Rattle.state_layout.specs.IsState.{allOf, entryIs}
 use borrow.Author.Needs.{needs}
 use Rattle.state_judge.proofs.stack_is.Statement.{statement}
 use Rattle.state_judge.proofs.stack_is.Tie as tie

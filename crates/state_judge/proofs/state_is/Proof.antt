@@ -1,5 +1,5 @@
 -- `state_is` meets its contract, part by part.
-use Rattle.state_layout.specs.Test.{stateIs}
+use Rattle.state_layout.specs.IsState.{stateIs}
 use borrow.Author.Needs.{needs}
 use Rattle.state_judge.proofs.state_is.Statement.{statement}
 use Rattle.state_judge.proofs.state_is.Tie as tie

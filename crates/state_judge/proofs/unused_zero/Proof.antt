@@ -4,13 +4,13 @@ use native.Mathlib.Omega.{arith}
 use native.Mathlib.Numerals.{add-one}
 use mathlib.Core.Path.{_≡_, refl, ap, _∙_}
 use Rattle.state_layout.specs.Layout.{unusedLength}
-use Rattle.state_layout.specs.Test.{unusedZero}
+use Rattle.state_layout.specs.IsState.{unusedBytesZero}
 use borrow.Author.Needs.{needs}
 use Rattle.state_judge.proofs.unused_zero.Statement.{statement}
 use Rattle.state_judge.proofs.unused_zero.Tie as tie
 
 abbrev Inv-loop : tie.InvT-loop
-Inv-loop b zero₀ k₀ zero k = (k ≤ unusedLength) × (zero ≡ unusedZero b k)
+Inv-loop b zero₀ k₀ zero k = (k ≤ unusedLength) × (zero ≡ unusedBytesZero b k)
 
 abbrev μ-loop : tie.MeasureT-loop
 μ-loop b zero₀ k₀ zero k = unusedLength - k
@@ -19,10 +19,10 @@ returns : tie.Need-returns Inv-loop μ-loop
 returns c =
     let l = c .before .loop in
     let e : l .k ≡ unusedLength = omega arith in
-    l .inv .1 ∙ ap (unusedZero (c .before .before .args .b .now)) e
+    l .inv .1 ∙ ap (unusedBytesZero (c .before .before .args .b .now)) e
 
 pub unused-zero-spec : {M : Type 1} → statement M
-unfolding unusedZero
+unfolding unusedBytesZero
 unused-zero-spec =
     tie.close
     (tie.spec

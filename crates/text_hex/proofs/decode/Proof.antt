@@ -7,12 +7,12 @@ use mathlib.Core.List.{List, _++_}
 use lib.ListN.{length, drop, set, length-set}
 use lib.Seq.{length-take-le}
 use Rattle.text_hex.proofs.Bytes.{one-more}
-use Rattle.text_hex.specs.Hex.{bytesOf}
+use Rattle.text_hex.specs.Hex.{hexBytes}
 use Rattle.text_hex.proofs.decode.Statement.{statement}
 use Rattle.text_hex.proofs.decode.Tie as tie
 
 abbrev Inv-loop : tie.InvT-loop
-Inv-loop line out₀ n i₀ out i = (i ≤ n) × (length out ≡ length out₀) × (out ≡ bytesOf line i ++ drop i out₀)
+Inv-loop line out₀ n i₀ out i = (i ≤ n) × (length out ≡ length out₀) × (out ≡ hexBytes line i ++ drop i out₀)
 
 abbrev μ-loop : tie.MeasureT-loop
 μ-loop line out₀ n i₀ out i = n - i
@@ -37,7 +37,7 @@ returns c =
     (is, ((l, sym (length-take-le (c .before .before .least .result) (v .out) l)), rw q at (v .inv .2)))
 
 pub decode-spec : {M : Type 1} → statement M
-unfolding bytesOf
+unfolding hexBytes
 decode-spec =
     tie.close
     (tie.spec

@@ -1,6 +1,6 @@
 -- `show_block` meets its contract: the bytes are those that were read.
 use borrow.Author.Needs.{needs}
-use Rattle.walk.specs.Program.{blockAt}
+use Rattle.walk.specs.Blocks.{blockAt}
 use Prim.Native.Nat.{ℕ}
 use mathlib.Core.List.{List}
 use mathlib.Core.Path.{ap, _∙_}

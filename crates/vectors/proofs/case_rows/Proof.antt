@@ -4,20 +4,20 @@ use mathlib.Core.Path.{refl}
 use Rattle.drive.specs.Types.{takes}
 use Rattle.image_number.specs.Number.{numberAt, firstByte, secondByte, numberBytes}
 use Rattle.image_header.specs.Rows.{checked}
-use Rattle.image_header.specs.Scan.{headerOf, closed, readWith, firstRefusal, lengthOutcome, scan, more, taken, judged, standsAt}
+use Rattle.image_header.specs.Scan.{headerOf, closed, readWith, firstRefusal, lengthResult, scan, more, taken, judged, standsAt}
 use Rattle.vectors.proofs.Rows.{_◂_}
 use Rattle.vectors.proofs.case_rows.Statement.{statement}
 use Rattle.vectors.proofs.case_rows.Tie as tie
 
 returns : tie.Need-returns
-unfolding headerOf closed readWith lengthOutcome numberAt firstByte secondByte scan more taken judged checked standsAt numberBytes takes firstRefusal
+unfolding headerOf closed readWith lengthResult numberAt firstByte secondByte scan more taken judged checked standsAt numberBytes takes firstRefusal
 returns c =
     let c5 = c .before .before in
     let c4 = c5 .before .before in
     let c3 = c4 .before .before in
     let c2 = c3 .before .before in
     let c1 = c2 .before .before in
-    c1 .header-outcome .ensures ◂ c2 .header-outcome2 .ensures ◂ c3 .header-outcome3 .ensures ◂ c4 .header-outcome4 .ensures ◂ c5 .header-outcome5 .ensures ◂ c .header-outcome6 .ensures ◂ refl
+    c1 .header-result .ensures ◂ c2 .header-result2 .ensures ◂ c3 .header-result3 .ensures ◂ c4 .header-result4 .ensures ◂ c5 .header-result5 .ensures ◂ c .header-result6 .ensures ◂ refl
 
 pub case-rows-spec : {M : Type 1} → statement M
 case-rows-spec =

@@ -4,13 +4,13 @@ use mathlib.Core.Path.{refl}
 use Rattle.drive.specs.Types.{takes}
 use Rattle.image_number.specs.Number.{numberAt, firstByte, secondByte, numberBytes}
 use Rattle.image_header.specs.Rows.{checked}
-use Rattle.image_header.specs.Scan.{headerOf, closed, readWith, firstRefusal, lengthOutcome, scan, more, taken, judged, standsAt}
+use Rattle.image_header.specs.Scan.{headerOf, closed, readWith, firstRefusal, lengthResult, scan, more, taken, judged, standsAt}
 use Rattle.vectors.proofs.Rows.{_◂_}
 use Rattle.vectors.proofs.range_rows.Statement.{statement}
 use Rattle.vectors.proofs.range_rows.Tie as tie
 
 returns : tie.Need-returns
-unfolding headerOf closed readWith lengthOutcome numberAt firstByte secondByte scan more taken judged checked standsAt numberBytes takes firstRefusal
+unfolding headerOf closed readWith lengthResult numberAt firstByte secondByte scan more taken judged checked standsAt numberBytes takes firstRefusal
 returns c =
     let c10 = c .before .before in
     let c9 = c10 .before .before in
@@ -22,7 +22,7 @@ returns c =
     let c3 = c4 .before .before in
     let c2 = c3 .before .before in
     let c1 = c2 .before .before in
-    c1 .header-outcome .ensures ◂ c2 .header-outcome2 .ensures ◂ c3 .header-outcome3 .ensures ◂ c4 .header-outcome4 .ensures ◂ c5 .header-outcome5 .ensures ◂ c6 .header-outcome6 .ensures ◂ c7 .header-outcome7 .ensures ◂ c8 .header-outcome8 .ensures ◂ c9 .header-outcome9 .ensures ◂ c10 .header-outcome10 .ensures ◂ c .header-outcome11 .ensures ◂ refl
+    c1 .header-result .ensures ◂ c2 .header-result2 .ensures ◂ c3 .header-result3 .ensures ◂ c4 .header-result4 .ensures ◂ c5 .header-result5 .ensures ◂ c6 .header-result6 .ensures ◂ c7 .header-result7 .ensures ◂ c8 .header-result8 .ensures ◂ c9 .header-result9 .ensures ◂ c10 .header-result10 .ensures ◂ c .header-result11 .ensures ◂ refl
 
 pub range-rows-spec : {M : Type 1} → statement M
 range-rows-spec =

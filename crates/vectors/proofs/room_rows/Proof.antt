@@ -5,15 +5,15 @@ use Rattle.drive.specs.Types.{takes}
 use Rattle.image_number.specs.Number.{numberBytes}
 use Rattle.image_header.specs.Rows.{checked}
 use Rattle.image_header.specs.Scan.{firstRefusal, scan, more, taken, judged, standsAt}
-use Rattle.image_writer.specs.Writer.{written, fitted, writtenWith, roomOutcome}
+use Rattle.image_writer.specs.Writer.{written, judgedWrite, writtenWith, roomResult}
 use Rattle.image_writer.specs.declared.Written.{Written}
 use Rattle.vectors.proofs.Rows.{_◂_}
 use Rattle.vectors.proofs.room_rows.Statement.{statement}
 use Rattle.vectors.proofs.room_rows.Tie as tie
 
 returns : tie.Need-returns
-unfolding written fitted writtenWith roomOutcome numberBytes scan more taken judged checked standsAt takes firstRefusal
-returns c = ap (λ (w : Written). w .outcome) (c .before .before .before .before .before .write-row .ensures .0) ◂ ap (λ (w : Written). w .outcome) (c .before .write-row2 .ensures .0) ◂ refl
+unfolding written judgedWrite writtenWith roomResult numberBytes scan more taken judged checked standsAt takes firstRefusal
+returns c = ap (λ (w : Written). w .result) (c .before .before .before .before .before .write-row .ensures .0) ◂ ap (λ (w : Written). w .result) (c .before .write-row2 .ensures .0) ◂ refl
 
 pub room-rows-spec : {M : Type 1} → statement M
 room-rows-spec =

@@ -5,13 +5,13 @@ use Rattle.drive.specs.Types.{takes}
 use Rattle.image_number.specs.Number.{numberBytes}
 use Rattle.image_header.specs.Rows.{checked}
 use Rattle.image_header.specs.Scan.{firstRefusal, scan, more, taken, judged, standsAt}
-use Rattle.image_writer.specs.Writer.{written, fitted, writtenWith, roomOutcome}
+use Rattle.image_writer.specs.Writer.{written, judgedWrite, writtenWith, roomResult}
 use Rattle.vectors.proofs.Rows.{_◂_}
 use Rattle.vectors.proofs.write_rows.Statement.{statement}
 use Rattle.vectors.proofs.write_rows.Tie as tie
 
 returns : tie.Need-returns
-unfolding written fitted writtenWith roomOutcome numberBytes scan more taken judged checked standsAt takes firstRefusal
+unfolding written judgedWrite writtenWith roomResult numberBytes scan more taken judged checked standsAt takes firstRefusal
 returns c =
     let c7 = c .before .before in
     let c6 = c7 .before .before in
@@ -20,7 +20,7 @@ returns c =
     let c3 = c4 .before .before in
     let c2 = c3 .before .before in
     let c1 = c2 .before .before in
-    c1 .write-outcome .ensures ◂ c2 .write-outcome2 .ensures ◂ c3 .write-outcome3 .ensures ◂ c4 .write-outcome4 .ensures ◂ c5 .write-outcome5 .ensures ◂ c6 .write-outcome6 .ensures ◂ c7 .write-outcome7 .ensures ◂ c .write-outcome8 .ensures ◂ refl
+    c1 .write-result .ensures ◂ c2 .write-result2 .ensures ◂ c3 .write-result3 .ensures ◂ c4 .write-result4 .ensures ◂ c5 .write-result5 .ensures ◂ c6 .write-result6 .ensures ◂ c7 .write-result7 .ensures ◂ c .write-result8 .ensures ◂ refl
 
 pub write-rows-spec : {M : Type 1} → statement M
 write-rows-spec =

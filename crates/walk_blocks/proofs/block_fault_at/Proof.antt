@@ -1,6 +1,6 @@
 -- `block_fault_at` meets its contract: the bytes of the block, judged.
 use mathlib.Core.Path.{ap, _∙_}
-use Rattle.command_judge.specs.Judged.{blockFault}
+use Rattle.command_judge.specs.BlockFault.{blockFault}
 use borrow.Author.Needs.{needs}
 use Rattle.walk_blocks.proofs.block_fault_at.Statement.{statement}
 use Rattle.walk_blocks.proofs.block_fault_at.Tie as tie

@@ -1,7 +1,7 @@
 -- `command_at` meets its contract: the operands of the block.
 use mathlib.Core.Path.{ap, _∙_}
 use Rattle.command_operands.specs.Operands.{operands}
-use Rattle.walk.specs.Program.{commandAt}
+use Rattle.walk.specs.Blocks.{commandAt}
 use borrow.Author.Needs.{needs}
 use Rattle.walk_blocks.proofs.command_at.Statement.{statement}
 use Rattle.walk_blocks.proofs.command_at.Tie as tie

@@ -3,8 +3,8 @@ use mathlib.Core.Path.{ap, _∙_}
 use borrow.Author.Needs.{needs}
 use Rattle.command_operands.specs.declared.Command.{Command}
 use Rattle.walk_flow.specs.Terms.{under}
-use Rattle.walk_point.specs.Fault.{faultOf}
-use Rattle.walk.specs.Program.{faultAt}
+use Rattle.walk_point.specs.PointFault.{faultOf}
+use Rattle.walk.specs.Blocks.{faultAt}
 use Rattle.walk_blocks.proofs.fault_at.Statement.{statement}
 use Rattle.walk_blocks.proofs.fault_at.Tie as tie
 

@@ -1,7 +1,7 @@
 -- `foreign` meets its contract: its three tests are the definition's.
 use mathlib.Core.Bool.{and-false}
 use borrow.Author.Tests.{ne-eqb, not-true, not-false}
-use Rattle.walk_flow.specs.Tasks.{foreign}
+use Rattle.walk_flow.specs.Permission.{foreign}
 use borrow.Author.Needs.{needs}
 use Rattle.walk_flow.proofs.foreign.Statement.{statement}
 use Rattle.walk_flow.proofs.foreign.Tie as tie

@@ -1,8 +1,8 @@
 -- `permitted` meets its contract: the box of each task is one bit of the row's number, and there is none above.
 use mathlib.Core.Path.{sym}
 use Rattle.walk_flow.specs.Terms.{under}
-use Rattle.walk_flow.specs.Tasks.{permitted}
-use Rattle.walk_flow.proofs.Tests.{no-box}
+use Rattle.walk_flow.specs.Permission.{permitted}
+use Rattle.walk_flow.proofs.NoBox.{no-box}
 use borrow.Author.Needs.{needs}
 use Rattle.walk_flow.proofs.permitted.Statement.{statement}
 use Rattle.walk_flow.proofs.permitted.Tie as tie

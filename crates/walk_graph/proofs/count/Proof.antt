@@ -5,8 +5,8 @@ use lib.Dec.{eqb}
 use lib.ListN.{length}
 use Rattle.image_number.proofs.Choice.{arm}
 use Rattle.walk_flow.specs.declared.Flow.{Flow}
-use Rattle.walk_point.specs.Fault.{point}
-use Rattle.walk.specs.Successors.{beyond, goes}
+use Rattle.walk_point.specs.PointFault.{point}
+use Rattle.walk.specs.Successors.{beyond, leadsTo}
 use Rattle.walk_graph.proofs.Followers.{started-count}
 use Rattle.walk_graph.proofs.count.Statement.{statement}
 use Rattle.walk_graph.proofs.count.Tie as tie
@@ -25,16 +25,16 @@ count-spec =
     (λ c κs. search needs)
     (λ c. search needs)
     (λ c. search needs)
-    (λ c. arm (λ (f : Flow). length (goes (c .before .before .args .p) f)) (c .enum-told .given .1) refl)
-    (λ c. arm (λ (f : Flow). length (goes (c .before .before .args .p) f)) (c .enum-told2 .given .1) refl)
-    (λ c. arm (λ (f : Flow). length (goes (c .before .before .args .p) f)) (c .enum-told3 .given .1) refl)
-    (λ c. arm (λ (f : Flow). length (goes (c .before .before .args .p) f)) (c .enum-told4 .given .1) refl)
-    (λ c. arm (λ (f : Flow). length (goes (c .before .before .args .p) f)) (c .enum-told5 .given .1) refl)
-    (λ c. arm (λ (f : Flow). length (goes (c .before .before .args .p) f)) (c .enum-told6 .given .1) refl)
+    (λ c. arm (λ (f : Flow). length (leadsTo (c .before .before .args .p) f)) (c .enum-told .given .1) refl)
+    (λ c. arm (λ (f : Flow). length (leadsTo (c .before .before .args .p) f)) (c .enum-told2 .given .1) refl)
+    (λ c. arm (λ (f : Flow). length (leadsTo (c .before .before .args .p) f)) (c .enum-told3 .given .1) refl)
+    (λ c. arm (λ (f : Flow). length (leadsTo (c .before .before .args .p) f)) (c .enum-told4 .given .1) refl)
+    (λ c. arm (λ (f : Flow). length (leadsTo (c .before .before .args .p) f)) (c .enum-told5 .given .1) refl)
+    (λ c. arm (λ (f : Flow). length (leadsTo (c .before .before .args .p) f)) (c .enum-told6 .given .1) refl)
     (λ c.
     let p = c .before .before .before .before .before .args .p in
     let f = c .before .before .before .f .given in
     let u = f .0 .0 in
-    arm (λ (g : Flow). length (goes p g)) (f .1) (c .count-started .ensures ∙ started-count (eqb u (p .task)) (point u (f .0 .1 .0) 0) (beyond p)))
-    (λ c. arm (λ (f : Flow). length (goes (c .before .before .args .p) f)) (c .enum-told7 .given .1) refl)
-    (λ c. arm (λ (f : Flow). length (goes (c .before .before .args .p) f)) (c .enum-told8 .given .1) refl))
+    arm (λ (g : Flow). length (leadsTo p g)) (f .1) (c .count-started .ensures ∙ started-count (eqb u (p .task)) (point u (f .0 .1 .0) 0) (beyond p)))
+    (λ c. arm (λ (f : Flow). length (leadsTo (c .before .before .args .p) f)) (c .enum-told7 .given .1) refl)
+    (λ c. arm (λ (f : Flow). length (leadsTo (c .before .before .args .p) f)) (c .enum-told8 .given .1) refl))

@@ -1,6 +1,6 @@
 -- `either_past` meets its contract: its two tests are the list's.
 use mathlib.Core.Path.{sym, _∙_}
-use Rattle.walk_point.proofs.Tests.{first-past, first-not}
+use Rattle.walk_point.proofs.TwoBlocks.{first-past, first-not}
 use borrow.Author.Needs.{needs}
 use Rattle.walk_point.proofs.either_past.Statement.{statement}
 use Rattle.walk_point.proofs.either_past.Tie as tie

@@ -1,6 +1,6 @@
 -- `flow_fault` meets its contract: its tests are the definition's, in its order.
 use mathlib.Core.Path.{sym, _∙_}
-use Rattle.walk_point.specs.Fault.{flowFault}
+use Rattle.walk_point.specs.PointFault.{flowFault}
 use borrow.Author.Needs.{needs}
 use Rattle.walk_point.proofs.flow_fault.Statement.{statement}
 use Rattle.walk_point.proofs.flow_fault.Tie as tie

@@ -1,7 +1,7 @@
 -- `blocks` meets its contract: the verdict decides how much of the part is handed back.
 use mathlib.Core.Path.{sym}
 use lib.Seq.{length-take-le}
-use Rattle.walk_search.proofs.Whole.{kept-within, kept-blocks}
+use Rattle.walk_search.proofs.PartByPart.{kept-within, kept-blocks}
 use borrow.Author.Needs.{needs}
 use Rattle.walk_search.proofs.blocks.Statement.{statement}
 use Rattle.walk_search.proofs.blocks.Tie as tie

@@ -4,8 +4,8 @@ use mathlib.Core.Path.{_≡_, sym, ap, _∙_}
 use native.Mathlib.Omega.{arith}
 use borrow.Author.Count.{below-more}
 use Rattle.walk_flow.specs.Terms.{under}
-use Rattle.command_judge.specs.Judged.{blockFaultNumber}
-use Rattle.walk.specs.Program.{blockNumber}
+use Rattle.command_judge.specs.BlockFault.{blockFaultNumber}
+use Rattle.walk.specs.Blocks.{blockNumber}
 use Rattle.walk_search.proofs.first_refused.Statement.{statement}
 use Rattle.walk_search.proofs.first_refused.Tie as tie
 

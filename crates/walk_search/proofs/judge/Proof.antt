@@ -7,7 +7,7 @@ use denote.Ref.{now}
 use borrow.Author.Needs.{needs}
 use Rattle.limits.specs.Limits.{marksLength}
 use Rattle.walk.specs.Verdict.{verdictOf}
-use Rattle.walk_search.proofs.Whole.{refused-image, ready, judged-image}
+use Rattle.walk_search.proofs.PartByPart.{refused-image, ready, judged-image}
 use Rattle.walk_search.proofs.judge.Statement.{statement}
 use Rattle.walk_search.proofs.judge.Tie as tie
 

@@ -10,10 +10,10 @@ use lib.Signed.{mag}
 use mir.Syntax.{w32}
 use mir.Val.{hbits, ofZ}
 use Rattle.num_arith.specs.Ops.{eqZ}
-use Rattle.num_arith.proofs.Tests.{same-bits}
+use Rattle.num_arith.proofs.Comparisons.{same-bits}
 use Rattle.image_number.proofs.Choice.{arm}
 use Rattle.command_table.specs.declared.Ranges.{Ranges}
-use Rattle.command_judge.specs.Judged.{inRange}
+use Rattle.command_judge.specs.BlockFault.{inRange}
 use Rattle.command_judge.proofs.ranges.in_range.Statement.{statement}
 use Rattle.command_judge.proofs.ranges.in_range.Tie as tie
 

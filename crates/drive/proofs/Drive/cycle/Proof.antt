@@ -1,7 +1,7 @@
 -- `Drive::cycle` meets its contract: each arm of its `match` is a part of the list of cycle lengths.
 use mathlib.Core.Path.{sym}
 use native.Mathlib.Omega.{arith}
-use Rattle.drive.proofs.Cases.{long-cycle, short-cycle, no-cycle}
+use Rattle.drive.proofs.TypesAndSlots.{long-cycle, short-cycle, no-cycle}
 use Rattle.drive.proofs.Drive.cycle.Statement.{statement}
 use Rattle.drive.proofs.Drive.cycle.Tie as tie
 

@@ -4,9 +4,9 @@ use mathlib.Core.Path.{sym, ap, _∙_}
 use mathlib.Core.Bool.{Bool, cond}
 use mathlib.Core.List.{List, []}
 use lib.ListN.{List·getD-eq-default}
-use Rattle.num_arith.proofs.Tests.{past}
+use Rattle.num_arith.proofs.Comparisons.{past}
 use Rattle.image_header.specs.Numbers.{headerFrom}
-use Rattle.image_header.specs.Rows.{Test, rows, check, checked}
+use Rattle.image_header.specs.Rows.{Test, headerRows, check, checked}
 use Rattle.image_header.specs.declared.reader.Check.the-variants.{Passes, Fails}
 use Rattle.image_header.proofs.reader.check_row.Statement.{statement}
 use Rattle.image_header.proofs.reader.check_row.Tie as tie
@@ -21,7 +21,7 @@ returns-4 c = rw (c .before .before .match .keys4) (c .fails-unless4 .ensures �
 
 returns-7 : tie.Need-returns-7
 unfolding checked
-returns-7 c = sym (ap (λ (ts : List Test). check ts (headerFrom (c .before .args .t2))) (List·getD-eq-default rows [] (past 6 (c .before .args .row) (c .match .rest))))
+returns-7 c = sym (ap (λ (ts : List Test). check ts (headerFrom (c .before .args .t2))) (List·getD-eq-default headerRows [] (past 6 (c .before .args .row) (c .match .rest))))
 
 pub check-row-spec : {M : Type 1} → statement M
 unfolding checked

@@ -2,8 +2,8 @@
 use borrow.Author.Needs.{needs}
 use native.Mathlib.Omega.{arith}
 use mathlib.Core.Path.{sym, ap, _∙_}
-use Rattle.image_result.specs.declared.Outcome.the-variants.{OutOfRange}
-use Rattle.image_header.specs.Scan.{stopped, judged}
+use Rattle.image_result.specs.declared.ImageResult.the-variants.{OutOfRange}
+use Rattle.image_header.specs.Scan.{scanStopped, judged}
 use Rattle.image_header.proofs.Rows.{blames}
 use Rattle.image_header.proofs.reader.judge.Statement.{statement}
 use Rattle.image_header.proofs.reader.judge.Tie as tie
@@ -18,7 +18,7 @@ returns-2 : tie.Need-returns-2
 unfolding judged
 returns-2 c =
     let e = sym (c .before .before .before .before .before .check-row .ensures) ∙ c .before .before .before .k .given .1 in
-    rw e (c .stop .ensures ∙ ap (λ p. stopped (OutOfRange p)) (c .before .place-of .ensures))
+    rw e (c .stop .ensures ∙ ap (λ p. scanStopped (OutOfRange p)) (c .before .place-of .ensures))
 
 pub judge-spec : {M : Type 1} → statement M
 unfolding judged

@@ -4,12 +4,12 @@ use native.Mathlib.Omega.{arith}
 use borrow.Author.Needs.{needs}
 use borrow.Author.Tests.{lt-ltb, le-ltb}
 use Rattle.limits.specs.Limits.{blockLength}
-use Rattle.image_header.specs.Scan.{lengthOutcome}
+use Rattle.image_header.specs.Scan.{lengthResult}
 use Rattle.image_header.proofs.reader.judge_length.Statement.{statement}
 use Rattle.image_header.proofs.reader.judge_length.Tie as tie
 
 returns-2 : tie.Need-returns-2
-unfolding lengthOutcome
+unfolding lengthResult
 returns-2 c =
     let a = c .before .before .args in
     let e = c .before .if1 .left in
@@ -17,7 +17,7 @@ returns-2 c =
     rw (le-ltb (a .length) (a .at + blockLength * a .count) (omega arith), lt-ltb (a .at + blockLength * a .count) (a .length) (omega arith))
 
 returns-3 : tie.Need-returns-3
-unfolding lengthOutcome
+unfolding lengthResult
 returns-3 c =
     let a = c .before .before .args in
     let e = c .before .if1 .left in
@@ -25,7 +25,7 @@ returns-3 c =
     rw (le-ltb (a .length) (a .at + blockLength * a .count) (omega arith), le-ltb (a .at + blockLength * a .count) (a .length) (omega arith))
 
 pub judge-length-spec : {M : Type 1} → statement M
-unfolding lengthOutcome
+unfolding lengthResult
 judge-length-spec =
     tie.close
     (tie.spec

@@ -1,8 +1,8 @@
 -- `Point::fault` meets its contract: its tests are the definition's, in its order.
 use mathlib.Core.Path.{sym, _∙_}
 use borrow.Author.Tests.{not-true, not-false}
-use Rattle.walk_flow.specs.Tasks.{foreign, permitted}
-use Rattle.walk_point.specs.Fault.{faultOf}
+use Rattle.walk_flow.specs.Permission.{foreign, permitted}
+use Rattle.walk_point.specs.PointFault.{faultOf}
 use borrow.Author.Needs.{needs}
 use Rattle.walk_point.proofs.Point.fault.Statement.{statement}
 use Rattle.walk_point.proofs.Point.fault.Tie as tie

@@ -6,7 +6,7 @@ use borrow.Author.Count.{below-more}
 use lib.ListN.{length, getD, length-set}
 use lib.Seq.{getD-set-same, getD-set-other}
 use Rattle.limits.specs.Limits.{marksLength}
-use Rattle.walk_search.proofs.Laws.{cleared}
+use Rattle.walk_search.proofs.Searching.{cleared}
 use Rattle.walk_search.proofs.search.clear.Statement.{statement}
 use Rattle.walk_search.proofs.search.clear.Tie as tie
 

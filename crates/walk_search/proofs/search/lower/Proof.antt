@@ -3,7 +3,7 @@ use mathlib.Core.Path.{sym, ap, _∙_}
 use borrow.Author.Tests.{not-true, not-false}
 use denote.Ref.{now}
 use Rattle.walk_flow.specs.Terms.{under}
-use Rattle.walk.specs.Program.{faultAt}
+use Rattle.walk.specs.Blocks.{faultAt}
 use Rattle.walk_fault.specs.Fault.{isForeign}
 use Rattle.walk_search.specs.Search.{lowered}
 use borrow.Author.Needs.{needs}

@@ -2,8 +2,8 @@
 use denote.Ref.{now}
 use Rattle.walk_flow.specs.Terms.{under}
 use Rattle.walk.specs.Verdict.{rootOf}
-use Rattle.walk.proofs.History.{number-inside}
-use Rattle.walk_search.proofs.Laws.{begun, all-dirty}
+use Rattle.walk.proofs.Steps.History.{number-inside}
+use Rattle.walk_search.proofs.Searching.{begun, all-dirty}
 use borrow.Author.Needs.{needs}
 use Rattle.walk.specs.Graph.{Reach}
 use Rattle.walk_search.proofs.search.search.Statement.{statement}

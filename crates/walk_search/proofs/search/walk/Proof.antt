@@ -7,9 +7,9 @@ use Rattle.limits.specs.Limits.{marksLength}
 use Rattle.walk_flow.specs.Terms.{under}
 use Rattle.walk.specs.Successors.{nextOf}
 use Rattle.walk.specs.Verdict.{rootOf}
-use Rattle.walk.proofs.History.{number-inside}
+use Rattle.walk.proofs.Steps.History.{number-inside}
 use Rattle.walk_search.specs.Search.{pageLength, Going, Paged}
-use Rattle.walk_search.proofs.Laws.{undone, visit-keeps, onward, skipped, stayed, passed, searched, swept}
+use Rattle.walk_search.proofs.Searching.{undone, visit-keeps, onward, skipped, stayed, passed, searched, swept}
 use Rattle.walk_search.proofs.search.walk.Statement.{statement}
 use Rattle.walk_search.proofs.search.walk.Tie as tie
 

@@ -1,0 +1,92 @@
+-- What the engine's functions share: truths twice negated, and a step put together.
+use Prim.Native.Nat.{ℕ, _<_, _≤_}
+use mathlib.Core.Path.{_≡_, refl}
+use mathlib.Core.Bool.{Bool, true, false, not}
+use mathlib.Core.List.{List, []}
+use native.Mathlib.Omega.{arith}
+use lib.ListN.{length}
+use borrow.Author.Tests.{eq-eqb, ne-eqb, lt-ltb, le-ltb}
+use Rattle.limits.specs.Limits.{taskCount, mostBlocks, mostDepth, inputsLength}
+use Rattle.command_operands.specs.declared.Command.{Command}
+use Rattle.state.specs.State.{runs, taskAt}
+use Rattle.state.specs.GoodState.{GoodState}
+use Rattle.state.proofs.Bounds.{wait-fits}
+use Rattle.state.specs.declared.Task.{Task}
+use Rattle.state.specs.declared.Values.{Values}
+use Rattle.state.specs.declared.State.{State}
+use Rattle.machine.specs.Given.{Inputs, inputsOf, givenAt, level}
+use Rattle.machine.specs.Effect.{effectOf}
+use Rattle.image_number.proofs.Choice.{both}
+use Rattle.image_header.specs.Scan.{headerOf, blocksOf}
+use Rattle.image_header.specs.declared.reader.HeaderRead.{HeaderRead}
+use Rattle.machine.specs.Engine.{noted, tasksAfter, answerTo, pointOf, performed, refuse, fits, given, carriedOut, taskStep, step, isLoaded, blockFits, waitFits, fitsAs, termsHeld}
+use Rattle.machine.specs.declared.Answer.the-variants.{NoTask, Inputs as BadInputs, NotRunning, Differs}
+use Rattle.machine.specs.declared.Answer.{Answer}
+use Rattle.machine.specs.declared.Effect.{Effect}
+use Rattle.machine.specs.declared.StepOut.{StepOut}
+
+pub not-not : (t : Bool) → t ≡ not (not t)
+not-not true = refl
+not-not false = refl
+
+-- the parts of what a command comes to
+pub together : (s : State) (t start : ℕ) (k : Task) (e : Effect) (v : Values) (ts : List Task) (a : Answer)
+    → v ≡ noted t start (e .values) → ts ≡ tasksAfter (s .header .start) t k (e .outcome) (s .tasks) → a ≡ answerTo (e .outcome) (pointOf t k)
+    → _≡_ {A = StepOut} (record { state = record { values = v; header = s .header; tasks = ts }; request = e .request; answer = a }) (performed s (inputsOf t [] start 0) k e)
+unfolding performed
+together s t start k e v ts a i j l = rw (i, j, l) refl
+
+-- the effect of a command, with the levels that the code reads
+pub same-effect : (s : State) (x : Inputs) (k : Task) (start reached : ℕ) (c d : Command) → start ≡ level (x .start) → reached ≡ level (x .reached) → c ≡ d
+    → effectOf (givenAt (record { drive = s .header .drive; start = start; reached = reached; time = k .time; turns = k .turns }) (x .levels)) c (s .values)
+    ≡ effectOf (given s k x) d (s .values)
+same-effect s x k start reached c d i j e = rw (i, j, e) refl
+
+-- what a good state's task has room for
+pub record Ready (k : Task) : Type 0 where
+  pub block : k .block < mostBlocks
+  pub depth : k .depth ≤ mostDepth
+  pub turns : k .turns < 4294967295
+
+pub ready : (s : State) → GoodState s → (t : ℕ) → t < taskCount → Ready (taskAt s t)
+ready s g t l =
+    let k = g .task t l in
+    let b = k .block in
+    let n = g .header .count .1 in
+    record { block = omega arith; depth = k .depth; turns = wait-fits _ _ _ (g .header .model) (k .wait) .1 }
+
+-- ---- the tests in their order
+
+module _ (image : List ℕ) (s : State) (x : Inputs) where
+  module _ (k : Task) where
+    pub not-running : (k .status ≡ runs → ⊥) → refuse s NotRunning ≡ taskStep image s x k
+    unfolding taskStep
+    not-running n = rw (ne-eqb (k .status) runs n) refl
+
+    pub differs : k .status ≡ runs → fits image (termsHeld s) (x .task) k ≡ false → refuse s (Differs (pointOf (x .task) k)) ≡ taskStep image s x k
+    unfolding taskStep
+    differs e f = rw (eq-eqb (k .status) runs e, f) refl
+
+    pub carried : k .status ≡ runs → fits image (termsHeld s) (x .task) k ≡ true → carriedOut (blocksOf image) s x k ≡ taskStep image s x k
+    unfolding taskStep
+    carried e f = rw (eq-eqb (k .status) runs e, f) refl
+
+  -- what 17 asks of an image, of what was read of it; the block at the pointer passes
+  pub fits-of : (r : HeaderRead) (bs : List ℕ) (k : Task) → r ≡ headerOf image → bs ≡ blocksOf image → fitsAs r bs (termsHeld s) (x .task) k ≡ fits image (termsHeld s) (x .task) k
+  unfolding fits
+  fits-of r bs k e b = rw (e, b) refl
+
+  pub block-passes : (r : HeaderRead) (bs : List ℕ) (k : Task) → fitsAs r bs (termsHeld s) (x .task) k ≡ true → blockFits (termsHeld s) bs (x .task) k ≡ true
+  block-passes r bs k e = both (blockFits (termsHeld s) bs (x .task) k) (waitFits bs k) (both (isLoaded r (s .header)) _ e .1) .0
+
+  pub no-task : taskCount ≤ x .task → refuse s (NoTask (x .task)) ≡ step image s x
+  unfolding step
+  no-task l = rw (le-ltb (x .task) taskCount l) refl
+
+  pub bad-inputs : x .task < taskCount → (length (x .levels) ≡ inputsLength → ⊥) → refuse s (BadInputs (length (x .levels))) ≡ step image s x
+  unfolding step
+  bad-inputs l n = rw (lt-ltb (x .task) taskCount l, ne-eqb (length (x .levels)) inputsLength n) refl
+
+  pub of-task : x .task < taskCount → length (x .levels) ≡ inputsLength → taskStep image s x (taskAt s (x .task)) ≡ step image s x
+  unfolding step
+  of-task l e = rw (lt-ltb (x .task) taskCount l, eq-eqb (length (x .levels)) inputsLength e) refl

@@ -1,0 +1,145 @@
+-- The law of every command, row by row: the row's flow and ranges are computed, and the form of the effect does the rest.
+use Prim.Native.Nat.{ℕ, _+_, _-_, _*_, _≤_}
+use mathlib.Core.Path.{_≡_, refl, sym, ap, subst, _∙_}
+use mathlib.Core.Bool.{true, _&&_, _||_, not, cond}
+use native.Mathlib.Omega.{arith}
+use lib.Dec.{eqb, leb}
+use lib.ListN.{getD}
+use lib.IntN.{ℤ, pos, negsuc, _+ℤ_, _-ℤ_, _*ℤ_}
+use borrow.Author.Tests.{leb-true}
+use mir.Syntax.{w32}
+use Rattle.limits.specs.Limits.{bias, plc, mathematics, mostLevel, mostSpeed, mostRamp, mostTime, longestWait}
+use Rattle.num_arith.specs.Wrap.{wrap}
+use Rattle.num_arith.specs.Ops.{holds, bitAt, eqZ}
+use Rattle.num_arith.proofs.Cut.{wrap-fits}
+use Rattle.image_number.proofs.Choice.{clash, both}
+use Rattle.command_table.specs.Rows.{rows, rowIn, rowOf}
+use Rattle.command_operands.specs.declared.Command.{Command}
+use Rattle.command_judge.specs.BlockFault.{inRange}
+use Rattle.state.specs.State.{withFlag, withOutput, firstAxis, axisOf, withMark, withPosition, withSpeed, withAcceleration, withDeceleration}
+use Rattle.state.proofs.Setters.{flag-good, output-good, good-axis, mark-good, position-good, speed-good, acceleration-good, deceleration-good}
+use Rattle.state.specs.declared.Values.{Values}
+use Rattle.machine.specs.Given.{Given, inputAt}
+use Rattle.machine.specs.Effect.{CommandEffect, effectRow, effectOf, compares, flag, output, bit, isSet, variable, within, natural, waits, timeOf, flagNumber}
+use Rattle.machine.specs.Effect.{effectRows as deeds}
+use Rattle.machine.specs.StepRule.{Reason}
+use Rattle.machine.specs.Allows.{Allows}
+use Rattle.machine.specs.declared.Request.the-variants.{MoveTo, MoveBy, Forward, Backward}
+use Rattle.machine.specs.declared.Outcome.the-variants.{Jump, Call, Return, Start, Restart, End}
+use Rattle.machine.proofs.Every.{All, end, _&_}
+use Rattle.machine.proofs.Rows.EachRow.{Of, effect-of}
+use Rattle.machine.proofs.Rows.InRange.{bit-level, level-level, up-to, small-fits}
+use Rattle.machine.proofs.Rows.Waits.{rounded}
+use Rattle.machine.proofs.Rows.Forms.{Ranged, Lawful, Law, simply, either, flows-law, effect-law, sets-law, axis-law, assigns-law, jump-law, moves-law}
+use Rattle.machine.proofs.Rows.Forms.{stays-law, waits-lawful, parameter-law, divides-law, waits-variable-law}
+
+-- what is shown of a deed, at a command of its code
+abbrev pub Always : Command → CommandEffect → Type 0
+Always c d = (g : Given) (v : Values) → Law (c .code) c g v (d g c v)
+
+at : (k : ℕ) (d : CommandEffect) → ((c : Command) → c .code ≡ k → (g : Given) (v : Values) → Law k c g v (d g c v)) → Of Always (effectRow k d)
+at k d h c e g v = subst (λ (n : ℕ). Law n c g v (d g c v)) (sym e) (h c e g v)
+
+-- the ranges of a command whose code is known
+ranges-at : (k count : ℕ) (c : Command) → c .code ≡ k → Ranged count c → inRange (rowOf k .ranges) count c ≡ true
+ranges-at k count c e f = subst (λ (n : ℕ). inRange (rowOf n .ranges) count c ≡ true) e f
+
+-- ---- what single rows need
+
+-- 51
+ends : (c : Command) (g : Given) (v : Values) → Lawful 0x51 c g v (cond (eqb (c .x) 0) Restart End)
+unfolding rowOf rowIn rows
+ends c g v =
+    either 0x51 c g v (eqb (c .x) 0) Restart End (λ e. simply 0x51 c g v Restart refl (rw e Allows.restart)) (λ e. simply 0x51 c g v End refl (rw e Allows.end))
+
+-- 59 and 5A: the longest times
+twice : (word : ℕ) → word ≤ 65535 → 2 * word ≤ longestWait
+twice word l = omega arith
+
+short : (model : ℕ) (z : ℤ) → within 0 mostTime z ≡ true → timeOf model (natural z) ≤ longestWait
+short model (negsuc n) e = clash (sym e)
+short model (pos n) e = let b = leb-true n mostTime (both (leb 0 n) (leb n mostTime) e .1) in let l = rounded model n .low in omega arith
+
+-- 85: the divisor is not 0
+not-zero : (z : ℤ) → not (eqZ z (pos 0)) ≡ true → z ≡ pos 0 → ⊥
+not-zero z e i = clash (sym e ∙ ap (λ (n : ℤ). not (eqZ n (pos 0))) i)
+
+-- ---- the rows
+
+rows-keep : All (Of Always) deeds
+unfolding rowOf rowIn rows
+rows-keep =
+    at 0x00 _ (λ c e g v. moves-law 0x00 c g v MoveTo Allows.over Allows.stay) &
+    at 0x01 _ (λ c e g v. moves-law 0x01 c g v MoveBy Allows.over Allows.stay) &
+    at 0x03 _ (λ c e g v. moves-law 0x03 c g v Forward Allows.over Allows.stay) &
+    at 0x04 _ (λ c e g v. moves-law 0x04 c g v Backward Allows.over Allows.stay) &
+    at 0x0E _ (λ c e g v. sets-law 0x0E c g v (withMark 1 v) Allows.on (λ _ _ d. mark-good v d 1 (omega arith))) &
+    at 0x0F _ (λ c e g v. effect-law 0x0F c g v v _ Allows.on (λ _ _ d. d)) &
+    at 0x1F _ (λ c e g v. effect-law 0x1F c g v v _ Allows.on (λ _ _ d. d)) &
+    at 0x20 _ (λ c e g v. axis-law 0x20 c g v (withPosition (c .value)) Allows.on (λ _ f d. position-good _ (good-axis v d firstAxis) (c .value) (f .value))) &
+    at 0x21 _ (λ c e g v. axis-law 0x21 c g v (withSpeed (c .word)) Allows.on
+    (λ n f d. speed-good _ (good-axis v d firstAxis) (c .word) (up-to mostSpeed (c .word) (ranges-at 0x21 n c e (f .ranges))))) &
+    at 0x22 _ (λ c e g v. axis-law 0x22 c g v (withAcceleration (c .word)) Allows.on
+    (λ n f d. acceleration-good _ (good-axis v d firstAxis) (c .word) (up-to mostRamp (c .word) (ranges-at 0x22 n c e (f .ranges))))) &
+    at 0x23 _ (λ c e g v. axis-law 0x23 c g v (withDeceleration (c .word)) Allows.on
+    (λ n f d. deceleration-good _ (good-axis v d firstAxis) (c .word) (up-to mostRamp (c .word) (ranges-at 0x23 n c e (f .ranges))))) &
+    at 0x30 _ (λ c e g v. axis-law 0x30 c g v (withPosition (variable v (c .x))) Allows.on
+    (λ _ _ d. position-good _ (good-axis v d firstAxis) (variable v (c .x)) (d .cells .signed (c .x)))) &
+    at 0x31 _ (λ c e g v. parameter-law 0x31 c g v mostSpeed withSpeed Allows.on Allows.halt speed-good (Reason.speed e)) &
+    at 0x32 _ (λ c e g v. parameter-law 0x32 c g v mostRamp withAcceleration Allows.on Allows.halt acceleration-good (Reason.acceleration e)) &
+    at 0x33 _ (λ c e g v. parameter-law 0x33 c g v mostRamp withDeceleration Allows.on Allows.halt deceleration-good (Reason.deceleration e)) &
+    at 0x40 _ (λ c e g v. assigns-law 0x40 c g v (axisOf firstAxis v .position) Allows.on (λ _ _ d. good-axis v d firstAxis .position)) &
+    at 0x41 _ (λ c e g v. assigns-law 0x41 c g v (pos (axisOf firstAxis v .speed)) Allows.on
+    (λ _ _ d. small-fits mostSpeed _ (omega arith) (good-axis v d firstAxis .speed))) &
+    at 0x42 _ (λ c e g v. assigns-law 0x42 c g v (pos (axisOf firstAxis v .acceleration)) Allows.on
+    (λ _ _ d. small-fits mostRamp _ (omega arith) (good-axis v d firstAxis .acceleration))) &
+    at 0x43 _ (λ c e g v. assigns-law 0x43 c g v (pos (axisOf firstAxis v .deceleration)) Allows.on
+    (λ _ _ d. small-fits mostRamp _ (omega arith) (good-axis v d firstAxis .deceleration))) &
+    at 0x50 _ (λ c e g v. sets-law 0x50 c g v v Allows.on (λ _ _ d. d)) &
+    at 0x51 _ (λ c e g v. flows-law 0x51 c g v (cond (eqb (c .x) 0) Restart End) (ends c g v)) &
+    at 0x52 _ (λ c e g v. flows-law 0x52 c g v (Call (c .word)) (simply 0x52 c g v (Call (c .word)) refl Allows.call)) &
+    at 0x53 _ (λ c e g v. flows-law 0x53 c g v Return (simply 0x53 c g v Return refl Allows.return)) &
+    at 0x54 _ (λ c e g v. flows-law 0x54 c g v (Start plc (c .word)) (simply 0x54 c g v (Start plc (c .word)) refl Allows.start)) &
+    at 0x55 _ (λ c e g v. flows-law 0x55 c g v (Jump (c .word)) (simply 0x55 c g v (Jump (c .word)) refl Allows.jump)) &
+    at 0x57 _ (λ c e g v. flows-law 0x57 c g v (Start bias (c .word)) (simply 0x57 c g v (Start bias (c .word)) refl Allows.start)) &
+    at 0x58 _ (λ c e g v. stays-law 0x58 c g v (isSet (g .reached)) Allows.over Allows.stay) &
+    at 0x59 _ (λ c e g v. flows-law 0x59 c g v (waits (2 * c .word) g) (waits-lawful 0x59 c g v (2 * c .word) refl Allows.over (λ _ _. Allows.stay) (λ _ _ f. twice (c .word) (f .word)))) &
+    at 0x5A _ (λ c e g v. waits-variable-law 0x5A c g v refl Allows.over (λ _ _. Allows.stay) Allows.refuse (Reason.waiting e) (λ _. short (g .model) (variable v (c .x)))) &
+    at 0x60 _ (λ c e g v. sets-law 0x60 c g v (withFlag (c .x) (c .y) v) Allows.on (λ n f d. flag-good v d (c .x) (c .y) (leb-true (c .y) mostLevel (ranges-at 0x60 n c e (f .ranges))))) &
+    at 0x61 _ (λ c e g v. jump-law 0x61 c g v (compares (c .y) (flag v (c .x)) (c .z)) (c .word) Allows.branch Allows.pass) &
+    at 0x62 _ (λ c e g v. sets-law 0x62 c g v (withFlag (c .x) (flag v (c .y)) v) Allows.on
+    (λ _ _ d. flag-good v d (c .x) (flag v (c .y)) (d .cells .flag (c .y)))) &
+    at 0x63 _ (λ c e g v. sets-law 0x63 c g v (withFlag (c .x) (inputAt g (c .y)) v) Allows.on (λ _ _ d. flag-good v d (c .x) (inputAt g (c .y)) (level-level (getD (g .levels) (c .y) 0)))) &
+    at 0x64 _ (λ c e g v. sets-law 0x64 c g v (withFlag (c .x) (output v (c .y)) v) Allows.on
+    (λ _ _ d. flag-good v d (c .x) (output v (c .y)) (d .cells .output (c .y)))) &
+    at 0x65 _ (λ c e g v. sets-law 0x65 c g v (withFlag (c .x) (bit (isSet (flag v (c .y)) && isSet (flag v (c .z)))) v) Allows.on (λ _ _ d. flag-good v d (c .x) (bit (isSet (flag v (c .y)) && isSet (flag v (c .z)))) (bit-level (isSet (flag v (c .y)) && isSet (flag v (c .z)))))) &
+    at 0x66 _ (λ c e g v. sets-law 0x66 c g v (withFlag (c .x) (bit (isSet (flag v (c .y)) || isSet (flag v (c .z)))) v) Allows.on (λ _ _ d. flag-good v d (c .x) (bit (isSet (flag v (c .y)) || isSet (flag v (c .z)))) (bit-level (isSet (flag v (c .y)) || isSet (flag v (c .z)))))) &
+    at 0x67 _ (λ c e g v. sets-law 0x67 c g v (withFlag (c .x) (bit (not (eqb (flag v (c .y)) (flag v (c .z))))) v) Allows.on (λ _ _ d. flag-good v d (c .x) (bit (not (eqb (flag v (c .y)) (flag v (c .z))))) (bit-level (not (eqb (flag v (c .y)) (flag v (c .z))))))) &
+    at 0x68 _ (λ c e g v. sets-law 0x68 c g v (withFlag (c .x) (bit (not (isSet (flag v (c .y))))) v) Allows.on (λ _ _ d. flag-good v d (c .x) (bit (not (isSet (flag v (c .y))))) (bit-level (not (isSet (flag v (c .y))))))) &
+    at 0x6E _ (λ c e g v. jump-law 0x6E c g v (compares (c .z) (bit (bitAt w32 (c .y) (variable v (c .x)))) 0) (c .word) Allows.branch Allows.pass) &
+    at 0x70 _ (λ c e g v. jump-law 0x70 c g v (compares (c .y) (inputAt g (c .x)) (c .z)) (c .word) Allows.branch Allows.pass) &
+    at 0x71 _ (λ c e g v. jump-law 0x71 c g v (compares (c .y) (output v (c .x)) (c .z)) (c .word) Allows.branch Allows.pass) &
+    at 0x72 _ (λ c e g v. sets-law 0x72 c g v (withOutput (c .x) (c .y) v) Allows.on (λ n f d. output-good v d (c .x) (c .y) (leb-true (c .y) mostLevel (ranges-at 0x72 n c e (f .ranges))))) &
+    at 0x73 _ (λ c e g v. sets-law 0x73 c g v (withOutput (c .x) (flag v (c .y)) v) Allows.on
+    (λ _ _ d. output-good v d (c .x) (flag v (c .y)) (d .cells .flag (c .y)))) &
+    at 0x80 _ (λ c e g v. assigns-law 0x80 c g v (c .value) Allows.on (λ _ f _. f .value)) &
+    at 0x81 _ (λ c e g v. jump-law 0x81 c g v (holds (c .y) (variable v (c .x)) (c .value)) (c .word) Allows.branch Allows.pass) &
+    at 0x82 _ (λ c e g v. assigns-law 0x82 c g v (wrap w32 (variable v (c .y) +ℤ c .value)) Allows.on (λ _ _ _. wrap-fits w32 (variable v (c .y) +ℤ c .value))) &
+    at 0x83 _ (λ c e g v. assigns-law 0x83 c g v (wrap w32 (variable v (c .y) -ℤ c .value)) Allows.on (λ _ _ _. wrap-fits w32 (variable v (c .y) -ℤ c .value))) &
+    at 0x84 _ (λ c e g v. assigns-law 0x84 c g v (wrap w32 (variable v (c .y) *ℤ c .value)) Allows.on (λ _ _ _. wrap-fits w32 (variable v (c .y) *ℤ c .value))) &
+    at 0x85 _ (λ c e g v. divides-law 0x85 c g v (variable v (c .y)) (c .value) Allows.on Allows.halt (λ z n f. absurd (not-zero (c .value) (ranges-at 0x85 n c e f) z))) &
+    at 0x86 _ (λ c e g v. assigns-law 0x86 c g v (wrap w32 (pos (flagNumber (v .cells .flags) (c .y) (c .z)))) Allows.on
+    (λ _ _ _. wrap-fits w32 (pos (flagNumber (v .cells .flags) (c .y) (c .z))))) &
+    at 0x88 _ (λ c e g v. assigns-law 0x88 c g v (variable v (c .y)) Allows.on (λ _ _ d. d .cells .signed (c .y))) &
+    at 0x89 _ (λ c e g v. jump-law 0x89 c g v (holds (c .y) (variable v (c .x)) (variable v (c .z))) (c .word) Allows.branch Allows.pass) &
+    at 0x8A _ (λ c e g v. assigns-law 0x8A c g v (wrap w32 (variable v (c .y) +ℤ variable v (c .z))) Allows.on (λ _ _ _. wrap-fits w32 (variable v (c .y) +ℤ variable v (c .z)))) &
+    at 0x8B _ (λ c e g v. assigns-law 0x8B c g v (wrap w32 (variable v (c .y) -ℤ variable v (c .z))) Allows.on (λ _ _ _. wrap-fits w32 (variable v (c .y) -ℤ variable v (c .z)))) &
+    at 0x8C _ (λ c e g v. assigns-law 0x8C c g v (wrap w32 (variable v (c .y) *ℤ variable v (c .z))) Allows.on (λ _ _ _. wrap-fits w32 (variable v (c .y) *ℤ variable v (c .z)))) &
+    at 0x8D _ (λ c e g v. divides-law 0x8D c g v (variable v (c .y)) (variable v (c .z)) Allows.on Allows.halt (λ z _ _. Reason.divisor e z)) &
+    at 0x90 _ (λ c e g v. flows-law 0x90 c g v (Start mathematics (c .word)) (simply 0x90 c g v (Start mathematics (c .word)) refl Allows.start)) &
+    end
+
+-- the law of every command that is carried
+pub every-law : (g : Given) (c : Command) (v : Values) → rowOf (c .code) .carried ≡ true → Law (c .code) c g v (effectOf g c v)
+unfolding effectOf
+every-law g c v n = effect-of Always rows-keep c n g v

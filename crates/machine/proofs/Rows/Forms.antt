@@ -1,0 +1,256 @@
+-- What is shown of every command, and how the forms of effects come by it: the outcome is in the flow, a pending time goes with a wait and is not
+-- due, a halt has its reason, and good values stay good.
+use Prim.Native.Nat.{ℕ, _+_, _≤_}
+use mathlib.Core.Path.{_≡_, refl, sym, ap, _∙_}
+use mathlib.Core.Bool.{Bool, true, false, not, _||_, cond, or-true}
+use native.Mathlib.Omega.{arith}
+use lib.Dec.{eqb}
+use lib.IntN.{ℤ, pos, negsuc}
+use lib.Signed.{quotZ}
+use borrow.Author.Tests.{eqb-true, eqb-false, not-false}
+use mir.Syntax.{w32}
+use mir.Val.{SFits}
+use Rattle.limits.specs.Limits.{mostTime, longestWait}
+use Rattle.num_arith.specs.Wrap.{wrap}
+use Rattle.num_arith.specs.Ops.{quotient, eqZ}
+use Rattle.num_arith.proofs.Cut.{wrap-fits}
+use Rattle.num_arith.specs.declared.Quotient.the-variants.{Value, ByZero}
+use Rattle.image_number.proofs.Choice.{clash}
+use Rattle.walk.proofs.Choice.{neither}
+use Rattle.command_table.specs.Rows.{rowOf}
+use Rattle.command_operands.specs.declared.Command.{Command}
+use Rattle.command_judge.specs.BlockFault.{inRange}
+use Rattle.walk_flow.specs.Flow.{flowBy}
+use Rattle.state.specs.State.{firstAxis, axisOf, withAxis, withMark}
+use Rattle.state.specs.Wait.{due}
+use Rattle.state.specs.GoodState.{GoodWait, GoodAxis, GoodValues, InRange}
+use Rattle.state.specs.declared.Axis.{Axis}
+use Rattle.state.specs.declared.Values.{Values}
+use Rattle.machine.specs.Given.{Given}
+use Rattle.machine.specs.Effect.{effect, sets, flows, jumpIf, halts, assigns, isSet, within, natural, variable, started, moves, waits, waitsVariable, parameter, divides, timeOf}
+use Rattle.machine.specs.Engine.{isWait}
+use Rattle.machine.specs.StepRule.{Reason}
+use Rattle.machine.specs.Allows.{Allows}
+use Rattle.machine.specs.declared.Cause.{Cause}
+use Rattle.machine.specs.declared.Cause.the-variants.{ZeroDivisor, BadContent}
+use Rattle.machine.specs.declared.Effect.{Effect}
+use Rattle.machine.specs.declared.Request.{Request}
+use Rattle.machine.specs.declared.Request.the-variants.{None}
+use Rattle.machine.specs.declared.Outcome.{Outcome}
+use Rattle.machine.specs.declared.Outcome.the-variants.{GoOn, Stay, Jump, Call, Return, Start, Restart, End, Halt}
+use Rattle.machine.proofs.Rows.Waits.{begins, goes-on}
+use Rattle.state.proofs.Setters.{variable-good, good-axis, axis-good, mark-good}
+use Rattle.machine.proofs.Rows.InRange.{natural-in}
+
+-- ---- what is shown
+
+-- a time is pending at 59 and 5A alone
+abbrev pub timeless : ℕ → Outcome → Bool
+timeless code (Stay time turns) = not (isSet time) || isWait code
+timeless code GoOn = true
+timeless code (Halt q) = true
+timeless code (Jump a) = true
+timeless code (Call a) = true
+timeless code Return = true
+timeless code (Start u a) = true
+timeless code Restart = true
+timeless code End = true
+
+-- the wait of a command that stays is a good one
+abbrev pub Staying : ℕ → Outcome → Type 0
+Staying model (Stay time turns) = GoodWait model time turns
+Staying model GoOn = Unit {0}
+Staying model (Halt q) = Unit {0}
+Staying model (Jump a) = Unit {0}
+Staying model (Call a) = Unit {0}
+Staying model Return = Unit {0}
+Staying model (Start u a) = Unit {0}
+Staying model Restart = Unit {0}
+Staying model End = Unit {0}
+
+-- a command that halts has a reason
+abbrev pub Halting : Command → Values → ℕ → Outcome → Type 0
+Halting c v time (Halt q) = Reason c v time q
+Halting c v time GoOn = Unit {0}
+Halting c v time (Stay t k) = Unit {0}
+Halting c v time (Jump a) = Unit {0}
+Halting c v time (Call a) = Unit {0}
+Halting c v time Return = Unit {0}
+Halting c v time (Start u a) = Unit {0}
+Halting c v time Restart = Unit {0}
+Halting c v time End = Unit {0}
+
+-- a halt, which changes no values and asks for no motion
+abbrev pub isHalt : Outcome → Bool
+isHalt (Halt q) = true
+isHalt GoOn = false
+isHalt (Stay t k) = false
+isHalt (Jump a) = false
+isHalt (Call a) = false
+isHalt Return = false
+isHalt (Start u a) = false
+isHalt Restart = false
+isHalt End = false
+
+-- what 5 to 8 and 23 promise of a command in an image of `count` blocks: its operands are in the ranges of its row, and numbers of their width
+abbrev pub Ranged : ℕ → Command → Type 0
+Ranged count c = inRange (rowOf (c .code) .ranges) count c ≡ true
+
+pub record Fit (count : ℕ) (c : Command) : Type 0 where
+  pub word : c .word ≤ 65535
+  pub value : SFits w32 (c .value)
+  pub ranges : Ranged count c
+
+-- an outcome of the command c, whose code is k
+pub record Lawful (k : ℕ) (c : Command) (g : Given) (v : Values) (o : Outcome) : Type 0 where
+  pub flow : Allows (flowBy (rowOf k .flow) (c .x) (c .word)) o
+  pub calm : timeless k o ≡ true
+  pub wait : (count : ℕ) → Fit count c → GoodWait (g .model) (g .time) (g .turns) → Staying (g .model) o
+  pub halt : (count : ℕ) → Ranged count c → Halting c v (g .time) o
+
+-- an effect
+pub record Law (k : ℕ) (c : Command) (g : Given) (v : Values) (e : Effect) : Type 0 where
+  pub outcome : Lawful k c g v (e .outcome)
+  pub values : (count : ℕ) → Fit count c → GoodValues v → GoodValues (e .values)
+  pub still : isHalt (e .outcome) ≡ true → (e .values ≡ v) × (e .request ≡ None)
+
+-- ---- outcomes
+
+-- neither a stay nor a halt
+abbrev simple : Outcome → Bool
+simple (Stay time turns) = false
+simple (Halt q) = false
+simple GoOn = true
+simple (Jump a) = true
+simple (Call a) = true
+simple Return = true
+simple (Start u a) = true
+simple Restart = true
+simple End = true
+
+is-zero : (z : ℤ) → eqZ z (pos 0) ≡ true → z ≡ pos 0
+is-zero (pos n) e = ap pos (eqb-true n 0 e)
+is-zero (negsuc n) e = clash (sym e)
+
+module _ (k : ℕ) (c : Command) (g : Given) (v : Values) where
+  -- in the flow of the code
+  abbrev In : Outcome → Type 0
+  In o = Allows (flowBy (rowOf k .flow) (c .x) (c .word)) o
+
+  pub simply : (o : Outcome) → simple o ≡ true → In o → Lawful k c g v o
+  simply (Stay time turns) s m = clash (sym s)
+  simply (Halt q) s m = clash (sym s)
+  simply GoOn s m = record { flow = m; calm = refl; wait = λ _ _ _. tt; halt = λ _ _. tt }
+  simply (Jump a) s m = record { flow = m; calm = refl; wait = λ _ _ _. tt; halt = λ _ _. tt }
+  simply (Call a) s m = record { flow = m; calm = refl; wait = λ _ _ _. tt; halt = λ _ _. tt }
+  simply Return s m = record { flow = m; calm = refl; wait = λ _ _ _. tt; halt = λ _ _. tt }
+  simply (Start u a) s m = record { flow = m; calm = refl; wait = λ _ _ _. tt; halt = λ _ _. tt }
+  simply Restart s m = record { flow = m; calm = refl; wait = λ _ _ _. tt; halt = λ _ _. tt }
+  simply End s m = record { flow = m; calm = refl; wait = λ _ _ _. tt; halt = λ _ _. tt }
+
+  stays-on : In (Stay 0 0) → Lawful k c g v (Stay 0 0)
+  stays-on m = record { flow = m; calm = refl; wait = λ _ _ _. GoodWait.none; halt = λ _ _. tt }
+
+  stays-for : (time turns : ℕ) → isWait k ≡ true → In (Stay time turns)
+      → ((count : ℕ) → Fit count c → GoodWait (g .model) (g .time) (g .turns) → GoodWait (g .model) time turns) → Lawful k c g v (Stay time turns)
+  stays-for time turns w m h = record {
+    flow = m;
+    calm = ap (λ (b : Bool). not (isSet time) || b) w ∙ or-true (not (isSet time));
+    wait = h;
+    halt = λ _ _. tt;
+  }
+
+  halts-by : (q : Cause) → In (Halt q) → ((count : ℕ) → Ranged count c → Reason c v (g .time) q) → Lawful k c g v (Halt q)
+  halts-by q m r = record { flow = m; calm = refl; wait = λ _ _ _. tt; halt = r }
+
+  pub either : (t : Bool) (a b : Outcome) → (t ≡ true → Lawful k c g v a) → (t ≡ false → Lawful k c g v b) → Lawful k c g v (cond t a b)
+  either true a b p q = p refl
+  either false a b p q = q refl
+
+  either-effect : (t : Bool) (a b : Effect) → (t ≡ true → Law k c g v a) → (t ≡ false → Law k c g v b) → Law k c g v (cond t a b)
+  either-effect true a b p q = p refl
+  either-effect false a b p q = q refl
+
+  -- ---- effects
+
+  -- nothing but the task changes
+  pub flows-law : (o : Outcome) → Lawful k c g v o → Law k c g v (flows v o)
+  flows-law o l = record { outcome = l; values = λ _ _ h. h; still = λ _. (refl, refl) }
+
+  halts-law : (q : Cause) → In (Halt q) → ((count : ℕ) → Ranged count c → Reason c v (g .time) q) → Law k c g v (halts q v)
+  halts-law q m r = flows-law (Halt q) (halts-by q m r)
+
+  -- the values change, and the task goes on
+  pub effect-law : (w : Values) (m : Request) → In GoOn → ((count : ℕ) → Fit count c → GoodValues v → GoodValues w) → Law k c g v (effect w m GoOn)
+  effect-law w m further h = record { outcome = simply GoOn refl further; values = h; still = λ i. clash (sym i) }
+
+  pub sets-law : (w : Values) → In GoOn → ((count : ℕ) → Fit count c → GoodValues v → GoodValues w) → Law k c g v (sets w)
+  sets-law w further h = record { outcome = simply GoOn refl further; values = h; still = λ i. clash (sym i) }
+
+  -- the axis changes
+  pub axis-law : (put : Axis → Axis) → In GoOn → ((count : ℕ) → Fit count c → GoodValues v → GoodAxis (put (axisOf firstAxis v)))
+      → Law k c g v (sets (withAxis firstAxis (put (axisOf firstAxis v)) v))
+  axis-law put further h =
+      let a = put (axisOf firstAxis v) in sets-law (withAxis firstAxis a v) further (λ count f d. axis-good v d firstAxis a (h count f d))
+
+  pub assigns-law : (z : ℤ) → In GoOn → ((count : ℕ) → Fit count c → GoodValues v → SFits w32 z) → Law k c g v (assigns c z v)
+  assigns-law z further h = record { outcome = simply GoOn refl further; values = λ count f d. variable-good v d (c .x) z (h count f d); still = λ i. clash (sym i) }
+
+  pub jump-law : (t : Bool) (a : ℕ) → In (Jump a) → In GoOn → Law k c g v (jumpIf t a v)
+  jump-law t a m further = flows-law (cond t (Jump a) GoOn) (either t (Jump a) GoOn (λ _. simply (Jump a) refl m) (λ _. simply GoOn refl further))
+
+  pub moves-law : (kind : Axis → Request) → In GoOn → In (Stay 0 0) → Law k c g v (moves kind g c v)
+  moves-law kind further again =
+      either-effect (started g v) (effect (withMark 0 v) (kind (axisOf firstAxis v)) GoOn) (flows v (Stay 0 0))
+      (λ _. effect-law (withMark 0 v) (kind (axisOf firstAxis v)) further (λ _ _ d. mark-good v d 0 (omega arith)))
+      (λ _. flows-law (Stay 0 0) (stays-on again))
+
+  -- on, or the same again
+  pub stays-law : (t : Bool) → In GoOn → In (Stay 0 0) → Law k c g v (flows v (cond t GoOn (Stay 0 0)))
+  stays-law t further again = flows-law (cond t GoOn (Stay 0 0)) (either t GoOn (Stay 0 0) (λ _. simply GoOn refl further) (λ _. stays-on again))
+
+  pub waits-lawful : (time : ℕ) → isWait k ≡ true → In GoOn → ((t n : ℕ) → In (Stay t n))
+      → (eqb (g .time) 0 ≡ true → (count : ℕ) → Fit count c → time ≤ longestWait) → Lawful k c g v (waits time g)
+  waits-lawful time w further again short =
+      either (eqb (g .time) 0) _ _
+      (λ z. either (due (g .model) time 0) GoOn (Stay time 0) (λ _. simply GoOn refl further)
+      (λ e. stays-for time 0 w (again time 0) (λ count f h. begins (g .model) time (short z count f) e)))
+      (λ z. either (due (g .model) (g .time) (g .turns + 1)) GoOn (Stay (g .time) (g .turns + 1)) (λ _. simply GoOn refl further)
+      (λ e. stays-for (g .time) (g .turns + 1) w (again (g .time) (g .turns + 1))
+      (λ count f h. goes-on (g .model) (g .time) (g .turns) h (eqb-false (g .time) 0 z) e)))
+
+  pub parameter-law : (most : ℕ) (put : ℕ → Axis → Axis) → In GoOn → In (Halt BadContent)
+      → ((a : Axis) → GoodAxis a → (n : ℕ) → InRange most n → GoodAxis (put n a))
+      → (within 1 most (variable v (c .x)) ≡ false → Reason c v (g .time) BadContent)
+      → Law k c g v (parameter most put g c v)
+  parameter-law most put further stops keep reason =
+      let z = variable v (c .x) in
+      let a = axisOf firstAxis v in
+      either-effect (within 1 most z) (sets (withAxis firstAxis (put (natural z) a) v)) (halts BadContent v)
+      (λ e. axis-law (put (natural z)) further (λ _ _ d. keep a (good-axis v d firstAxis) (natural z) (natural-in most z e)))
+      (λ e. halts-law BadContent stops (λ _ _. reason e))
+
+  -- a quotient fits, and there is none by zero alone
+  pub divides-law : (a b : ℤ) → In GoOn → In (Halt ZeroDivisor) → (b ≡ pos 0 → (count : ℕ) → Ranged count c → Reason c v (g .time) ZeroDivisor)
+      → Law k c g v (divides c (quotient a b) v)
+  unfolding divides quotient
+  divides-law a b further stops reason = go (eqZ b (pos 0)) refl
+    where
+      go : (t : Bool) → eqZ b (pos 0) ≡ t → Law k c g v (divides c (cond t ByZero (Value (wrap w32 (quotZ a b)))) v)
+      go true e = halts-law ZeroDivisor stops (reason (is-zero b e))
+      go false e = assigns-law (wrap w32 (quotZ a b)) further (λ _ _ _. wrap-fits w32 (quotZ a b))
+
+  pub waits-variable-law : isWait k ≡ true → In GoOn → ((t n : ℕ) → In (Stay t n)) → In (Halt BadContent)
+      → (g .time ≡ 0 → within 0 mostTime (variable v (c .x)) ≡ false → Reason c v (g .time) BadContent)
+      → (g .time ≡ 0 → within 0 mostTime (variable v (c .x)) ≡ true → timeOf (g .model) (natural (variable v (c .x))) ≤ longestWait)
+      → Law k c g v (waitsVariable g c v)
+  waits-variable-law w further again stops reason short =
+      let z = variable v (c .x) in
+      let time = timeOf (g .model) (natural z) in
+      either-effect (isSet (g .time) || within 0 mostTime z) (flows v (waits time g)) (halts BadContent v)
+      (λ e. flows-law (waits time g) (waits-lawful time w further again (λ i count f. short (eqb-true (g .time) 0 i) (read i e))))
+      (λ e. let n = neither (isSet (g .time)) (within 0 mostTime z) e in
+      halts-law BadContent stops (λ _ _. reason (eqb-true (g .time) 0 (not-false _ (n .0))) (n .1)))
+    where
+      read : eqb (g .time) 0 ≡ true → (isSet (g .time) || within 0 mostTime (variable v (c .x))) ≡ true → within 0 mostTime (variable v (c .x)) ≡ true
+      read i e = rw i at e

@@ -1,0 +1,146 @@
+-- What the statements of specs/StepRule.antt, Alike.antt and Run.antt give when they are taken apart: one way more, or one thing less, in any of them is
+-- noticed here, or, of a reason to halt, in Halts.antt.
+use Prim.Native.Nat.{ℕ, _+_, _<_, _≤_}
+use mathlib.Core.Path.{_≡_, refl, sym, ap, _∙_}
+use mathlib.Core.Bool.{true, false, _&&_}
+use mathlib.Core.Logic.{_⊎_, inl, inr, ⊎-elim}
+use mathlib.Core.List.{List, [], _∷_, map}
+use native.Mathlib.Omega.{arith}
+use lib.Dec.{eqb}
+use lib.ListN.{length, getD}
+use borrow.Author.Tests.{eqb-true, eq-eqb}
+use Rattle.limits.specs.Limits.{taskCount, mostDepth}
+use Rattle.walk_flow.specs.Terms.{termsOf}
+use Rattle.image_header.specs.Scan.{headerOf, blocksOf}
+use Rattle.image_number.proofs.Choice.{clash}
+use Rattle.walk_fault.specs.Fault.{faultNumber}
+use Rattle.walk_fault.specs.declared.Fault.{Fault}
+use Rattle.walk.specs.Walk.{starts}
+use Rattle.state.specs.State.{runs, ended, halted, taskAt}
+use Rattle.state.specs.declared.Task.{Task}
+use Rattle.state.specs.declared.Values.{Values}
+use Rattle.state.specs.declared.State.{State}
+use Rattle.machine.specs.Given.{Inputs}
+use Rattle.machine.specs.Engine.{step, pointOf, noted, stopped, blockFits}
+use Rattle.machine.specs.Reference.{Thread, Machine, ReferenceOut, thread, idle}
+use Rattle.machine.specs.Alike.{returnsOf, SameTask, SameValues, Alike}
+use Rattle.machine.specs.Run.{SameHanded, Permitted}
+use Rattle.machine.specs.StepRule.{Calls, callsAfter, commandOf, executed, Behind, Reason, Stopped, StepRule, EachStep}
+use Rattle.machine.specs.declared.Cause.{Cause}
+use Rattle.machine.specs.declared.Request.the-variants.{None}
+use Rattle.machine.specs.declared.Answer.{Answer}
+use Rattle.machine.specs.declared.Answer.the-variants.{Done, NoTask, Inputs as BadInputs, NotRunning, Differs, Halted}
+use Rattle.machine.specs.declared.StepOut.{StepOut}
+
+-- ---- part 1
+
+pub answers-are : {os : List StepOut} {ds : List ReferenceOut} → SameHanded os ds → map (λ (o : StepOut). o .answer) os ≡ map (λ (d : ReferenceOut). d .answer) ds
+answers-are SameHanded.none = refl
+answers-are (SameHanded.more a m h) = λ ι. a ι ∷ answers-are h ι
+
+pub motions-are : {os : List StepOut} {ds : List ReferenceOut} → SameHanded os ds → map (λ (o : StepOut). o .request) os ≡ map (λ (d : ReferenceOut). d .request) ds
+motions-are SameHanded.none = refl
+motions-are (SameHanded.more a m h) = λ ι. m ι ∷ motions-are h ι
+
+-- ---- part 2: alike is equal, as far as document 01 compares
+
+pub values-are : (v w : Values) → SameValues v w → v ≡ w
+values-are v w e = λ ι. record {
+  cells = record { variables = e .variables ι; flags = e .flags ι; outputs = e .outputs ι };
+  motion = record {
+    axis = record { position = e .position ι; speed = e .speed ι; acceleration = e .acceleration ι; deceleration = e .deceleration ι };
+    mark = e .mark ι;
+  };
+  notes = record { level = e .level ι };
+}
+
+-- a running task, as the reference machine would have it
+abbrev pub threadFor : Task → Thread
+threadFor k = thread (k .block) (k .start) (k .time) (k .turns) (returnsOf (k .stack) (k .depth))
+
+pub thread-is : (k : Task) (p : Thread) → SameTask k p → k .status ≡ runs → p ≡ threadFor k
+thread-is k p e r = λ ι. record {
+  runs = (sym (e .running) ∙ eq-eqb (k .status) runs r) ι;
+  block = sym (e .block r) ι;
+  start = sym (e .start r) ι;
+  time = sym (e .time r) ι;
+  turns = sym (e .turns r) ι;
+  returns = sym (e .returns r) ι;
+}
+
+pub both-run : (k : Task) (p : Thread) → SameTask k p → p .runs ≡ true → k .status ≡ runs
+both-run k p e r = eqb-true (k .status) runs (e .running ∙ r)
+
+pub alike-is : (s : State) (m : Machine) → Alike s m
+    → (s .values ≡ m .values) × ((t : ℕ) → t < taskCount → taskAt s t .status ≡ runs → getD (m .threads) t idle ≡ threadFor (taskAt s t))
+alike-is s m e = (values-are (s .values) (m .values) (e .values), λ t l r. thread-is (taskAt s t) (getD (m .threads) t idle) (e .tasks t l) r)
+
+-- ---- part 3: what is permitted passes the engine's own tests of a block
+
+pub permitted-fits : (image : List ℕ) (t : ℕ) (k : Task) → Permitted image t k → blockFits (termsOf image) (blocksOf image) t k ≡ true
+permitted-fits image t k p =
+    let e = ap (λ (f : Fault). eqb (faultNumber f) 0) (p .fine) in
+    λ ι. eqb (p .sound ι) 0 && e ι
+
+pub permitted-at : (image : List ℕ) (t : ℕ) (k : Task) → Permitted image t k → (k .block < headerOf image .header .count) × (k .depth ≤ mostDepth)
+permitted-at image t k p = (p .block, p .depth)
+
+-- ---- parts 4 to 6
+
+-- a command counts as executed where its step is answered 0, and nowhere else
+pub executed-is : (a : Answer) → executed a ≡ true → a ≡ Done
+executed-is Done e = refl
+executed-is (NoTask t) e = clash (sym e)
+executed-is (BadInputs n) e = clash (sym e)
+executed-is NotRunning e = clash (sym e)
+executed-is (Differs p) e = clash (sym e)
+executed-is (Halted q p) e = clash (sym e)
+
+pub behind-is : (b c : ℕ) (bs : List ℕ) → Behind (b ∷ bs) c → c ≡ b + 1
+behind-is b _ bs Behind.latest = refl
+
+-- there is a latest call
+pub behind-some : {l : List ℕ} {c : ℕ} → Behind l c → l ≡ [] → ⊥
+behind-some Behind.latest e = let n = ap length e in omega arith
+
+-- why a task stopped, what was answered, and what else changed: by 19 or 20
+pub record ByRefusal (image : List ℕ) (s : State) (x : Inputs) : Type 0 where
+  pub cause : Cause
+  pub reason : Reason (commandOf image s x) (s .values) (taskAt s (x .task) .time) cause
+  pub answer : step image s x .answer ≡ Halted cause (pointOf (x .task) (taskAt s (x .task)))
+  pub values : step image s x .state .values ≡ noted (x .task) (x .start) (s .values)
+  pub task : taskAt (step image s x .state) (x .task) ≡ stopped halted (taskAt s (x .task))
+  pub request : step image s x .request ≡ None
+
+-- or by its own 51
+pub record ByItself (image : List ℕ) (s : State) (x : Inputs) : Type 0 where
+  pub code : commandOf image s x .code ≡ 0x51
+  pub mode : commandOf image s x .x ≡ x .task + 1
+  pub answer : step image s x .answer ≡ Done
+  pub task : taskAt (step image s x .state) (x .task) ≡ stopped ended (taskAt s (x .task))
+
+pub how : {image : List ℕ} {s : State} {x : Inputs} → Stopped image s x → ByRefusal image s x ⊎ ByItself image s x
+how (Stopped.byRefusal q r a v k m) = inl (record { cause = q; reason = r; answer = a; values = v; task = k; request = m })
+how (Stopped.byItself c m a k) = inr (record { code = c; mode = m; answer = a; task = k })
+
+module _ {image : List ℕ} {calls : Calls} {s : State} {x : Inputs} (e : StepRule image calls s x) where
+  -- a 53 comes to the block behind the call that is the latest
+  pub returns-to : (b : ℕ) (bs : List ℕ) → calls (x .task) ≡ b ∷ bs → executed (step image s x .answer) ≡ true → commandOf image s x .code ≡ 0x53
+      → taskAt (step image s x .state) (x .task) .block ≡ b + 1
+  returns-to b bs q a c = behind-is b _ bs (rw q at (e .returns a c))
+
+  -- a task that 54, 57 or 90 does not name stays as it is
+  pub stays-put : (t : ℕ) → t < taskCount → (t ≡ x .task → ⊥) → starts (commandOf image s x .code) t ≡ false → taskAt (step image s x .state) t ≡ taskAt s t
+  stays-put t l n f = ⊎-elim (λ q. q) (λ q. clash (sym (q .1) ∙ f)) (e .others t l n)
+
+  -- and runs on
+  pub runs-on : (t : ℕ) → t < taskCount → (t ≡ x .task → ⊥) → taskAt s t .status ≡ runs → (taskAt (step image s x .state) t .status ≡ runs → ⊥) → ⊥
+  runs-on t l n r d = n (e .stops t l r d .0)
+
+  -- the header stays
+  pub header-stays : step image s x .state .header ≡ s .header
+  header-stays = e .header
+
+pub first-step : {image : List ℕ} {calls : Calls} {s : State} {x : Inputs} {xs : List Inputs} → EachStep image calls s (x ∷ xs)
+    → StepRule image calls s x × EachStep image (callsAfter image s x calls) (step image s x .state) xs
+first-step (EachStep.more p q) = (p, q)

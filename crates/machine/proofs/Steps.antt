@@ -1,0 +1,9 @@
+pub mod Reached
+pub mod Alike
+pub mod TasksAfter
+pub mod Notes
+pub mod Cases
+pub mod Agrees
+pub mod Parts
+pub mod KeepsGood
+pub mod Room

@@ -1,0 +1,334 @@
+-- A step keeps good states, whatever the image and the inputs are: 17 lets a command pass only where 5 to 12 and 23 do.
+use Prim.Native.Nat.{ℕ, zero, suc, _+_, _-_, _<_, _≤_}
+use mathlib.Core.Path.{_≡_, refl, sym, _∙_, subst}
+use mathlib.Core.Bool.{Bool, true, false, _&&_, cond}
+use mathlib.Core.List.{List, []}
+use native.Mathlib.Omega.{arith}
+use native.Mathlib.Decide.{ℕ-discrete}
+use lib.Dec.{eqb, ltb}
+use lib.ListN.{length, getD, set, drop, length-set}
+use lib.Seq.{getD-set-same, getD-set-other, getD-drop}
+use borrow.Author.Tests.{eqb-true, eqb-false, leb-false, ltb-true}
+use Rattle.limits.specs.Limits.{bias, taskCount, mostDepth, inputsLength}
+use Rattle.num_le.specs.LittleEndian.{Bytes}
+use Rattle.image_result.specs.ImageResult.{done}
+use Rattle.image_header.specs.Scan.{headerOf, blocksOf}
+use Rattle.image_header.specs.declared.Header.{Header}
+use Rattle.image_number.proofs.Choice.{both}
+use Rattle.command_operands.specs.declared.Command.{Command}
+use Rattle.walk_flow.specs.Flow.{flowOf}
+use Rattle.walk_fault.specs.Fault.{faultNumber}
+use Rattle.walk_point.specs.declared.Point.{Point}
+use Rattle.walk_fault.specs.declared.Fault.{Fault}
+use Rattle.walk_fault.specs.declared.Fault.the-variants.{Fine, Foreign, Forbidden, TooDeep, NoCall, PastEnd}
+use Rattle.walk.specs.Blocks.{blockAt, commandAt, faultAt, blockNumber}
+use Rattle.walk.specs.Graph.{In}
+use Rattle.walk.specs.Successors.{leadsTo as walked, flowAt, successors}
+use Rattle.walk.proofs.Points.Within.{Within, Passes, passes, successors-within}
+use Rattle.state.specs.State.{runs, ended, halted, noTask, taskAt, withNotes}
+use Rattle.state.specs.GoodState.{GoodWait, GoodTask, GoodValues, GoodState}
+use Rattle.state.proofs.Setters.{notes-good}
+use Rattle.state.specs.declared.Task.{Task}
+use Rattle.state.specs.declared.Values.{Values}
+use Rattle.state.specs.declared.State.{State}
+use Rattle.state.proofs.Fresh.{getD-replicate}
+use Rattle.walk_flow.specs.Terms.{under}
+use Rattle.machine.specs.Given.{Inputs, level}
+use Rattle.machine.specs.Effect.{effectOf}
+use Rattle.machine.specs.Engine.{goTo, stayWith, callTo, returnFrom, startAnew, restarted, stopped, tasksAfter, pointOf, given, performed, isLoaded, blockFits, waitFits, fits, refuse, taskStep, step, termsHeld}
+use Rattle.machine.specs.declared.StepOut.{StepOut}
+use Rattle.machine.specs.Reference.{keeps}
+use Rattle.machine.specs.Allows.{Allows}
+use Rattle.machine.specs.Theorem.{KeepsGood}
+use Rattle.machine.specs.declared.Answer.{Answer}
+use Rattle.machine.specs.declared.Answer.the-variants.{NoTask, Inputs as BadInputs, NotRunning, Differs}
+use Rattle.machine.specs.declared.Effect.{Effect}
+use Rattle.machine.specs.declared.Outcome.{Outcome}
+use Rattle.machine.specs.declared.Outcome.the-variants.{GoOn, Stay, Jump, Call, Return, Start, Restart, End, Halt}
+use Rattle.machine.proofs.Rows.InRange.{level-level}
+use Rattle.machine.proofs.Rows.Forms.{Law, Staying, Fit}
+use Rattle.machine.proofs.Rows.EveryLaw.{every-law}
+use Rattle.machine.proofs.Rows.Operands.{BlockBytes, fit}
+use Rattle.machine.proofs.Rows.Outcomes.{on-in, jump-in, call-in, behind-in, call-deep, return-deep, start-in, start-on}
+use Rattle.machine.proofs.Steps.TasksAfter.{at-set, set-set}
+use Rattle.machine.proofs.Steps.Notes.{noted-alike, refused-alike}
+use Rattle.machine.proofs.Steps.Cases.{used-carried}
+
+-- ---- tasks
+
+module _ (h : Header) where
+  module _ (k : Task) (g : GoodTask h k) where
+    go-good : (b : ℕ) → b < h .count → GoodTask h (goTo b k)
+    go-good b l = record {
+      status = omega arith;
+      block = l;
+      start = g .start;
+      depth = g .depth;
+      long = g .long;
+      under = g .under;
+      above = g .above;
+      wait = GoodWait.none;
+    }
+
+    stay-good : (time turns : ℕ) → GoodWait (h .drive .model) time turns → GoodTask h (stayWith time turns k)
+    stay-good time turns w = record {
+      status = omega arith;
+      block = g .block;
+      start = g .start;
+      depth = g .depth;
+      long = g .long;
+      under = g .under;
+      above = g .above;
+      wait = w;
+    }
+
+    stop-good : (status : ℕ) → status ≤ halted → GoodTask h (stopped status k)
+    stop-good status l = record {
+      status = l;
+      block = g .block;
+      start = g .start;
+      depth = g .depth;
+      long = g .long;
+      under = g .under;
+      above = g .above;
+      wait = GoodWait.none;
+    }
+
+    call-good : (a : ℕ) → a < h .count → k .block + 1 < h .count → k .depth < mostDepth → GoodTask h (callTo a k)
+    call-good a l n d = record {
+      status = omega arith;
+      block = l;
+      start = g .start;
+      depth = omega arith;
+      long = length-set (k .stack) (k .depth) (k .block + 1) ∙ g .long;
+      under = λ i j. entry i j (ℕ-discrete i (k .depth));
+      above = λ i j. getD-set-other (k .stack) (k .depth) i (k .block + 1) 0 (omega arith) ∙ g .above i (omega arith);
+      wait = GoodWait.none;
+    }
+      where
+        entry : (i : ℕ) → i < k .depth + 1 → Dec (i ≡ k .depth) → getD (set (k .stack) (k .depth) (k .block + 1)) i 0 < h .count
+        entry i j (yes e) = let m = g .long in rw (e, getD-set-same (k .stack) (k .depth) (k .block + 1) 0 (omega arith)) n
+        entry i j (no e) = rw (getD-set-other (k .stack) (k .depth) i (k .block + 1) 0 e) (g .under i (omega arith))
+
+    return-good : (k .depth ≡ 0 → ⊥) → GoodTask h (returnFrom k)
+    return-good n = let d = g .depth in record {
+      status = omega arith;
+      block = g .under (k .depth - 1) (omega arith);
+      start = g .start;
+      depth = omega arith;
+      long = length-set (k .stack) (k .depth - 1) 0 ∙ g .long;
+      under = λ i j. rw (getD-set-other (k .stack) (k .depth - 1) i 0 0 (omega arith)) (g .under i (omega arith));
+      above = λ i j. entry i j (ℕ-discrete i (k .depth - 1));
+      wait = GoodWait.none;
+    }
+      where
+        entry : (i : ℕ) → k .depth - 1 ≤ i → Dec (i ≡ k .depth - 1) → getD (set (k .stack) (k .depth - 1) 0) i 0 ≡ 0
+        entry i j (yes e) = let m = g .long in let d = g .depth in rw (e, getD-set-same (k .stack) (k .depth - 1) 0 0 (omega arith)) refl
+        entry i j (no e) = getD-set-other (k .stack) (k .depth - 1) i 0 0 e ∙ g .above i (omega arith)
+
+    restart-good : GoodTask h (restarted k)
+    restart-good = record {
+      status = omega arith;
+      block = g .start;
+      start = g .start;
+      depth = omega arith;
+      long = refl;
+      under = λ i l. absurd (omega arith);
+      above = λ i l. getD-replicate {A = ℕ} mostDepth 0 i;
+      wait = GoodWait.none;
+    }
+
+  start-good : (u a : ℕ) → a < h .count → h .start < h .count → GoodTask h (startAnew (h .start) u a)
+  start-good u a l f = record {
+    status = omega arith;
+    block = l;
+    start = home (eqb u bias);
+    depth = omega arith;
+    long = refl;
+    under = λ i j. absurd (omega arith);
+    above = λ i j. getD-replicate {A = ℕ} mostDepth 0 i;
+    wait = GoodWait.none;
+  }
+    where
+      home : (t : Bool) → cond t (h .start) a < h .count
+      home true = f
+      home false = l
+
+  -- ---- the three tasks
+
+  record GoodTasks (l : List Task) : Type 0 where
+    three : length l ≡ taskCount
+    task : (t : ℕ) → t < taskCount → GoodTask h (getD l t noTask)
+    first : getD l bias noTask .start ≡ h .start
+
+  put-good : (l : List Task) (t : ℕ) (k : Task) → GoodTasks l → t < taskCount → GoodTask h k → (t ≡ bias → k .start ≡ h .start) → GoodTasks (set l t k)
+  put-good l t k g i d f =
+      let n = g .three in
+      record {
+        three = length-set l t k ∙ g .three;
+        task = at-set l noTask t k (λ u q. u < taskCount → GoodTask h q) (omega arith) (λ _. d) (λ u _ j. g .task u j);
+        first = at-set l noTask t k (λ u q. u ≡ bias → q .start ≡ h .start) (omega arith) f (λ u _ e. rw e (g .first)) bias refl;
+      }
+
+-- ---- bytes
+
+module _ (image : List ℕ) (bytes : Bytes image) where
+  block-bytes : (k : ℕ) → getD (blocksOf image) k 0 < 256
+  unfolding blocksOf
+  block-bytes k = go (done (headerOf image .result))
+    where
+      go : (t : Bool) → getD (cond t (drop (headerOf image .at) image) []) k 0 < 256
+      go true = rw (getD-drop (headerOf image .at) image k 0) (bytes (headerOf image .at + k))
+      go false = omega arith
+
+  bytes-at : (b : ℕ) → BlockBytes (blockAt (blocksOf image) b)
+  bytes-at b zero = block-bytes _
+  bytes-at b (suc zero) = block-bytes _
+  bytes-at b (suc (suc zero)) = block-bytes _
+  bytes-at b (suc (suc (suc zero))) = block-bytes _
+  bytes-at b (suc (suc (suc (suc zero)))) = block-bytes _
+  bytes-at b (suc (suc (suc (suc (suc zero))))) = block-bytes _
+  bytes-at b (suc (suc (suc (suc (suc (suc zero)))))) = block-bytes _
+  bytes-at b (suc (suc (suc (suc (suc (suc (suc zero))))))) = block-bytes _
+  bytes-at b (suc (suc (suc (suc (suc (suc (suc (suc k)))))))) = omega arith
+
+-- ---- a command that 17 lets pass
+
+pub no-fault : (f : Fault) → faultNumber f ≡ 0 → f ≡ Fine
+no-fault Fine e = refl
+no-fault Foreign e = absurd (omega arith)
+no-fault Forbidden e = absurd (omega arith)
+no-fault TooDeep e = absurd (omega arith)
+no-fault NoCall e = absurd (omega arith)
+no-fault PastEnd e = absurd (omega arith)
+
+module _ (image : List ℕ) (bytes : Bytes image) (s : State) (g : GoodState s) (x : Inputs) (l : x .task < taskCount)
+    (r : taskAt s (x .task) .status ≡ runs) (pass : fits image (termsHeld s) (x .task) (taskAt s (x .task)) ≡ true) where
+  abbrev t : ℕ
+  t = x .task
+
+  abbrev k : Task
+  k = taskAt s t
+
+  abbrev h : Header
+  h = s .header
+
+  abbrev bs : List ℕ
+  bs = blocksOf image
+
+  abbrev p : Point
+  p = pointOf t k
+
+  abbrev c : Command
+  c = commandAt bs (k .block)
+
+  abbrev e : Effect
+  e = effectOf (given s k x) c (s .values)
+
+  known : GoodTask h k
+  known = g .task t l
+
+  -- the block, by 5 to 8 and 23, and at its point by 9 to 12
+  block-fits : (eqb (blockNumber (under h) bs (k .block)) 0 ≡ true) × (eqb (faultNumber (faultAt (under h) bs p)) 0 ≡ true)
+  unfolding fits
+  block-fits =
+      let a = both (isLoaded (headerOf image) h) (blockFits (under h) bs t k && waitFits bs k) pass in
+      let b = both (blockFits (under h) bs t k) (waitFits bs k) (a .1) in
+      both (eqb (blockNumber (under h) bs (k .block)) 0) (eqb (faultNumber (faultAt (under h) bs p)) 0) (b .0)
+
+  fault-free : faultAt (under h) bs p ≡ Fine
+  fault-free = no-fault (faultAt (under h) bs p) (eqb-true _ 0 (block-fits .1))
+
+  passed : Passes (under h) c p
+  unfolding faultAt
+  passed = passes (under h) c p fault-free
+
+  -- what follows is in the image
+  next : (q : Point) → In q (walked p (flowOf (under h) c)) → Within (under h) q
+  unfolding successors flowAt
+  next q m = successors-within (under h) bs p q (record { task = l; block = known .block; depth = known .depth }) (rw fault-free m)
+
+  pub fit-here : Fit (h .count) c
+  unfolding commandAt
+  fit-here = fit h (blockAt bs (k .block)) (bytes-at image bytes (k .block)) (eqb-true _ 0 (block-fits .0))
+
+  pub law : Law (c .code) c (given s k x) (s .values) e
+  law = every-law (given s k x) c (s .values) (used-carried (under h) (c .code) t (passed .allowed))
+
+  tasks : GoodTasks h (s .tasks)
+  tasks = record { three = g .three; task = g .task; first = g .first }
+
+  kept-start : t ≡ bias → k .start ≡ h .start
+  kept-start i = rw i (g .first)
+
+  here : (k′ : Task) → GoodTask h k′ → k′ .start ≡ k .start → GoodTasks h (set (s .tasks) t k′)
+  here k′ d i = put-good h (s .tasks) t k′ tasks l d (λ j. i ∙ kept-start j)
+
+  goes-on : (b : ℕ) → b < h .count → GoodTasks h (set (s .tasks) t (goTo b k))
+  goes-on b i = here (goTo b k) (go-good h k known b i) refl
+
+  -- another task starts, or the own one does
+  starts : (u a : ℕ) → Allows (flowOf (under h) c) (Start u a) → Dec (u ≡ t) → GoodTasks h (set (set (s .tasks) t (goTo (k .block + 1) k)) u (startAnew (h .start) u a))
+  starts u a m (no n) =
+      let w = next _ (start-in p (flowOf (under h) c) u a m) in
+      put-good h (set (s .tasks) t (goTo (k .block + 1) k)) u (startAnew (h .start) u a)
+      (goes-on (k .block + 1) (next _ (start-on p (flowOf (under h) c) u a m n) .block)) (w .task) (start-good h u a (w .block) (g .header .start)) (λ i. rw i refl)
+  starts u a m (yes i) =
+      let w = next _ (start-in p (flowOf (under h) c) u a m) in
+      rw (i, set-set (s .tasks) t (goTo (k .block + 1) k) (startAnew (h .start) t a))
+      (put-good h (s .tasks) t (startAnew (h .start) t a) tasks l (start-good h t a (w .block) (g .header .start)) (λ j. rw j refl))
+
+  turned : (o : Outcome) → Allows (flowOf (under h) c) o → Staying (h .drive .model) o → GoodTasks h (tasksAfter (h .start) t k o (s .tasks))
+  turned GoOn m w = goes-on (k .block + 1) (next _ (on-in p (flowOf (under h) c) m) .block)
+  turned (Stay time turns) m w = here (stayWith time turns k) (stay-good h k known time turns w) refl
+  turned (Jump a) m w = goes-on a (next _ (jump-in p (flowOf (under h) c) a m) .block)
+  turned (Call a) m w =
+      let d = leb-false mostDepth (k .depth) (sym (call-deep p (flowOf (under h) c) a m) ∙ passed .shallow) in
+      here (callTo a k) (call-good h k known a (next _ (call-in p (flowOf (under h) c) a m) .block) (next _ (behind-in p (flowOf (under h) c) a m) .block) d) refl
+  turned Return m w =
+      here (returnFrom k) (return-good h k known (eqb-false (k .depth) 0 (sym (return-deep p (flowOf (under h) c) m) ∙ passed .called))) refl
+  turned (Start u a) m w = starts u a m (ℕ-discrete u t)
+  turned Restart m w = here (restarted k) (restart-good h k known) refl
+  turned End m w = here (stopped ended k) (stop-good h k known ended (omega arith)) refl
+  turned (Halt q) m w = here (stopped halted k) (stop-good h k known halted (omega arith)) refl
+
+  keeps-values : (v : Values) → GoodValues v → GoodValues (keeps t (x .start) v)
+  keeps-values v d = go (eqb t bias)
+    where
+      go : (q : Bool) → GoodValues (withNotes (cond q (record { level = level (x .start) }) (v .notes)) v)
+      go true = notes-good v d (level (x .start)) (level-level (x .start))
+      go false = d
+
+  pub performed-good : GoodState (performed s x k e .state)
+  unfolding performed flowOf
+  performed-good =
+      let d = turned (e .outcome) (law .outcome .flow) (law .outcome .wait (h .count) fit-here (known .wait)) in
+      record {
+        header = g .header;
+        values = subst GoodValues (sym (noted-alike s x k e)) (keeps-values (e .values) (law .values (h .count) fit-here (g .values)));
+        three = d .three;
+        task = d .task;
+        first = d .first;
+      }
+
+-- ---- the step
+
+either : (t : Bool) (a b : StepOut) → (t ≡ true → GoodState (a .state)) → GoodState (b .state) → GoodState (cond t a b .state)
+either true a b f g = f refl
+either false a b f g = g
+
+pub keeps-good : KeepsGood
+unfolding step taskStep
+keeps-good image bytes s g x =
+    either (ltb (x .task) taskCount) _ _
+    (λ i. either (eqb (length (x .levels)) inputsLength) _ _
+    (λ _. either (eqb (taskAt s (x .task) .status) runs) _ _
+    (λ j. either (fits image (termsHeld s) (x .task) (taskAt s (x .task))) _ _
+    (λ f. performed-good image bytes s g x (ltb-true _ _ i) (eqb-true _ _ j) f)
+    (stays (Differs (pointOf (x .task) (taskAt s (x .task))))))
+    (stays NotRunning))
+    (stays (BadInputs (length (x .levels)))))
+    (stays (NoTask (x .task)))
+  where
+    stays : (a : Answer) → GoodState (refuse s a .state)
+    stays a = subst GoodState (sym (refused-alike s a)) g

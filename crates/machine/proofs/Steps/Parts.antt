@@ -1,0 +1,291 @@
+-- Parts 4 to 6 of the theorem at one step of a run.
+use Prim.Native.Nat.{ℕ, zero, suc, _+_, _-_, _<_}
+use mathlib.Core.Path.{_≡_, refl, sym, ap, subst, _∙_}
+use mathlib.Core.Bool.{true, false, cond}
+use mathlib.Core.Logic.{_⊎_, inl, inr, ⊎-elim}
+use mathlib.Core.List.{List, [], _∷_}
+use native.Mathlib.Omega.{arith}
+use native.Mathlib.Decide.{ℕ-discrete}
+use lib.Dec.{eqb}
+use lib.ListN.{length, getD, set, length-set}
+use lib.Seq.{getD-set-same, getD-set-other}
+use borrow.Author.Tests.{eqb-false, eq-eqb, ne-eqb}
+use Rattle.limits.specs.Limits.{taskCount}
+use Rattle.image_number.proofs.Choice.{clash}
+use Rattle.command_table.specs.Rows.{rowOf}
+use Rattle.command_operands.specs.declared.Command.{Command}
+use Rattle.walk_flow.specs.Flow.{flowOf}
+use Rattle.walk_point.specs.PointFault.{noCall}
+use Rattle.walk_point.specs.declared.Point.{Point}
+use Rattle.walk_flow.specs.declared.Flow.{Flow}
+use Rattle.walk_flow.specs.declared.Flow.the-variants as flow
+use Rattle.walk.specs.Blocks.{blockAt, commandAt}
+use Rattle.walk.specs.Walk.{starts}
+use Rattle.walk.proofs.Steps.Moves.{Flows, carried}
+use Rattle.state.specs.State.{runs, ended, halted, noTask, taskAt}
+use Rattle.state.specs.declared.Task.{Task}
+use Rattle.state.specs.declared.State.{State}
+use Rattle.machine.specs.Given.{Inputs}
+use Rattle.machine.specs.Engine.{goTo, callTo, returnFrom, stayWith, restarted, startAnew, tasksAfter, pointOf, noted, answerTo, performed, step, stopped}
+use Rattle.machine.specs.declared.StepOut.{StepOut}
+use Rattle.machine.specs.Reference.{Thread, Machine, ReferenceOut, idle, goesTo, back, anew, follows, does, referenceStep}
+use Rattle.machine.specs.StepRule.{Calls, withCalls, withoutLatest, callsAfter, executed, commandOf, Behind, Stopped, StepRule}
+use Rattle.machine.specs.Allows.{Allows}
+use Rattle.machine.specs.declared.Cause.{Cause}
+use Rattle.machine.specs.declared.Outcome.{Outcome}
+use Rattle.machine.specs.declared.Outcome.the-variants.{GoOn, Stay, Jump, Call, Return, Start, Restart, End, Halt}
+use Rattle.machine.proofs.Rows.Forms.{Halting, Ranged}
+use Rattle.machine.proofs.Rows.Operands.{in-ranges}
+use Rattle.state.proofs.Setters.{kept-set}
+use Rattle.machine.proofs.Runs.Accepted.{Accepted, hd, body, within}
+use Rattle.machine.proofs.Steps.Alike.{returns-return}
+use Rattle.machine.proofs.Steps.TasksAfter.{at-set}
+use Rattle.machine.proofs.Rows.Codes.{countF, counts-flow, return-flow, start-code, end-code}
+use Rattle.machine.proofs.Steps.Cases.{Agree, Ran, Case, effectHere, threadOf, step-case}
+
+-- ---- open calls and the reference machine's return blocks
+
+-- the blocks behind calls
+abbrev pub behinds : List ℕ → List ℕ
+behinds [] = []
+behinds (b ∷ bs) = (b + 1) ∷ behinds bs
+
+-- each task's open calls are what its list of returns says
+abbrev pub Counts : Calls → List Thread → Type 0
+Counts calls l = (u : ℕ) → behinds (calls u) ≡ getD l u idle .returns
+
+latest-is : (l : List ℕ) (b : ℕ) (rest : List ℕ) → behinds l ≡ b ∷ rest → Behind l b
+latest-is [] b rest e = let n = ap length e in absurd (omega arith)
+latest-is (a ∷ l) b rest e = subst (Behind (a ∷ l)) (ap (λ (xs : List ℕ). getD xs 0 0) e) Behind.latest
+
+-- a task with other calls and other returns
+with-count : (calls : Calls) (l : List Thread) (t : ℕ) (q : Thread) (c : List ℕ) → t < length l → Counts calls l → behinds c ≡ q .returns → Counts (withCalls t c calls) (set l t q)
+with-count calls l t q c i n e u = go (ℕ-discrete u t)
+  where
+    go : Dec (u ≡ t) → behinds (withCalls t c calls u) ≡ getD (set l t q) u idle .returns
+    go (yes j) = rw (j, getD-set-same l t q idle i, eq-eqb t t refl) e
+    go (no j) = rw (getD-set-other l t u q idle j, ne-eqb u t j) (n u)
+
+-- a task that begins anew, without any
+empty-count : (calls : Calls) (l : List Thread) (t : ℕ) (q : Thread) → Counts calls l → q .returns ≡ [] → Counts (withCalls t [] calls) (set l t q)
+empty-count calls l t q n e u = go (ℕ-discrete u t)
+  where
+    cleared : (l : List Thread) (t : ℕ) → getD (set l t q) t idle .returns ≡ []
+    cleared [] t = refl
+    cleared (k ∷ l) zero = e
+    cleared (k ∷ l) (suc t) = cleared l t
+
+    go : Dec (u ≡ t) → behinds (withCalls t [] calls u) ≡ getD (set l t q) u idle .returns
+    go (yes j) = rw (j, eq-eqb t t refl, cleared l t) refl
+    go (no j) = rw (getD-set-other l t u q idle j, ne-eqb u t j) (n u)
+
+-- a task whose returns stay
+same-count : (calls : Calls) (l : List Thread) (t : ℕ) (q : Thread) → t < length l → Counts calls l → q .returns ≡ getD l t idle .returns → Counts calls (set l t q)
+same-count calls l t q i n e = at-set l idle t q (λ u k. behinds (calls u) ≡ k .returns) i (n t ∙ sym e) (λ u _. n u)
+
+back-count : (c : List ℕ) (p : Thread) → behinds c ≡ p .returns → behinds (withoutLatest c) ≡ back p (p .returns) .returns
+back-count c p e = subst (λ (r : List ℕ). behinds (withoutLatest c) ≡ back p r .returns) e (go c e)
+  where
+    go : (c : List ℕ) → behinds c ≡ p .returns → behinds (withoutLatest c) ≡ back p (behinds c) .returns
+    go [] e = e
+    go (b ∷ bs) e = refl
+
+-- a command counts calls as the reference machine follows its outcome
+follows-count : (calls : Calls) (l : List Thread) (t b : ℕ) → t < length l → b ≡ getD l t idle .block → Counts calls l → (f : Flow) (o : Outcome) → Allows f o
+    → Counts (countF f t b calls) (follows t (getD l t idle) o l)
+unfolding follows
+follows-count calls l t b i e n _ _ Allows.on = same-count calls l t _ i n refl
+follows-count calls l t b i e n _ _ Allows.halt = same-count calls l t _ i n refl
+follows-count calls l t b i e n _ _ Allows.over = same-count calls l t _ i n refl
+follows-count calls l t b i e n _ _ Allows.stay = same-count calls l t _ i n refl
+follows-count calls l t b i e n _ _ Allows.refuse = same-count calls l t _ i n refl
+follows-count calls l t b i e n _ _ Allows.jump = same-count calls l t _ i n refl
+follows-count calls l t b i e n _ _ Allows.branch = same-count calls l t _ i n refl
+follows-count calls l t b i e n _ _ Allows.pass = same-count calls l t _ i n refl
+follows-count calls l t b i e n _ _ Allows.call = with-count calls l t _ (b ∷ calls t) i n (rw (e, n t) refl)
+follows-count calls l t b i e n _ _ Allows.return = with-count calls l t _ (withoutLatest (calls t)) i n (back-count (calls t) (getD l t idle) (n t))
+follows-count calls l t b i e n _ (Start u a) Allows.start =
+    empty-count calls (set l t (goesTo (getD l t idle .block + 1) (getD l t idle))) u (anew u a l) (same-count calls l t _ i n refl) refl
+follows-count calls l t b i e n _ _ Allows.restart = empty-count calls l t _ n refl
+follows-count calls l t b i e n _ _ Allows.end = same-count calls l t _ i n refl
+
+-- ---- tasks after an outcome
+
+-- another task stays, or the outcome starts it
+other-task : (first t : ℕ) (k : Task) (o : Outcome) (l : List Task) (u : ℕ) → (u ≡ t → ⊥)
+    → (getD (tasksAfter first t k o l) u noTask ≡ getD l u noTask) ⊎ ((a : ℕ) × (o ≡ Start u a))
+other-task first t k GoOn l u n = inl (getD-set-other l t u _ noTask n)
+other-task first t k (Stay time turns) l u n = inl (getD-set-other l t u _ noTask n)
+other-task first t k (Jump a) l u n = inl (getD-set-other l t u _ noTask n)
+other-task first t k (Call a) l u n = inl (getD-set-other l t u _ noTask n)
+other-task first t k Return l u n = inl (getD-set-other l t u _ noTask n)
+other-task first t k (Start w a) l u n = go (ℕ-discrete u w)
+  where
+    go : Dec (u ≡ w) → (getD (tasksAfter first t k (Start w a) l) u noTask ≡ getD l u noTask) ⊎ ((a′ : ℕ) × (Start w a ≡ Start u a′))
+    go (yes e) = inr (a, rw e refl)
+    go (no d) = inl (getD-set-other (set l t (goTo (k .block + 1) k)) w u _ noTask d ∙ getD-set-other l t u _ noTask n)
+other-task first t k Restart l u n = inl (getD-set-other l t u _ noTask n)
+other-task first t k End l u n = inl (getD-set-other l t u _ noTask n)
+other-task first t k (Halt q) l u n = inl (getD-set-other l t u _ noTask n)
+
+-- the step's own task runs on, ends or halts
+own-task : (first t : ℕ) (k : Task) (o : Outcome) (l : List Task) → t < length l → k .status ≡ runs → (getD (tasksAfter first t k o l) t noTask .status ≡ runs → ⊥)
+    → (o ≡ End) ⊎ ((q : Cause) × (o ≡ Halt q))
+own-task first t k GoOn l i r s = absurd (s (rw (getD-set-same l t (goTo (k .block + 1) k) noTask i) refl))
+own-task first t k (Stay time turns) l i r s = absurd (s (rw (getD-set-same l t (stayWith time turns k) noTask i) refl))
+own-task first t k (Jump a) l i r s = absurd (s (rw (getD-set-same l t (goTo a k) noTask i) refl))
+own-task first t k (Call a) l i r s = absurd (s (rw (getD-set-same l t (callTo a k) noTask i) refl))
+own-task first t k Return l i r s = absurd (s (rw (getD-set-same l t (returnFrom k) noTask i) refl))
+own-task first t k (Start w a) l i r s =
+    absurd (s (kept-set (λ x. x .status ≡ runs) (set l t (goTo (k .block + 1) k)) w (startAnew first w a) noTask refl t
+    (rw (getD-set-same l t (goTo (k .block + 1) k) noTask i) refl)))
+own-task first t k Restart l i r s = absurd (s (rw (getD-set-same l t (restarted k) noTask i) refl))
+own-task first t k End l i r s = inl refl
+own-task first t k (Halt q) l i r s = inr (q, refl)
+
+-- ---- the step
+
+return-only : (o : Outcome) → Allows flow.Return o → o ≡ Return
+return-only _ Allows.return = refl
+
+-- a command that halts its task counts no call
+executed-count : (calls : Calls) (t b : ℕ) (p : Point) (f : Flow) (o : Outcome) → Allows f o → cond (executed (answerTo o p)) (countF f t b calls) calls ≡ countF f t b calls
+executed-count calls t b p _ _ Allows.on = refl
+executed-count calls t b p _ _ Allows.halt = refl
+executed-count calls t b p _ _ Allows.over = refl
+executed-count calls t b p _ _ Allows.stay = refl
+executed-count calls t b p _ _ Allows.refuse = refl
+executed-count calls t b p _ _ Allows.jump = refl
+executed-count calls t b p _ _ Allows.branch = refl
+executed-count calls t b p _ _ Allows.pass = refl
+executed-count calls t b p _ _ Allows.call = refl
+executed-count calls t b p _ _ Allows.return = refl
+executed-count calls t b p _ _ Allows.start = refl
+executed-count calls t b p _ _ Allows.restart = refl
+executed-count calls t b p _ _ Allows.end = refl
+
+module _ (image : List ℕ) (ok : Accepted image) (s : State) (m : Machine) (g : Agree image s m) (calls : Calls) (n : Counts calls (m .threads)) (x : Inputs) where
+  abbrev t : ℕ
+  t = x .task
+
+  abbrev k : Task
+  k = taskAt s t
+
+  abbrev c : Command
+  c = commandOf image s x
+
+  abbrev o : Outcome
+  o = effectHere image s x .outcome
+
+  abbrev b : ℕ
+  b = k .block
+
+  module _ (r : Ran image s m x) where
+    flows : Flows (c .code) (rowOf (c .code) .flow)
+    flows = carried (hd image) (c .code) t (r .passes .allowed)
+
+    in-flow : Allows (flowOf (hd image) c) o
+    unfolding flowOf
+    in-flow = r .law .outcome .flow
+
+    -- there are three tasks
+    present : t < length (s .tasks)
+    present = let e = g .both .three in let l = r .task in omega arith
+
+    tasks-are : step image s x .state .tasks ≡ tasksAfter (s .header .start) t k o (s .tasks)
+    unfolding performed
+    tasks-are = ap (λ (q : StepOut). q .state .tasks) (r .engine)
+
+    answer-is : step image s x .answer ≡ answerTo o (pointOf t k)
+    unfolding performed
+    answer-is = ap (λ (q : StepOut). q .answer) (r .engine)
+
+    values-are : step image s x .state .values ≡ noted t (x .start) (effectHere image s x .values)
+    unfolding performed
+    values-are = ap (λ (q : StepOut). q .state .values) (r .engine)
+
+    request-is : step image s x .request ≡ effectHere image s x .request
+    unfolding performed
+    request-is = ap (λ (q : StepOut). q .request) (r .engine)
+
+    threads-are : referenceStep image m x .machine .threads ≡ follows t (threadOf image m x) o (m .threads)
+    unfolding does
+    threads-are = ap (λ (q : ReferenceOut). q .machine .threads) (r .reference)
+
+    calls-are : callsAfter image s x calls ≡ countF (flowOf (hd image) c) t b calls
+    unfolding callsAfter
+    calls-are = rw (answer-is, counts-flow (hd image) c flows t b calls) (executed-count calls t b (pointOf t k) (flowOf (hd image) c) o in-flow)
+
+    counted : Counts (callsAfter image s x calls) (referenceStep image m x .machine .threads)
+    counted =
+        let e = g .both .also in
+        let l = r .task in
+        rw (calls-are, threads-are) (follows-count calls (m .threads) t b (omega arith) (g .both .same t (r .task) .block (r .running)) n (flowOf (hd image) c) o in-flow)
+
+    part4 : c .code ≡ 0x53 → Behind (calls t) (taskAt (step image s x .state) t .block)
+    part4 e =
+        let f = return-flow (hd image) c flows e in
+        let i = return-only o (subst (λ (q : Flow). Allows q o) f in-flow) in
+        let z : eqb (k .depth) 0 ≡ false = subst (λ (q : Flow). noCall q (k .depth) ≡ false) f (r .passes .called) in
+        rw (tasks-are, i, getD-set-same (s .tasks) t (returnFrom k) noTask present)
+        (latest-is (calls t) _ _ (n t ∙ sym (g .both .same t (r .task) .returns (r .running)) ∙ returns-return (k .stack) (k .depth) (eqb-false (k .depth) 0 z)))
+
+    part6 : (u : ℕ) → (u ≡ t → ⊥)
+        → (taskAt (step image s x .state) u ≡ taskAt s u) ⊎ ((executed (step image s x .answer) ≡ true) × (starts (c .code) u ≡ true))
+    part6 u d =
+        ⊎-elim (λ e. inl (rw tasks-are e)) (λ i. inr (rw (answer-is, i .1) refl, start-code (hd image) c flows u (i .0) (subst (Allows (flowOf (hd image) c)) (i .1) in-flow)))
+        (other-task (s .header .start) t k o (s .tasks) u d)
+
+    ranged : Ranged (hd image .header .count) c
+    unfolding commandAt
+    ranged = in-ranges (hd image .header) (blockAt (body image) b) (ok .blocks b (within image ok (pointOf t k) (g .both .sound t (r .task) .reach (r .running)) .block))
+
+    -- the step's own task, where one record was put in its place
+    stays-put : (k′ : Task) → tasksAfter (s .header .start) t k o (s .tasks) ≡ set (s .tasks) t k′ → taskAt (step image s x .state) t ≡ k′
+    stays-put k′ e = ap (λ (ts : List Task). getD ts t noTask) (tasks-are ∙ e) ∙ getD-set-same (s .tasks) t k′ noTask present
+
+    header-is : step image s x .state .header ≡ s .header
+    unfolding performed
+    header-is = ap (λ (q : StepOut). q .state .header) (r .engine)
+
+    stopped-by : (o ≡ End) ⊎ ((j : Cause) × (o ≡ Halt j)) → Stopped image s x
+    stopped-by (inl e) =
+        let q = end-code (hd image) c flows t (r .passes .own) (subst (Allows (flowOf (hd image) c)) e in-flow) in
+        Stopped.byItself (q .0) (q .1) (answer-is ∙ rw e refl) (stays-put (stopped ended k) (rw e refl))
+    stopped-by (inr (j, e)) =
+        let q = r .law .still (rw e refl) in
+        Stopped.byRefusal j (subst (Halting c (s .values) (k .time)) e (r .law .outcome .halt (hd image .header .count) ranged)) (answer-is ∙ rw e refl)
+        (values-are ∙ ap (noted t (x .start)) (q .0)) (stays-put (stopped halted k) (rw e refl)) (request-is ∙ q .1)
+
+    part5 : (u : ℕ) → u < taskCount → taskAt s u .status ≡ runs → (taskAt (step image s x .state) u .status ≡ runs → ⊥) → (u ≡ t) × Stopped image s x
+    part5 u l a z = go (ℕ-discrete u t)
+      where
+        among : (u : ℕ) → u < taskCount → u < length (set (s .tasks) t (goTo (k .block + 1) k))
+        among u l = let e = length-set (s .tasks) t (goTo (k .block + 1) k) in let f = g .both .three in omega arith
+
+        stayed : (u ≡ t → ⊥) → taskAt (step image s x .state) u .status ≡ runs
+        stayed d =
+            subst (λ (q : Task). q .status ≡ runs) (sym (ap (λ (ts : List Task). getD ts u noTask) tasks-are))
+            (⊎-elim (λ e. subst (λ (q : Task). q .status ≡ runs) (sym e) a)
+            (λ i. rw (i .1, getD-set-same (set (s .tasks) t (goTo (k .block + 1) k)) u (startAnew (s .header .start) u (i .0)) noTask (among u l)) refl)
+            (other-task (s .header .start) t k o (s .tasks) u d))
+
+        go : Dec (u ≡ t) → (u ≡ t) × Stopped image s x
+        go (yes e) = (e, stopped-by (own-task (s .header .start) t k o (s .tasks) present (r .running) (λ i. z (subst (λ (w : ℕ). taskAt (step image s x .state) w .status ≡ runs) (sym e) (rw tasks-are i)))))
+        go (no d) = absurd (z (stayed d))
+
+  pub step-parts : StepRule image calls s x × Counts (callsAfter image s x calls) (referenceStep image m x .machine .threads)
+  unfolding callsAfter
+  step-parts = go (step-case image ok s m g x)
+    where
+      go : Case image s m x → StepRule image calls s x × Counts (callsAfter image s x calls) (referenceStep image m x .machine .threads)
+      go (Case.refused a f i j) = (
+        record {
+          returns = λ e _. clash (sym e ∙ ap (λ (q : StepOut). executed (q .answer)) i ∙ f);
+          stops = λ u _ e d. absurd (d (rw i e));
+          others = λ u _ _. inl (rw i refl);
+          header = ap (λ (q : StepOut). q .state .header) i;
+        },
+        rw (i, j, f) n,
+      )
+      go (Case.ran r) = (record { returns = λ _ e. part4 r e; stops = part5 r; others = λ u _ d. part6 r u d; header = header-is r }, counted r)

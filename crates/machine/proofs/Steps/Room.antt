@@ -1,0 +1,54 @@
+-- Where 17 lets a command pass there is room for its call, and something for its return to go to.
+use Prim.Native.Nat.{ℕ, _≤_}
+use mathlib.Core.Path.{_≡_, sym, _∙_}
+use mathlib.Core.Bool.{true}
+use mathlib.Core.List.{List}
+use native.Mathlib.Omega.{arith}
+use lib.Dec.{eqb}
+use borrow.Author.Tests.{eqb-true, eqb-false, leb-false}
+use Rattle.limits.specs.Limits.{mostDepth}
+use Rattle.image_number.proofs.Choice.{both}
+use Rattle.walk_flow.specs.Terms.{Terms}
+use Rattle.command_operands.specs.declared.Command.{Command}
+use Rattle.walk_flow.specs.Flow.{flowOf}
+use Rattle.walk_fault.specs.Fault.{faultNumber}
+use Rattle.walk.specs.Blocks.{commandAt, faultAt, blockNumber}
+use Rattle.walk.proofs.Points.Within.{Passes, passes}
+use Rattle.state.specs.declared.Task.{Task}
+use Rattle.state.specs.declared.Values.{Values}
+use Rattle.machine.specs.DepthAllows.{DepthAllows}
+use Rattle.machine.specs.Given.{Given}
+use Rattle.machine.specs.Effect.{effectOf}
+use Rattle.machine.specs.Engine.{pointOf, blockFits}
+use Rattle.machine.specs.Allows.{Allows}
+use Rattle.machine.specs.declared.Outcome.{Outcome}
+use Rattle.machine.specs.declared.Outcome.the-variants.{GoOn, Stay, Jump, Call, Return, Start, Restart, End, Halt}
+use Rattle.machine.proofs.Rows.EveryLaw.{every-law}
+use Rattle.machine.proofs.Rows.Outcomes.{call-deep, return-deep}
+use Rattle.machine.proofs.Steps.Cases.{used-carried}
+use Rattle.machine.proofs.Steps.KeepsGood.{no-fault}
+
+module _ (bs : List ℕ) (h : Terms) (t : ℕ) (k : Task) (pass : blockFits h bs t k ≡ true) where
+  abbrev c : Command
+  c = commandAt bs (k .block)
+
+  passed : Passes h c (pointOf t k)
+  unfolding faultAt
+  passed =
+      let d = both (eqb (blockNumber h bs (k .block)) 0) (eqb (faultNumber (faultAt h bs (pointOf t k))) 0) pass in
+      passes h c (pointOf t k) (no-fault (faultAt h bs (pointOf t k)) (eqb-true _ 0 (d .1)))
+
+  room : k .depth ≤ mostDepth → (o : Outcome) → Allows (flowOf h c) o → DepthAllows (k .depth) o
+  room l (Call a) m = leb-false mostDepth (k .depth) (sym (call-deep (pointOf t k) (flowOf h c) a m) ∙ passed .shallow)
+  room l Return m = let n = eqb-false (k .depth) 0 (sym (return-deep (pointOf t k) (flowOf h c) m) ∙ passed .called) in (omega arith, l)
+  room l GoOn m = tt
+  room l (Stay time turns) m = tt
+  room l (Jump a) m = tt
+  room l (Start u a) m = tt
+  room l Restart m = tt
+  room l End m = tt
+  room l (Halt q) m = tt
+
+  pub deep : k .depth ≤ mostDepth → (g : Given) (v : Values) → DepthAllows (k .depth) (effectOf g c v .outcome)
+  unfolding flowOf
+  deep l g v = room l (effectOf g c v .outcome) (every-law g c v (used-carried h (c .code) t (passed .allowed)) .outcome .flow)

@@ -1,0 +1,36 @@
+-- The rows of the table by name and answer, in document 01's order: none is left out, and none answers what it should not.
+use mathlib.Core.Path.{_≡_, refl}
+use mathlib.Core.List.{[], _∷_, map}
+use lib.IntN.{negsuc}
+use Rattle.state.specs.State.{startAxis}
+use Rattle.machine.specs.declared.Request.the-variants.{None, MoveTo}
+use Rattle.proved_cases.specs.Images.{block}
+use Rattle.proved_cases.specs.Table.{Name, Reply, Entry, stand, accepted, table}
+use Rattle.proved_cases.specs.Table.Name.{A, B, C, D, E, F, G, H, I, J, K, L, chainOf, marksOf, blockBeforeTask, taskBeforeDepth, onDrive, outputInstead, heldStart, startMark}
+use Rattle.proved_cases.specs.Table.Reply.{refusal, value, noNumber, standing, whole, motions}
+
+record Told : Type 0 where
+  name : Name
+  answer : Reply
+
+abbrev told : Name → Reply → Told
+told n a = record { name = n; answer = a }
+
+pub named : map (λ (r : Entry). told (r .name) (r .answer)) table
+    ≡ told A accepted ∷ told B (refusal 12 0 0 0) ∷ told C (refusal 3 4 0 0) ∷ told D (refusal 10 0 0 5) ∷ told E (refusal 11 1 0 0) ∷ told F (refusal 9 0 1 0)
+    ∷ told G accepted ∷ told H (refusal 7 0 0 0) ∷ told I (refusal 6 0 0 0) ∷ told I accepted
+    ∷ told J (standing (stand 0 1000 526) (stand 1 0 0)) ∷ told J (standing (stand 0 1000 1184) (stand 1 0 0))
+    ∷ told K (value 1500) ∷ told K (noNumber 2) ∷ told K (noNumber 1) ∷ told K (refusal 2 4 0 0)
+    ∷ told L (whole (negsuc 2)) ∷ told L (whole (negsuc 2)) ∷ told (chainOf 5) accepted ∷ told (chainOf 6) (refusal 10 10 0 5)
+    ∷ told (marksOf 26999) (refusal 13 26999 0 0) ∷ told (marksOf 27000) accepted
+    ∷ told blockBeforeTask (refusal 9 1 1 0) ∷ told taskBeforeDepth (refusal 12 3 0 1)
+    ∷ told (onDrive 2 0 0 (block 114 217 1 0 ∷ [])) (refusal 23 0 0 0) ∷ told (onDrive 2 0 1 (block 114 217 1 0 ∷ block 85 0 0 0 ∷ [])) accepted
+    ∷ told (onDrive 0 0 0 (block 114 217 1 0 ∷ [])) (refusal 6 0 0 0)
+    ∷ told (onDrive 2 0 0 (block 114 125 1 0 ∷ [])) (refusal 6 0 0 0) ∷ told (onDrive 4 0 0 (block 114 125 1 0 ∷ [])) (refusal 23 0 0 0)
+    ∷ told (onDrive 4 1 0 (block 114 125 1 0 ∷ [])) (refusal 23 0 0 0)
+    ∷ told (onDrive 2 0 0 (block 99 0 101 0 ∷ [])) (refusal 23 0 0 0) ∷ told (onDrive 2 0 0 (block 114 101 1 0 ∷ [])) (refusal 6 0 0 0)
+    ∷ told (onDrive 2 0 0 (block 114 217 2 0 ∷ [])) (refusal 23 0 0 0) ∷ told (onDrive 3 0 0 (block 110 0 0 0 ∷ [])) (refusal 6 0 0 0)
+    ∷ told (outputInstead 217) (refusal 17 0 0 0) ∷ told (outputInstead 8) (refusal 17 0 0 0) ∷ told (outputInstead 13) accepted
+    ∷ told heldStart (motions (None ∷ None ∷ None ∷ MoveTo startAxis ∷ [])) ∷ told startMark (motions (None ∷ MoveTo startAxis ∷ None ∷ None ∷ [])) ∷ []
+unfolding table
+named = refl

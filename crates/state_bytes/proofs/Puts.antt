@@ -1,0 +1,100 @@
+-- Bytes put one after the other, and for each element of a list.
+use mathlib.Core.Path.{_≡_, refl, sym, ap, _∙_}
+use Prim.Native.Nat.{ℕ, zero, suc, _+_, _*_, _<_, _≤_}
+use native.Mathlib.Omega.{arith}
+use native.Mathlib.Nat.{add-zero, mul-suc}
+use native.Mathlib.Numerals.{add-one}
+use mathlib.Core.List.{List, [], _∷_, _++_}
+use lib.ListN.{length, getD, set, take, drop, replicate, length-append, length-replicate}
+use lib.Seq.{sets, length-sets, sets-eq, take-suc, take-all, length-take-le}
+use Rattle.num_le.specs.LittleEndian.{leBytes}
+use Rattle.state_bytes.specs.Bytes.{puts, concatenated}
+
+puts-sets : (l : List ℕ) (i : ℕ) (vs : List ℕ) → puts l i vs ≡ sets l i vs
+unfolding puts
+puts-sets l i [] = refl
+puts-sets l i (v ∷ vs) = puts-sets (set l i v) (i + 1) vs ∙ ap (λ (k : ℕ). sets (set l i v) k vs) (add-one i)
+
+pub length-puts : (l : List ℕ) (i : ℕ) (vs : List ℕ) → length (puts l i vs) ≡ length l
+length-puts l i vs = ap length (puts-sets l i vs) ∙ length-sets l i vs
+
+puts-append : (l : List ℕ) (i : ℕ) (vs ws : List ℕ) → puts l i (vs ++ ws) ≡ puts (puts l i vs) (i + length vs) ws
+unfolding puts
+puts-append l i [] ws = rw add-zero
+puts-append l i (v ∷ vs) ws = puts-append (set l i v) (i + 1) vs ws ∙ ap (λ (k : ℕ). puts (puts (set l i v) (i + 1) vs) k ws) (omega arith)
+
+-- ws put right behind vs
+pub behind : (l : List ℕ) (at n : ℕ) (vs ws : List ℕ) → length vs ≡ n → puts (puts l at vs) (at + n) ws ≡ puts l at (vs ++ ws)
+behind l at n vs ws h = sym (puts-append l at vs ws ∙ ap (λ (k : ℕ). puts (puts l at vs) (at + k) ws) h)
+
+-- the same of what a first and a second function leave
+pub next : (s l l′ : List ℕ) (at n p : ℕ) (vs ws : List ℕ) → l ≡ puts s at vs → length vs ≡ n → p ≡ at + n → l′ ≡ puts l p ws → l′ ≡ puts s at (vs ++ ws)
+next s l l′ at n p vs ws e h q g =
+    g ∙ ap (λ (k : ℕ). puts l k ws) q ∙ ap (λ (x : List ℕ). puts x (at + n) ws) e ∙ behind s at n vs ws h
+
+-- ---- the bytes of a number, one by one
+
+pub two : (s l l′ b : List ℕ) (at v : ℕ) → b ≡ leBytes 2 v → l ≡ set s at (getD b 0 0) → l′ ≡ set l (at + 1) (getD b 1 0) → l′ ≡ puts s at (leBytes 2 v)
+unfolding puts
+two s l l′ b at v e f g = rw (g, f, e)
+
+pub four : (s l l′ l″ l‴ b : List ℕ) (at v : ℕ) → b ≡ leBytes 4 v → l ≡ set s at (getD b 0 0) → l′ ≡ set l (at + 1) (getD b 1 0)
+    → l″ ≡ set l′ (at + 1 + 1) (getD b 2 0) → l‴ ≡ set l″ (at + 1 + 1 + 1) (getD b 3 0) → l‴ ≡ puts s at (leBytes 4 v)
+unfolding puts
+four s l l′ l″ l‴ b at v e f g h i = rw (i, h, g, f, e)
+
+-- ---- into zeros
+
+drop-replicate : (n m x : ℕ) → drop n (replicate (n + m) x) ≡ replicate m x
+drop-replicate zero m x = let q : 0 + m ≡ m = omega arith in ap (λ (k : ℕ). replicate k x) q
+drop-replicate (suc n) m x = (let q : suc n + m ≡ suc (n + m) = omega arith in ap (λ (k : ℕ). drop (suc n) (replicate k x)) q) ∙ drop-replicate n m x
+
+-- what is put at the front of zeros has zeros behind it
+pub into-zeros : (n m k : ℕ) (l vs : List ℕ) → length vs ≡ n → k ≡ n + m → l ≡ puts (replicate k 0) 0 vs → l ≡ vs ++ replicate m 0
+into-zeros n m k l vs h q e =
+    let long : length {A = ℕ} (replicate k 0) ≡ k = length-replicate {A = ℕ} k 0 in
+    let z : 0 + length vs ≡ n = omega arith in
+    e ∙ puts-sets (replicate k 0) 0 vs ∙ sets-eq vs (replicate k 0) 0 (omega arith)
+    ∙ ap (λ (j : ℕ). vs ++ drop j (replicate k 0)) z
+    ∙ ap (λ (j : ℕ). vs ++ drop n (replicate j 0)) q
+    ∙ ap (λ (r : List ℕ). vs ++ r) (drop-replicate n m 0)
+
+-- ---- a list put element by element
+
+pub puts-none : (s : List ℕ) (at : ℕ) (l : List ℕ) → s ≡ puts s at (take 0 l)
+unfolding puts
+puts-none s at l = refl
+
+pub puts-more : (s : List ℕ) (at i : ℕ) (l x : List ℕ) → i < length l → x ≡ puts s at (take i l) → set x (at + i) (getD l i 0) ≡ puts s at (take (i + 1) l)
+unfolding puts
+puts-more s at i l x h e =
+    ap (λ (y : List ℕ). puts y (at + i) (getD l i 0 ∷ [])) e
+    ∙ behind s at i (take i l) (getD l i 0 ∷ []) (length-take-le i l (omega arith))
+    ∙ ap (puts s at) (sym (take-suc l i 0 h) ∙ ap (λ (k : ℕ). take k l) (sym (add-one i)))
+
+pub puts-all : (s : List ℕ) (at i n : ℕ) (l x : List ℕ) → i ≤ n → n ≤ i → length l ≡ n → x ≡ puts s at (take i l) → x ≡ puts s at l
+puts-all s at i n l x a b h e = e ∙ ap (puts s at) (take-all i l (omega arith))
+
+-- ---- runs
+
+pub runs-none : (f : ℕ → List ℕ) (s : List ℕ) (at : ℕ) → s ≡ puts s at (concatenated 0 f)
+unfolding puts concatenated
+runs-none f s at = refl
+
+module _ (f : ℕ → List ℕ) (m : ℕ) (each : (k : ℕ) → length (f k) ≡ m) where
+  pub length-runs : (n : ℕ) → length (concatenated n f) ≡ m * n
+  unfolding concatenated
+  length-runs zero = omega arith
+  length-runs (suc n) = length-append (concatenated n f) (f n) ∙ let a = each n in let b = length-runs n in let g = mul-suc m n in omega arith
+
+  -- a turn of a loop that puts the bytes of each element
+  pub runs-more : (s : List ℕ) (at i : ℕ) (l : List ℕ) → l ≡ puts s at (concatenated i f) → puts l (at + m * i) (f i) ≡ puts s at (concatenated (i + 1) f)
+  unfolding concatenated
+  runs-more s at i l e =
+      ap (λ (x : List ℕ). puts x (at + m * i) (f i)) e
+      ∙ behind s at (m * i) (concatenated i f) (f i) (length-runs i)
+      ∙ ap (λ (k : ℕ). puts s at (concatenated k f)) (sym (add-one i))
+
+-- all turns
+pub runs-all : (f : ℕ → List ℕ) (s : List ℕ) (at i n : ℕ) (l : List ℕ) → i ≤ n → n ≤ i → l ≡ puts s at (concatenated i f) → l ≡ puts s at (concatenated n f)
+runs-all f s at i n l a b e = let g : i ≡ n = omega arith in rw g at e

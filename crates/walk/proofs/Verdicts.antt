@@ -1,0 +1,3 @@
+pub mod OfWalks
+pub mod OfImage
+pub mod Fast
