@@ -8,7 +8,7 @@ use lib.ListN.{length}
 use Rattle.limits.specs.Limits.{taskCount, inputsLength}
 use Rattle.state_layout.specs.Layout.{decoded, encoded}
 use Rattle.state_layout.specs.IsState.{isState}
-use Rattle.machine.specs.Given.{Inputs}
+use Rattle.machine.specs.Inputs.{Inputs}
 use Rattle.machine.specs.Engine.{step}
 use Rattle.machine.specs.declared.StepOut.{StepOut}
 use Rattle.machine.specs.declared.Request.the-variants.{None}

@@ -20,7 +20,7 @@ ghost use Rattle.walk_search.specs.After.{After};
 ghost use Rattle.image_writer.specs.Writer.{written, outAfter};
 ghost use Rattle.state.specs.GoodState.{GoodState};
 ghost use Rattle.state_layout.specs.Layout.{encoded};
-ghost use Rattle.machine.specs.Given.{inputsOf};
+ghost use Rattle.machine.specs.Inputs.{inputsOf};
 ghost use Rattle.machine.specs.Engine.{step};
 ghost use Rattle.machine.specs.Theorem.{loaded};
 ghost use Rattle.bias_results.specs.Results.{writtenFor};

@@ -5,7 +5,7 @@ use mathlib.Core.List.{List, [], _∷_}
 use lib.Dec.{eqb, leb}
 use lib.ListN.{length, getD, take, drop}
 use Rattle.state_bytes.specs.Bytes.{leNumberAt}
-use Rattle.machine.specs.Given.{Inputs, inputsOf}
+use Rattle.machine.specs.Inputs.{Inputs, inputsOf}
 use Rattle.bias.specs.Load.{load}
 use Rattle.proved_demands.specs.Run.{bufferAfter}
 

@@ -12,15 +12,15 @@ use mir.Val.{Fits, SFits, toZ, ofZ}
 use mir.Facts.{toZ-ofZ}
 use Rattle.image_number.proofs.Choice.{clash}
 use Rattle.state.specs.Wait.{due}
-use Rattle.machine.specs.Given.{Given}
+use Rattle.machine.specs.declared.Context.{Context}
 use Rattle.machine.specs.Effect.{natural, waits}
 use Rattle.machine.specs.declared.Outcome.the-variants.{GoOn, Stay}
 
-pub waits-first : (time : ℕ) (g : Given) → g .time ≡ 0 → cond (due (g .model) time 0) GoOn (Stay time 0) ≡ waits time g
+pub waits-first : (time : ℕ) (g : Context) → g .time ≡ 0 → cond (due (g .drive .model) time 0) GoOn (Stay time 0) ≡ waits time g
 waits-first time g e = rw (eq-eqb (g .time) 0 e) refl
 
-pub waits-later : (time : ℕ) (g : Given) → (g .time ≡ 0 → ⊥)
-    → cond (due (g .model) (g .time) (g .turns + 1)) GoOn (Stay (g .time) (g .turns + 1)) ≡ waits time g
+pub waits-later : (time : ℕ) (g : Context) → (g .time ≡ 0 → ⊥)
+    → cond (due (g .drive .model) (g .time) (g .turns + 1)) GoOn (Stay (g .time) (g .turns + 1)) ≡ waits time g
 waits-later time g n = rw (ne-eqb (g .time) 0 n) refl
 
 -- ---- contents

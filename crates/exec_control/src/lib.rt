@@ -3,8 +3,8 @@
 use command_operands::Command;
 use drive::Drive;
 use machine::Cause;
+use machine::Context;
 use machine::Effect;
-use machine::Moment;
 use machine::Outcome;
 use state::Values;
 ghost use mathlib.Core.Path.{_≡_};
@@ -14,14 +14,13 @@ ghost use Prim.Native.Nat.{_*_, _<_};
 ghost use lib.Dec.{eqb};
 ghost use Rattle.limits.specs.Limits.{bias, plc, mathematics, mostTime};
 ghost use Rattle.state.specs.Wait.{due};
-ghost use Rattle.machine.specs.Given.{givenAt};
 ghost use Rattle.machine.specs.Effect.{sets, flows, halts, variable, within, natural, isSet, waits, waitsVariable, timeOf, controlRows, mathematicsRows, effectIn};
 ghost use Rattle.machine.specs.declared.Outcome.the-variants.{GoOn, Stay, Jump, Call, Return, Start, Restart, End};
 
 // What a command of this group does; any other leaves its task where it is. The turns of a pending wait can be counted on.
-pub fn perform(m: Moment, inputs: &[u8], c: Command, v: Values) -> Effect
-    requires { ⌜ m .turns < 4294967295 ⌝ }
-    ensures { λ r. ⌜ r ≡ effectIn controlRows (c .code) (givenAt m (now (inputs .entry))) c v ⌝ }
+pub fn perform(context: Context, c: Command, v: Values) -> Effect
+    requires { ⌜ context .turns < 4294967295 ⌝ }
+    ensures { λ r. ⌜ r ≡ effectIn controlRows (c .code) context c v ⌝ }
 {
     let code = c.code;
     match code {
@@ -32,16 +31,16 @@ pub fn perform(m: Moment, inputs: &[u8], c: Command, v: Values) -> Effect
         0x54 => start_plc(c, v),
         0x55 => jump(c, v),
         0x57 => start_bias(c, v),
-        0x58 => wait_for_position(m, v),
-        0x59 => wait(m, c, v),
-        0x5A => wait_by_variable(m, c, v),
+        0x58 => wait_for_position(context, v),
+        0x59 => wait(context, c, v),
+        0x5A => wait_by_variable(context, c, v),
         _ => exec_effect::flows(v, Outcome::Stay(0, 0)),
     }
 }
 
 // What a command of mathematics does; any other leaves its task where it is.
-pub fn mathematics(m: Moment, inputs: &[u8], c: Command, v: Values) -> Effect
-    ensures { λ r. ⌜ r ≡ effectIn mathematicsRows (c .code) (givenAt m (now (inputs .entry))) c v ⌝ }
+pub fn mathematics(context: Context, c: Command, v: Values) -> Effect
+    ensures { λ r. ⌜ r ≡ effectIn mathematicsRows (c .code) context c v ⌝ }
 {
     let code = c.code;
     match code {
@@ -96,44 +95,44 @@ fn start_bias(c: Command, v: Values) -> Effect
 }
 
 // 58: on when the position is reached.
-fn wait_for_position(m: Moment, v: Values) -> Effect
-    ensures { λ r. ⌜ r ≡ flows v (cond (isSet (m .reached)) GoOn (Stay 0 0)) ⌝ }
+fn wait_for_position(context: Context, v: Values) -> Effect
+    ensures { λ r. ⌜ r ≡ flows v (cond (isSet (context .reached)) GoOn (Stay 0 0)) ⌝ }
 {
-    if m.reached == 0 {
+    if context.reached == 0 {
         return exec_effect::flows(v, Outcome::Stay(0, 0));
     }
     exec_effect::flows(v, Outcome::GoOn)
 }
 
 // 59: a wait of word x 2 ms.
-fn wait(m: Moment, c: Command, v: Values) -> Effect
-    requires { ⌜ m .turns < 4294967295 ⌝ }
-    ensures { λ r. ⌜ r ≡ flows v (waits (2 * c .word) (givenAt m [])) ⌝ }
+fn wait(context: Context, c: Command, v: Values) -> Effect
+    requires { ⌜ context .turns < 4294967295 ⌝ }
+    ensures { λ r. ⌜ r ≡ flows v (waits (2 * c .word) context) ⌝ }
 {
-    exec_effect::flows(v, waits(m, 2 * (c.word as u32)))
+    exec_effect::flows(v, waits(context, 2 * (c.word as u32)))
 }
 
 // 5A: a wait of so many ms as variable x holds, read at the first step.
-fn wait_by_variable(m: Moment, c: Command, v: Values) -> Effect
-    requires { ⌜ m .turns < 4294967295 ⌝ }
-    ensures { λ r. ⌜ r ≡ waitsVariable (givenAt m []) c v ⌝ }
+fn wait_by_variable(context: Context, c: Command, v: Values) -> Effect
+    requires { ⌜ context .turns < 4294967295 ⌝ }
+    ensures { λ r. ⌜ r ≡ waitsVariable context c v ⌝ }
 {
     let content = exec_effect::variable(v, c.x);
-    if (m.time != 0) | is_time(content) {
-        return exec_effect::flows(v, waits(m, time_of(m.drive, natural(content))));
+    if (context.time != 0) | is_time(content) {
+        return exec_effect::flows(v, waits(context, time_of(context.drive, natural(content))));
     }
     exec_effect::halts(Cause::BadContent, v)
 }
 
 // A wait: a time is pending from the first step on, and each later step counts a turn.
-fn waits(m: Moment, time: u32) -> Outcome
-    requires { ⌜ m .turns < 4294967295 ⌝ }
-    ensures { λ r. ⌜ r ≡ waits time (givenAt m []) ⌝ }
+fn waits(context: Context, time: u32) -> Outcome
+    requires { ⌜ context .turns < 4294967295 ⌝ }
+    ensures { λ r. ⌜ r ≡ waits time context ⌝ }
 {
-    if m.time == 0 {
-        return wait_or_pass(m.drive, time, 0);
+    if context.time == 0 {
+        return wait_or_pass(context.drive, time, 0);
     }
-    wait_or_pass(m.drive, m.time, m.turns + 1)
+    wait_or_pass(context.drive, context.time, context.turns + 1)
 }
 
 // On when the time is over, else waiting.

@@ -27,19 +27,19 @@ module _ (test : ℕ → Bool) (n : ℕ) (no : test n ≡ false) where
   skip [] rest t = refl
   skip (r ∷ front) rest t =
       let h = both (test (r .code)) (all test front) t in
-      ap (λ (b : Bool). cond b (r .deed) (effectIn (front ++ rest) n)) (other (r .code) (h .0)) ∙ skip front rest (h .1)
+      ap (λ (b : Bool). cond b (r .effect) (effectIn (front ++ rest) n)) (other (r .code) (h .0)) ∙ skip front rest (h .1)
 
   absent : (rs : List EffectRow) → T (all test rs) → effectIn rs n ≡ nothing
   unfolding effectIn
   absent [] t = refl
   absent (r ∷ rs) t =
       let h = both (test (r .code)) (all test rs) t in
-      ap (λ (b : Bool). cond b (r .deed) (effectIn rs n)) (other (r .code) (h .0)) ∙ absent rs (h .1)
+      ap (λ (b : Bool). cond b (r .effect) (effectIn rs n)) (other (r .code) (h .0)) ∙ absent rs (h .1)
 
   stop : (front rest : List EffectRow) → T (all test rest) → effectIn (front ++ rest) n ≡ effectIn front n
   unfolding effectIn
   stop [] rest t = absent rest t
-  stop (r ∷ front) rest t = ap (λ (d : CommandEffect). cond (eqb n (r .code)) (r .deed) d) (stop front rest t)
+  stop (r ∷ front) rest t = ap (λ (d : CommandEffect). cond (eqb n (r .code)) (r .effect) d) (stop front rest t)
 
 -- ---- the groups: of the codes from one bound to the next
 
@@ -61,23 +61,23 @@ below bound = all (λ k. ltb k bound)
 abbrev from : ℕ → List EffectRow → Bool
 from bound = all (λ k. not (ltb k bound))
 
-module _ (n : ℕ) where
+module _ (inputs : List ℕ) (n : ℕ) where
   between : (least bound : ℕ) (front group rest : List EffectRow) → T (below least front) → T (from bound rest) → ltb n least ≡ false → ltb n bound ≡ true
       → effectIn (front ++ (group ++ rest)) n ≡ effectIn group n
   between least bound front group rest t u e f =
       skip (λ k. ltb k least) n e front (group ++ rest) t ∙ stop (λ k. not (ltb k bound)) n (ap not f) group rest u
 
-  pub of-axis : ltb n control ≡ true → effectIn effectRows n ≡ effectIn motionRows n
-  of-axis e = stop (λ k. not (ltb k control)) n (ap not e) motionRows (controlRows ++ (levelRows ++ (variableRows ++ mathematicsRows))) tt
+  pub of-motion : ltb n control ≡ true → effectIn (effectRows inputs) n ≡ effectIn motionRows n
+  of-motion e = stop (λ k. not (ltb k control)) n (ap not e) motionRows (controlRows ++ (levelRows inputs ++ (variableRows ++ mathematicsRows))) tt
 
-  pub of-control : ltb n control ≡ false → ltb n levels ≡ true → effectIn effectRows n ≡ effectIn controlRows n
-  of-control = between control levels motionRows controlRows (levelRows ++ (variableRows ++ mathematicsRows)) tt tt
+  pub of-control : ltb n control ≡ false → ltb n levels ≡ true → effectIn (effectRows inputs) n ≡ effectIn controlRows n
+  of-control = between control levels motionRows controlRows (levelRows inputs ++ (variableRows ++ mathematicsRows)) tt tt
 
-  pub of-levels : ltb n levels ≡ false → ltb n variables ≡ true → effectIn effectRows n ≡ effectIn levelRows n
-  of-levels = between levels variables (motionRows ++ controlRows) levelRows (variableRows ++ mathematicsRows) tt tt
+  pub of-levels : ltb n levels ≡ false → ltb n variables ≡ true → effectIn (effectRows inputs) n ≡ effectIn (levelRows inputs) n
+  of-levels = between levels variables (motionRows ++ controlRows) (levelRows inputs) (variableRows ++ mathematicsRows) tt tt
 
-  pub of-variables : ltb n variables ≡ false → ltb n mathematics ≡ true → effectIn effectRows n ≡ effectIn variableRows n
-  of-variables = between variables mathematics (motionRows ++ (controlRows ++ levelRows)) variableRows mathematicsRows tt tt
+  pub of-variables : ltb n variables ≡ false → ltb n mathematics ≡ true → effectIn (effectRows inputs) n ≡ effectIn variableRows n
+  of-variables = between variables mathematics (motionRows ++ (controlRows ++ levelRows inputs)) variableRows mathematicsRows tt tt
 
-  pub of-mathematics : ltb n mathematics ≡ false → effectIn effectRows n ≡ effectIn mathematicsRows n
-  of-mathematics e = skip (λ k. ltb k mathematics) n e (motionRows ++ (controlRows ++ (levelRows ++ variableRows))) mathematicsRows tt
+  pub of-mathematics : ltb n mathematics ≡ false → effectIn (effectRows inputs) n ≡ effectIn mathematicsRows n
+  of-mathematics e = skip (λ k. ltb k mathematics) n e (motionRows ++ (controlRows ++ (levelRows inputs ++ variableRows))) mathematicsRows tt

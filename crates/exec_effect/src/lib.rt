@@ -6,7 +6,7 @@ use machine::Outcome;
 use machine::Request;
 use state::Values;
 ghost use mathlib.Core.Path.{_≡_};
-ghost use Rattle.machine.specs.Given.{level};
+ghost use Rattle.machine.specs.Inputs.{level};
 ghost use Rattle.machine.specs.declared.Outcome.the-variants.{GoOn};
 ghost use Rattle.machine.specs.Effect.{effect, assigns, sets, flows, jumpIf, halts, flag, output, variable, compares};
 

@@ -1,7 +1,7 @@
 // Commands of flags and pins (60 to 68, 6E, 70 to 73): one function for each, and the one that finds it.
 use command_operands::Command;
+use machine::Context;
 use machine::Effect;
-use machine::Moment;
 use machine::Outcome;
 use state::Values;
 ghost use mathlib.Core.Path.{_≡_};
@@ -11,12 +11,12 @@ ghost use lib.Dec.{eqb};
 ghost use mir.Syntax.{w32};
 ghost use Rattle.num_arith.specs.Ops.{bitAt};
 ghost use Rattle.state.specs.State.{withFlag, withOutput};
-ghost use Rattle.machine.specs.Given.{level, givenAt};
+ghost use Rattle.machine.specs.Inputs.{level};
 ghost use Rattle.machine.specs.Effect.{sets, jumpIf, flag, output, variable, bit, isSet, compares, levelRows, effectIn};
 
 // What a command of this group does; any other leaves its task where it is.
-pub fn perform(m: Moment, inputs: &[u8], c: Command, v: Values) -> Effect
-    ensures { λ r. ⌜ r ≡ effectIn levelRows (c .code) (givenAt m (now (inputs .entry))) c v ⌝ }
+pub fn perform(context: Context, inputs: &[u8], c: Command, v: Values) -> Effect
+    ensures { λ r. ⌜ r ≡ effectIn (levelRows (now (inputs .entry))) (c .code) context c v ⌝ }
 {
     let code = c.code;
     match code {

@@ -4,8 +4,8 @@ use command_operands::Command;
 use limits::MOST_RAMP;
 use limits::MOST_SPEED;
 use machine::Cause;
+use machine::Context;
 use machine::Effect;
-use machine::Moment;
 use machine::Outcome;
 use machine::Request;
 use state::FIRST_AXIS;
@@ -16,22 +16,21 @@ ghost use mathlib.Core.List.{[]};
 ghost use lib.IntN.{pos};
 ghost use Rattle.limits.specs.Limits.{mostSpeed, mostRamp};
 ghost use Rattle.state.specs.State.{firstAxis, axisOf, withAxis, withMark, withPosition, withSpeed, withAcceleration, withDeceleration};
-ghost use Rattle.machine.specs.Given.{givenAt};
 ghost use Rattle.machine.specs.Effect.{effect, sets, flows, halts, assigns, variable, within, natural, started, motionRows, effectIn};
 ghost use Rattle.machine.specs.declared.Cause.the-variants.{BadContent};
 ghost use Rattle.machine.specs.declared.Request.the-variants as request;
 ghost use Rattle.machine.specs.declared.Outcome.the-variants.{GoOn, Stay};
 
 // What a command of this group does; any other leaves its task where it is.
-pub fn perform(m: Moment, inputs: &[u8], c: Command, v: Values) -> Effect
-    ensures { λ r. ⌜ r ≡ effectIn motionRows (c .code) (givenAt m (now (inputs .entry))) c v ⌝ }
+pub fn perform(context: Context, c: Command, v: Values) -> Effect
+    ensures { λ r. ⌜ r ≡ effectIn motionRows (c .code) context c v ⌝ }
 {
     let code = c.code;
     match code {
-        0x00 => move_to(m, v),
-        0x01 => move_by(m, v),
-        0x03 => forward(m, v),
-        0x04 => backward(m, v),
+        0x00 => move_to(context, v),
+        0x01 => move_by(context, v),
+        0x03 => forward(context, v),
+        0x04 => backward(context, v),
         0x0E => set_mark(v),
         0x0F => stop(c, v),
         0x1F => stop_by(c, v),
@@ -52,53 +51,53 @@ pub fn perform(m: Moment, inputs: &[u8], c: Command, v: Values) -> Effect
 }
 
 // Whether a move starts: the start mark stands, or the start input is high and was low at the preceding BIAS step.
-fn started(m: Moment, v: Values) -> bool
-    ensures { λ r. ⌜ r ≡ started (givenAt m []) v ⌝ }
+fn started(context: Context, v: Values) -> bool
+    ensures { λ r. ⌜ r ≡ started context v ⌝ }
 {
     let notes = v.notes;
-    (v.motion.mark != 0) | ((m.start != 0) & (notes.level == 0))
+    (v.motion.mark != 0) | ((context.start != 0) & (notes.level == 0))
 }
 
 // A move starts, and clears the start mark, or its task stays.
-fn moves(m: Moment, request: Request, v: Values) -> Effect
-    ensures { λ r. ⌜ r ≡ cond (started (givenAt m []) v) (effect (withMark 0 v) request GoOn) (flows v (Stay 0 0)) ⌝ }
+fn moves(context: Context, request: Request, v: Values) -> Effect
+    ensures { λ r. ⌜ r ≡ cond (started context v) (effect (withMark 0 v) request GoOn) (flows v (Stay 0 0)) ⌝ }
 {
-    if started(m, v) {
+    if started(context, v) {
         return exec_effect::asks(v.with_mark(0), request);
     }
     exec_effect::flows(v, Outcome::Stay(0, 0))
 }
 
 // 00: a move to the stored position.
-fn move_to(m: Moment, v: Values) -> Effect
-    ensures { λ r. ⌜ r ≡ cond (started (givenAt m []) v) (effect (withMark 0 v) (request.MoveTo (axisOf firstAxis v)) GoOn) (flows v (Stay 0 0)) ⌝ }
+fn move_to(context: Context, v: Values) -> Effect
+    ensures { λ r. ⌜ r ≡ cond (started context v) (effect (withMark 0 v) (request.MoveTo (axisOf firstAxis v)) GoOn) (flows v (Stay 0 0)) ⌝ }
 {
     let axis = v.axis(FIRST_AXIS);
-    moves(m, Request::MoveTo(axis), v)
+    moves(context, Request::MoveTo(axis), v)
 }
 
 // 01: a move by the stored position.
-fn move_by(m: Moment, v: Values) -> Effect
-    ensures { λ r. ⌜ r ≡ cond (started (givenAt m []) v) (effect (withMark 0 v) (request.MoveBy (axisOf firstAxis v)) GoOn) (flows v (Stay 0 0)) ⌝ }
+fn move_by(context: Context, v: Values) -> Effect
+    ensures { λ r. ⌜ r ≡ cond (started context v) (effect (withMark 0 v) (request.MoveBy (axisOf firstAxis v)) GoOn) (flows v (Stay 0 0)) ⌝ }
 {
     let axis = v.axis(FIRST_AXIS);
-    moves(m, Request::MoveBy(axis), v)
+    moves(context, Request::MoveBy(axis), v)
 }
 
 // 03: endless, forward.
-fn forward(m: Moment, v: Values) -> Effect
-    ensures { λ r. ⌜ r ≡ cond (started (givenAt m []) v) (effect (withMark 0 v) (request.Forward (axisOf firstAxis v)) GoOn) (flows v (Stay 0 0)) ⌝ }
+fn forward(context: Context, v: Values) -> Effect
+    ensures { λ r. ⌜ r ≡ cond (started context v) (effect (withMark 0 v) (request.Forward (axisOf firstAxis v)) GoOn) (flows v (Stay 0 0)) ⌝ }
 {
     let axis = v.axis(FIRST_AXIS);
-    moves(m, Request::Forward(axis), v)
+    moves(context, Request::Forward(axis), v)
 }
 
 // 04: endless, backward.
-fn backward(m: Moment, v: Values) -> Effect
-    ensures { λ r. ⌜ r ≡ cond (started (givenAt m []) v) (effect (withMark 0 v) (request.Backward (axisOf firstAxis v)) GoOn) (flows v (Stay 0 0)) ⌝ }
+fn backward(context: Context, v: Values) -> Effect
+    ensures { λ r. ⌜ r ≡ cond (started context v) (effect (withMark 0 v) (request.Backward (axisOf firstAxis v)) GoOn) (flows v (Stay 0 0)) ⌝ }
 {
     let axis = v.axis(FIRST_AXIS);
-    moves(m, Request::Backward(axis), v)
+    moves(context, Request::Backward(axis), v)
 }
 
 // 0E: the start mark is set.

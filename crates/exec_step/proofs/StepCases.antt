@@ -14,12 +14,12 @@ use Rattle.state.proofs.Bounds.{wait-fits}
 use Rattle.state.specs.declared.Task.{Task}
 use Rattle.state.specs.declared.Values.{Values}
 use Rattle.state.specs.declared.State.{State}
-use Rattle.machine.specs.Given.{Inputs, inputsOf, givenAt, level}
+use Rattle.machine.specs.Inputs.{Inputs, inputsOf, level}
 use Rattle.machine.specs.Effect.{effectOf}
 use Rattle.image_number.proofs.Choice.{both}
 use Rattle.image_header.specs.Scan.{headerOf, blocksOf}
 use Rattle.image_header.specs.declared.reader.HeaderRead.{HeaderRead}
-use Rattle.machine.specs.Engine.{noted, tasksAfter, answerTo, pointOf, performed, refuse, fits, given, carriedOut, taskStep, step, isLoaded, blockFits, waitFits, fitsAs, termsHeld}
+use Rattle.machine.specs.Engine.{noted, tasksAfter, answerTo, pointOf, performed, refuse, fits, contextOf, carriedOut, taskStep, step, isLoaded, blockFits, waitFits, fitsAs, termsHeld}
 use Rattle.machine.specs.declared.Answer.the-variants.{NoTask, Inputs as BadInputs, NotRunning, Differs}
 use Rattle.machine.specs.declared.Answer.{Answer}
 use Rattle.machine.specs.declared.Effect.{Effect}
@@ -38,8 +38,8 @@ together s t start k e v ts a i j l = rw (i, j, l) refl
 
 -- the effect of a command, with the levels that the code reads
 pub same-effect : (s : State) (x : Inputs) (k : Task) (start reached : ℕ) (c d : Command) → start ≡ level (x .start) → reached ≡ level (x .reached) → c ≡ d
-    → effectOf (givenAt (record { drive = s .header .drive; start = start; reached = reached; time = k .time; turns = k .turns }) (x .levels)) c (s .values)
-    ≡ effectOf (given s k x) d (s .values)
+    → effectOf (x .levels) (record { drive = s .header .drive; start = start; reached = reached; time = k .time; turns = k .turns }) c (s .values)
+    ≡ effectOf (x .levels) (contextOf s k x) d (s .values)
 same-effect s x k start reached c d i j e = rw (i, j, e) refl
 
 -- what a good state's task has room for

@@ -4,8 +4,8 @@ use image_header::Header;
 use image_header::reader;
 use image_header::reader::HeaderRead;
 use machine::Answer;
+use machine::Context;
 use machine::Effect;
-use machine::Moment;
 use machine::Outcome;
 use machine::Request;
 use machine::StepOut;
@@ -23,7 +23,7 @@ ghost use Rattle.walk.specs.Blocks.{commandAt};
 ghost use Rattle.state.specs.State.{taskAt};
 ghost use Rattle.state.specs.GoodState.{GoodState};
 ghost use Rattle.walk_flow.specs.Terms.{under};
-ghost use Rattle.machine.specs.Given.{inputsOf};
+ghost use Rattle.machine.specs.Inputs.{inputsOf};
 ghost use Rattle.machine.specs.DepthAllows.{DepthAllows};
 ghost use Rattle.machine.specs.Engine.{refuse, isWait, isLoaded, blockFits, waitFits, fitsAs, noted, answerTo, pointOf, performed, carriedOut, taskStep, step, termsHeld};
 
@@ -167,14 +167,14 @@ fn carry_out(
     let header = s.header;
     let drive = header.drive;
     let values = s.values;
-    let m = Moment {
+    let context = Context {
         drive: drive,
         start: exec_effect::level(start),
         reached: exec_effect::level(reached),
         time: k.time,
         turns: k.turns,
     };
-    let e = exec_dispatch::perform(m, inputs, c, values);
+    let e = exec_dispatch::perform(context, inputs, c, values);
     performed(s, t, start, k, e)
 }
 

@@ -1,8 +1,8 @@
 // Commands of variables (80 to 86, 88 to 8D): one function for each, and the one that finds it. Sources are read before the target is written.
 use command_operands::Command;
 use machine::Cause;
+use machine::Context;
 use machine::Effect;
-use machine::Moment;
 use machine::Outcome;
 use num_arith::Quotient;
 use state::Values;
@@ -13,12 +13,11 @@ ghost use lib.IntN.{pos, _+ℤ_, _-ℤ_, _*ℤ_};
 ghost use mir.Syntax.{w32};
 ghost use Rattle.num_arith.specs.Wrap.{word, wrap};
 ghost use Rattle.num_arith.specs.Ops.{quotient, holds};
-ghost use Rattle.machine.specs.Given.{givenAt};
 ghost use Rattle.machine.specs.Effect.{assigns, divides, jumpIf, variable, flagNumber, variableRows, effectIn};
 
 // What a command of this group does; any other leaves its task where it is.
-pub fn perform(m: Moment, inputs: &[u8], c: Command, v: Values) -> Effect
-    ensures { λ r. ⌜ r ≡ effectIn variableRows (c .code) (givenAt m (now (inputs .entry))) c v ⌝ }
+pub fn perform(context: Context, c: Command, v: Values) -> Effect
+    ensures { λ r. ⌜ r ≡ effectIn variableRows (c .code) context c v ⌝ }
 {
     let code = c.code;
     match code {

@@ -21,7 +21,8 @@ use Rattle.state.specs.State.{withPosition, withSpeed, withAcceleration, withDe
 use Rattle.state.specs.Wait.{due}
 use Rattle.state.specs.declared.Axis.{Axis}
 use Rattle.state.specs.declared.Values.{Values}
-use Rattle.machine.specs.Given.{Given, inputAt}
+use Rattle.machine.specs.Inputs.{inputAt}
+use Rattle.machine.specs.declared.Context.{Context}
 use Rattle.machine.specs.declared.Request.{Request}
 use Rattle.machine.specs.declared.Request.the-variants.{None, MoveTo, MoveBy, Forward, Backward, Stop}
 use Rattle.machine.specs.declared.Cause.{Cause}
@@ -53,7 +54,7 @@ halts q v = flows v (Halt q)
 
 -- what a command does
 abbrev pub CommandEffect : Type 0
-CommandEffect = Given → Command → Values → Effect
+CommandEffect = Context → Command → Values → Effect
 
 -- ---- reading
 
@@ -88,18 +89,18 @@ abbrev pub compares : ℕ → ℕ → ℕ → Bool
 compares condition a b = cond (eqb condition 0) (eqb a b) (not (eqb a b))
 
 -- a move is carried out when the start mark stands, which it clears, or at a rising slope of the start input: high now, low at the preceding BIAS step
-abbrev pub started : Given → Values → Bool
+abbrev pub started : Context → Values → Bool
 started g v = isSet (v .motion .mark) || (isSet (g .start) && eqb (v .notes .level) 0)
 
 abbrev pub moves : (Axis → Request) → CommandEffect
 moves kind g c v = cond (started g v) (effect (withMark 0 v) (kind (axisOf firstAxis v)) GoOn) (flows v (Stay 0 0))
 
 -- a wait of T ms: at the first step T is taken with k = 0, at each later one k grows by one
-abbrev pub waits : ℕ → Given → Outcome
+abbrev pub waits : ℕ → Context → Outcome
 waits time g =
     cond (eqb (g .time) 0)
-    (cond (due (g .model) time 0) GoOn (Stay time 0))
-    (cond (due (g .model) (g .time) (g .turns + 1)) GoOn (Stay (g .time) (g .turns + 1)))
+    (cond (due (g .drive .model) time 0) GoOn (Stay time 0))
+    (cond (due (g .drive .model) (g .time) (g .turns + 1)) GoOn (Stay (g .time) (g .turns + 1)))
 
 -- a parameter from a variable: 20 unless it is in range
 abbrev pub parameter : ℕ → (ℕ → Axis → Axis) → CommandEffect
@@ -128,16 +129,16 @@ timeOf model n = cond (ltb model type637Plus) (n - n % 2) n
 abbrev pub waitsVariable : CommandEffect
 waitsVariable g c v =
     cond (isSet (g .time) || within 0 mostTime (variable v (c .x)))
-    (flows v (waits (timeOf (g .model) (natural (variable v (c .x)))) g)) (halts BadContent v)
+    (flows v (waits (timeOf (g .drive .model) (natural (variable v (c .x)))) g)) (halts BadContent v)
 
 -- ---- the rows
 
 pub record EffectRow : Type 0 where
   pub code : ℕ
-  pub deed : CommandEffect
+  pub effect : CommandEffect
 
 abbrev pub effectRow : ℕ → CommandEffect → EffectRow
-effectRow code deed = record { code = code; deed = deed }
+effectRow code effect = record { code = code; effect = effect }
 
 -- motion and parameters
 abbrev pub motionRows : List EffectRow
@@ -178,20 +179,20 @@ controlRows =
     effectRow 0x5A waitsVariable ∷  -- p. 132
     []
 
--- flags and pins
-abbrev pub levelRows : List EffectRow
-levelRows =
+-- flags and pins, with the levels of the input pins
+abbrev pub levelRows : List ℕ → List EffectRow
+levelRows inputs =
     effectRow 0x60 (λ g c v. sets (withFlag (c .x) (c .y) v)) ∷  -- p. 137
     effectRow 0x61 (λ g c v. jumpIf (compares (c .y) (flag v (c .x)) (c .z)) (c .word) v) ∷  -- p. 138
     effectRow 0x62 (λ g c v. sets (withFlag (c .x) (flag v (c .y)) v)) ∷  -- p. 139
-    effectRow 0x63 (λ g c v. sets (withFlag (c .x) (inputAt g (c .y)) v)) ∷  -- p. 140
+    effectRow 0x63 (λ g c v. sets (withFlag (c .x) (inputAt inputs (c .y)) v)) ∷  -- p. 140
     effectRow 0x64 (λ g c v. sets (withFlag (c .x) (output v (c .y)) v)) ∷  -- p. 141
     effectRow 0x65 (λ g c v. sets (withFlag (c .x) (bit (isSet (flag v (c .y)) && isSet (flag v (c .z)))) v)) ∷  -- p. 142
     effectRow 0x66 (λ g c v. sets (withFlag (c .x) (bit (isSet (flag v (c .y)) || isSet (flag v (c .z)))) v)) ∷  -- p. 143
     effectRow 0x67 (λ g c v. sets (withFlag (c .x) (bit (not (eqb (flag v (c .y)) (flag v (c .z))))) v)) ∷  -- p. 144
     effectRow 0x68 (λ g c v. sets (withFlag (c .x) (bit (not (isSet (flag v (c .y))))) v)) ∷  -- p. 145
     effectRow 0x6E (λ g c v. jumpIf (compares (c .z) (bit (bitAt w32 (c .y) (variable v (c .x)))) 0) (c .word) v) ∷  -- p. 151
-    effectRow 0x70 (λ g c v. jumpIf (compares (c .y) (inputAt g (c .x)) (c .z)) (c .word) v) ∷  -- p. 154
+    effectRow 0x70 (λ g c v. jumpIf (compares (c .y) (inputAt inputs (c .x)) (c .z)) (c .word) v) ∷  -- p. 154
     effectRow 0x71 (λ g c v. jumpIf (compares (c .y) (output v (c .x)) (c .z)) (c .word) v) ∷  -- p. 156
     effectRow 0x72 (λ g c v. sets (withOutput (c .x) (c .y) v)) ∷  -- p. 158
     effectRow 0x73 (λ g c v. sets (withOutput (c .x) (flag v (c .y)) v)) ∷  -- p. 159
@@ -221,8 +222,9 @@ mathematicsRows =
     effectRow 0x90 (λ g c v. flows v (Start mathematics (c .word))) ∷  -- p. 185
     []
 
-abbrev pub effectRows : List EffectRow
-effectRows = motionRows ++ (controlRows ++ (levelRows ++ (variableRows ++ mathematicsRows)))
+-- all of them, with these input levels
+abbrev pub effectRows : List ℕ → List EffectRow
+effectRows inputs = motionRows ++ (controlRows ++ (levelRows inputs ++ (variableRows ++ mathematicsRows)))
 
 -- a code that is not carried does nothing: the task stays
 abbrev pub nothing : CommandEffect
@@ -230,8 +232,8 @@ nothing g c v = flows v (Stay 0 0)
 
 unfoldable pub effectIn : List EffectRow → ℕ → CommandEffect
 effectIn [] code = nothing
-effectIn (r ∷ rs) code = cond (eqb code (r .code)) (r .deed) (effectIn rs code)
+effectIn (r ∷ rs) code = cond (eqb code (r .code)) (r .effect) (effectIn rs code)
 
 -- what a command does
-unfoldable pub effectOf : CommandEffect
-effectOf g c v = effectIn effectRows (c .code) g c v
+unfoldable pub effectOf : List ℕ → CommandEffect
+effectOf inputs g c v = effectIn (effectRows inputs) (c .code) g c v

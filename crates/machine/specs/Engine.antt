@@ -20,7 +20,8 @@ use Rattle.state.specs.State.{runs, ended, halted, emptyStack, task, taskAt, wi
 use Rattle.state.specs.declared.Task.{Task}
 use Rattle.state.specs.declared.Values.{Values}
 use Rattle.state.specs.declared.State.{State}
-use Rattle.machine.specs.Given.{Inputs, Given, level}
+use Rattle.machine.specs.Inputs.{Inputs, level}
+use Rattle.machine.specs.declared.Context.{Context}
 use Rattle.machine.specs.Effect.{effectOf, isSet}
 use Rattle.machine.specs.declared.Request.the-variants.{None}
 use Rattle.machine.specs.declared.Outcome.{Outcome}
@@ -98,10 +99,10 @@ answerTo (Halt q) p = Halted q p
 abbrev pub noted : ℕ → ℕ → Values → Values
 noted t start v = cond (eqb t bias) (withNotes (record { level = level start }) v) v
 
-abbrev pub given : State → Task → Inputs → Given
-given s k x = record {
-  model = s .header .drive .model;
-  levels = x .levels;
+-- what the command may read besides the values and the input levels
+abbrev pub contextOf : State → Task → Inputs → Context
+contextOf s k x = record {
+  drive = s .header .drive;
   start = level (x .start);
   reached = level (x .reached);
   time = k .time;
@@ -147,7 +148,7 @@ fits image h t k = fitsAs (headerOf image) (blocksOf image) h t k
 
 -- the command at the task's block
 abbrev pub carriedOut : List ℕ → State → Inputs → Task → StepOut
-carriedOut bs s x k = performed s x k (effectOf (given s k x) (commandAt bs (k .block)) (s .values))
+carriedOut bs s x k = performed s x k (effectOf (x .levels) (contextOf s k x) (commandAt bs (k .block)) (s .values))
 
 -- 18, then 17, then the command
 unfoldable pub taskStep : List ℕ → State → Inputs → Task → StepOut

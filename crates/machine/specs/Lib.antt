@@ -1,4 +1,4 @@
-pub mod Given
+pub mod Inputs
 pub mod Effect
 pub mod Engine
 pub mod Reference

@@ -11,7 +11,7 @@ use Rattle.image_header.specs.Scan.{headerOf, blocksOf}
 use Rattle.command_table.specs.Rows.{rowOf}
 use Rattle.walk.specs.Blocks.{commandAt}
 use Rattle.state.specs.declared.Values.{Values}
-use Rattle.machine.specs.Given.{Inputs, level}
+use Rattle.machine.specs.Inputs.{Inputs, level}
 use Rattle.machine.specs.Effect.{effectOf}
 use Rattle.machine.specs.declared.Request.{Request}
 use Rattle.machine.specs.declared.Request.the-variants.{None}
@@ -140,10 +140,9 @@ acts image m x k =
     cond (ltb (k .block) (headerOf image .header .count))
     (cond (rowOf (commandAt (blocksOf image) (k .block) .code) .carried)
     (tries m x k
-    (effectOf
+    (effectOf (x .levels)
     (record {
-      model = headerOf image .header .drive .model;
-      levels = x .levels;
+      drive = headerOf image .header .drive;
       start = level (x .start);
       reached = level (x .reached);
       time = k .time;

@@ -9,7 +9,7 @@ use Rattle.walk_flow.specs.Terms.{termsOf}
 use Rattle.walk.specs.Blocks.{faultAt, blockNumber}
 use Rattle.state.specs.declared.Task.{Task}
 use Rattle.state.specs.declared.State.{State}
-use Rattle.machine.specs.Given.{Inputs}
+use Rattle.machine.specs.Inputs.{Inputs}
 use Rattle.machine.specs.Engine.{step, pointOf}
 use Rattle.machine.specs.declared.StepOut.{StepOut}
 use Rattle.machine.specs.Reference.{Machine, ReferenceOut, referenceStep}

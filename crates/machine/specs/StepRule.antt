@@ -15,7 +15,7 @@ use Rattle.walk.specs.Walk.{starts}
 use Rattle.state.specs.State.{runs, ended, halted, taskAt}
 use Rattle.state.specs.declared.Values.{Values}
 use Rattle.state.specs.declared.State.{State}
-use Rattle.machine.specs.Given.{Inputs}
+use Rattle.machine.specs.Inputs.{Inputs}
 use Rattle.machine.specs.Effect.{variable, within}
 use Rattle.machine.specs.Engine.{step, pointOf, noted, stopped}
 use Rattle.machine.specs.declared.Cause.{Cause}

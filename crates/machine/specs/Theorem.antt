@@ -12,7 +12,7 @@ use Rattle.walk.specs.declared.Verdict.the-variants as verdict
 use Rattle.state.specs.State.{runs, taskAt, fresh}
 use Rattle.state.specs.GoodState.{GoodState}
 use Rattle.state.specs.declared.State.{State}
-use Rattle.machine.specs.Given.{Inputs}
+use Rattle.machine.specs.Inputs.{Inputs}
 use Rattle.machine.specs.Engine.{step}
 use Rattle.machine.specs.Reference.{referenceLoaded}
 use Rattle.machine.specs.Alike.{Alike}

@@ -70,7 +70,7 @@ pub enum Answer {
 
 // What a command may read besides the values and the input levels: the drive, the start input and "position reached" as levels (0 or 1), and its
 // task's pending wait.
-pub struct Moment {
+pub struct Context {
     pub drive: Drive,
     pub start: u8,
     pub reached: u8,

@@ -8,7 +8,7 @@ use Rattle.limits.specs.Limits.{cells, marksLength, stateLength}
 use Rattle.bytes.specs.Bytes.{indexOf}
 use Rattle.num_le.specs.LittleEndian.{leBytes}
 use Rattle.state_bytes.specs.Bytes.{leNumberAt, puts}
-use Rattle.machine.specs.Given.{Inputs, inputsOf}
+use Rattle.machine.specs.Inputs.{Inputs, inputsOf}
 use Rattle.text_verdict.specs.Input.{inputLength}
 use Rattle.bias.specs.Load.{Load, load}
 use Rattle.bias.specs.Step.{stepped}

@@ -9,7 +9,7 @@ ghost use Prim.Native.Nat.{_+_, _/_, _≤_};
 ghost use lib.ListN.{length, set};
 ghost use Rattle.limits.specs.Limits.{stateLength};
 ghost use Rattle.text_hex.specs.Lines.{linesOf};
-ghost use Rattle.machine.specs.Given.{inputsOf};
+ghost use Rattle.machine.specs.Inputs.{inputsOf};
 ghost use Rattle.bias.specs.Step.{stepped};
 ghost use Rattle.manual.specs.Run.{recordLength, levelsAt, repeated, withByte, recorded, after, afterExample, spaceOf, behind, example};
 

@@ -16,7 +16,8 @@ use Rattle.walk.specs.declared.Verdict.{Verdict}
 use Rattle.state.specs.State.{startAxis, freshValues, withVariable, taskAt}
 use Rattle.state.specs.declared.Task.{Task}
 use Rattle.state.specs.declared.State.{State}
-use Rattle.machine.specs.Given.{Given, Inputs}
+use Rattle.machine.specs.Inputs.{Inputs}
+use Rattle.machine.specs.declared.Context.{Context}
 use Rattle.machine.specs.Effect.{effectOf, variable}
 use Rattle.machine.specs.Engine.{step}
 use Rattle.machine.specs.declared.StepOut.{StepOut}
@@ -107,13 +108,13 @@ numberReply (Value v next) = value v
 numberReply EndsEarly = noNumber (resultNumber (outcome.EndsEarly 0))
 numberReply NotShortest = noNumber (resultNumber (outcome.NotShortest 0))
 
--- what a command of BIAS is given where all inputs are low and no wait is pending
-abbrev pub low : Given
-low = record { model = 2; levels = []; start = 0; reached = 0; time = 0; turns = 0 }
+-- what a command of BIAS may read on a 637 where all inputs are low and no wait is pending
+abbrev pub low : Context
+low = record { drive = record { model = 2; b = 0; c = 0 }; start = 0; reached = 0; time = 0; turns = 0 }
 
 -- variable 0 after a command, where variables 1 and 2 hold these
 abbrev pub resultOf : Command → ℤ → ℤ → ℤ
-resultOf c a b = variable (effectOf low c (withVariable 1 a (withVariable 2 b freshValues)) .values) 0
+resultOf c a b = variable (effectOf [] low c (withVariable 1 a (withVariable 2 b freshValues)) .values) 0
 
 abbrev pub biasStep : ℕ → Inputs
 biasStep start = record { task = 0; levels = replicate 256 0; start = start; reached = 0 }

@@ -22,7 +22,7 @@ use Rattle.walk.proofs.Points.Order.{block-first, then-task, then-depth}
 use Rattle.state.specs.State.{runs, taskAt}
 use Rattle.state_layout.specs.Layout.{decoded, encoded}
 use Rattle.state_layout.specs.IsState.{isState}
-use Rattle.machine.specs.Given.{Inputs}
+use Rattle.machine.specs.Inputs.{Inputs}
 use Rattle.machine.specs.Engine.{step, blockFits}
 use Rattle.machine.specs.Numbers.{causeNumber, answerNumber}
 use Rattle.machine.specs.Reference.{referenceLoaded, idle}

@@ -34,7 +34,7 @@ use Rattle.walk.specs.declared.Verdict.{Verdict}
 use Rattle.walk.specs.declared.Verdict.the-variants as verdict
 use Rattle.state.specs.State.{taskAt}
 use Rattle.state_layout.specs.Layout.{decoded}
-use Rattle.machine.specs.Given.{Inputs}
+use Rattle.machine.specs.Inputs.{Inputs}
 use Rattle.machine.specs.Engine.{pointOf, fits, termsHeld}
 use Rattle.machine.specs.Numbers.{causeNumber}
 use Rattle.machine.specs.declared.Cause.{Cause}

@@ -23,9 +23,9 @@ use Rattle.state.specs.declared.State.{State}
 use Rattle.state_layout.specs.Layout.{decoded, encoded}
 use Rattle.state_layout.specs.IsState.{isState}
 use Rattle.state_layout.proofs.RoundTrip.{state-good, encode-decode, good-state}
-use Rattle.machine.specs.Given.{Inputs}
+use Rattle.machine.specs.Inputs.{Inputs}
 use Rattle.machine.specs.Effect.{effectOf, isSet}
-use Rattle.machine.specs.Engine.{given, isWait, isLoaded, blockFits, waitFits, fits, pointOf, answerTo, noted, stopped, tasksAfter, performed, carriedOut, taskStep, step, termsHeld}
+use Rattle.machine.specs.Engine.{contextOf, isWait, isLoaded, blockFits, waitFits, fits, pointOf, answerTo, noted, stopped, tasksAfter, performed, carriedOut, taskStep, step, termsHeld}
 use Rattle.machine.specs.Engine as engine
 use Rattle.machine.specs.StepRule.{commandOf, Reason}
 use Rattle.machine.specs.declared.Cause.{Cause}
@@ -120,7 +120,7 @@ module _ (image b : List ℕ) (x : Inputs) where
 
     module _ (r : Ready image b x) where
       abbrev e : Effect
-      e = effectOf (given s k x) (commandOf image s x) (s .values)
+      e = effectOf (x .levels) (contextOf s k x) (commandOf image s x) (s .values)
 
       performs : stepped image b x ≡ handed (performed s x k e)
       unfolding taskStep
@@ -134,7 +134,7 @@ module _ (image b : List ℕ) (x : Inputs) where
       task-good : GoodState s
       task-good = good (r .runs .held .state)
 
-      rule : Law (commandOf image s x .code) (commandOf image s x) (given s k x) (s .values) e
+      rule : Law (commandOf image s x .code) (commandOf image s x) (contextOf s k x) (s .values) e
       rule = law image bytes s task-good x (r .runs .held .asked .task) (r .runs .running) (r .fits)
 
       reason-of : (q : Cause) → e .outcome ≡ outcome.Halt q → ReasonHere image b x q
@@ -180,7 +180,7 @@ module _ (image b : List ℕ) (x : Inputs) where
     gives _ _ (Way.notRunning h n) = put-back h NotRunning (rw (ne-eqb (k .status) runs n))
     gives _ _ (Way.differs h f) = put-back (h .held) (Differs (pointOf (x .task) k)) (rw (eq-eqb (k .status) runs (h .running), f))
     gives _ _ (Way.done r n) = going r n
-    gives _ _ (Way.halts r q h) = halting r q (halts-for (given s k x) (commandOf image s x) (s .values) h)
+    gives _ _ (Way.halts r q h) = halting r q (halts-for (x .levels) (contextOf s k x) (commandOf image s x) (s .values) h)
 
     -- ---- a step goes some way
 
@@ -194,7 +194,7 @@ module _ (image b : List ℕ) (x : Inputs) where
     executed-way : Ready image b x → Some
     executed-way r =
         ⊎-elim (λ h. goes (Way.halts r (h .0) (reason-of r (h .0) (h .1))))
-        (λ h. goes (Way.done r (λ q w. clash (ap isHalt (sym (halts-for (given s k x) (commandOf image s x) (s .values) w)) ∙ h .1))))
+        (λ h. goes (Way.done r (λ q w. clash (ap isHalt (sym (halts-for (x .levels) (contextOf s k x) (commandOf image s x) (s .values) w)) ∙ h .1))))
         (halt-or-done (e r .outcome) (pointOf (x .task) k))
 
     running-way : Running b x → (t : Bool) → fits image (termsHeld s) (x .task) k ≡ t → Some

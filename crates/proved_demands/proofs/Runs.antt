@@ -21,8 +21,8 @@ use Rattle.state.specs.declared.State.{State}
 use Rattle.state_layout.specs.Layout.{decoded, encoded}
 use Rattle.state_layout.specs.IsState.{isState}
 use Rattle.state_layout.proofs.RoundTrip.{decode-encode, good-state}
-use Rattle.machine.specs.Given.{Inputs, level}
-use Rattle.machine.specs.Engine.{given, fits, pointOf, answerTo, performed, taskStep, step, termsHeld}
+use Rattle.machine.specs.Inputs.{Inputs, level}
+use Rattle.machine.specs.Engine.{contextOf, fits, pointOf, answerTo, performed, taskStep, step, termsHeld}
 use Rattle.machine.specs.Effect.{effectOf}
 use Rattle.machine.specs.Reference.{Thread, Machine, ReferenceOut, idle, referenceLoaded, replies, does, lost, tries, acts, referenceStep}
 use Rattle.machine.specs.Alike.{Alike}
@@ -92,7 +92,7 @@ refused-stays image s x =
     Stays o = refused (o .answer) ≡ true → o .state ≡ s
 
     effect : Effect
-    effect = effectOf (given s (taskAt s (x .task)) x) (commandAt (blocksOf image) (taskAt s (x .task) .block)) (s .values)
+    effect = effectOf (x .levels) (contextOf s (taskAt s (x .task)) x) (commandAt (blocksOf image) (taskAt s (x .task) .block)) (s .values)
 
 -- the reference machine never says that the image differs
 reply-same : (o : Outcome) (t : ℕ) (k : Thread) → differs (replies o t k) ≡ false
@@ -127,10 +127,9 @@ turn-same image m x =
 
     effect : Effect
     effect =
-        effectOf
+        effectOf (x .levels)
         (record {
-          model = headerOf image .header .drive .model;
-          levels = x .levels;
+          drive = headerOf image .header .drive;
           start = level (x .start);
           reached = level (x .reached);
           time = k .time;

@@ -13,7 +13,7 @@ use Rattle.state.specs.declared.Task.{Task}
 use Rattle.state.specs.declared.State.{State}
 use Rattle.state_layout.specs.Layout.{decoded, encoded}
 use Rattle.state_layout.specs.IsState.{isState}
-use Rattle.machine.specs.Given.{Inputs}
+use Rattle.machine.specs.Inputs.{Inputs}
 use Rattle.image_header.specs.Scan.{blocksOf}
 use Rattle.machine.specs.Engine.{pointOf, noted, fits, carriedOut, termsHeld}
 use Rattle.machine.specs.StepRule.{commandOf, Reason}

@@ -2,7 +2,7 @@
 -- that stand in the promises of `bias_load` and `bias_step`.
 use Prim.Native.Nat.{ℕ}
 use mathlib.Core.List.{List, [], _∷_}
-use Rattle.machine.specs.Given.{Inputs}
+use Rattle.machine.specs.Inputs.{Inputs}
 use Rattle.machine.specs.Reference.{Machine, referenceStep}
 use Rattle.bias_results.specs.Results.{answerFor}
 use Rattle.bias_results.specs.declared.BiasAnswer.{BiasAnswer}

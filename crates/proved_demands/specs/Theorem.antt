@@ -18,7 +18,7 @@ use Rattle.walk.specs.declared.Verdict.the-variants.{MarksShort}
 use Rattle.state.specs.State.{runs, taskAt}
 use Rattle.state_layout.specs.Layout.{decoded, encoded}
 use Rattle.state_layout.specs.IsState.{isState}
-use Rattle.machine.specs.Given.{Inputs}
+use Rattle.machine.specs.Inputs.{Inputs}
 use Rattle.machine.specs.Engine.{step}
 use Rattle.machine.specs.Reference.{referenceLoaded}
 use Rattle.machine.specs.Alike.{Alike}

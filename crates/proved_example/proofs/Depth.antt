@@ -17,7 +17,7 @@ use Rattle.state.proofs.Fresh.{getD-replicate, values-good, fresh-good}
 use Rattle.state_layout.specs.Layout.{decoded, encoded}
 use Rattle.state_layout.specs.IsState.{isState}
 use Rattle.state_layout.proofs.RoundTrip.{state-good, decode-encode, good-state}
-use Rattle.machine.specs.Given.{Inputs}
+use Rattle.machine.specs.Inputs.{Inputs}
 use Rattle.bias_results.specs.Results.{noStateAnswer}
 use Rattle.bias.specs.Load.{load}
 use Rattle.bias.specs.Step.{refuseStep, stepped}

@@ -2,7 +2,7 @@
 use borrow.Author.Needs.{needs}
 use Rattle.bias.proofs.ByTest.{no-task, bad-inputs, of-buffer, no-state, wrong-length, step-refused}
 use Rattle.bias.specs.Step.{Stepped}
-use Rattle.machine.specs.Given.{inputsOf}
+use Rattle.machine.specs.Inputs.{inputsOf}
 use denote.Ref.{now}
 use mathlib.Core.Path.{sym, ap, _∙_}
 use Rattle.bias.proofs.bias_step.Statement.{statement}

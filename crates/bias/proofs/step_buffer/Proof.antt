@@ -3,7 +3,7 @@ use borrow.Author.Needs.{needs}
 use Rattle.bias.proofs.ByTest.{no-state, of-state, step-refused, frame-of, read-of, state-of, frame-not, judged-no-state, judged-state}
 use Rattle.bias.specs.Step.{Stepped, handed}
 use Rattle.machine.specs.Engine.{step}
-use Rattle.machine.specs.Given.{inputsOf}
+use Rattle.machine.specs.Inputs.{inputsOf}
 use Rattle.state_layout.proofs.RoundTrip.{state-good}
 use Rattle.state.specs.declared.State.{State}
 use Rattle.state.specs.GoodState.{GoodState}

@@ -5,7 +5,7 @@ use lib.ListN.{getD, take, drop}
 use mathlib.Core.Path.{_≡_, _∙_}
 use native.Mathlib.Omega.{arith}
 use Prim.Native.Nat.{_+_, _-_}
-use Rattle.machine.specs.Given.{inputsOf}
+use Rattle.machine.specs.Inputs.{inputsOf}
 use Rattle.bias.specs.Step.{stepped}
 use Rattle.bias_run.specs.Steps.{headLength, lengthAt, stepAt}
 use Rattle.bias_run.proofs.step_at.Statement.{statement}

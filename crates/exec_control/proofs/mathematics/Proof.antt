@@ -1,6 +1,5 @@
 -- `mathematics` meets its contract: each arm of the match is the row of its code.
 use denote.Ref.{now}
-use Rattle.machine.specs.Given.{givenAt}
 use Rattle.machine.specs.Effect.{mathematicsRows, effectIn}
 use Rattle.exec_effect.proofs.Found.{found, missed}
 use Rattle.exec_control.proofs.mathematics.Statement.{statement}
@@ -13,5 +12,5 @@ mathematics-spec =
     (tie.spec
     (λ c κs. tt)
     (λ c κs. tt)
-    (λ c. let a = c .before .before .before .args in found mathematicsRows (givenAt (a .m) (now (a .inputs))) (a .c) (a .v) (c .before .match .keys1) (c .start-mathematics .ensures))
-    (λ c. let a = c .before .before .before .args in missed mathematicsRows (givenAt (a .m) (now (a .inputs))) (a .c) (a .v) (a .c .code) (c .before .match .rest) (c .flows .ensures)))
+    (λ c. let a = c .before .before .args in found mathematicsRows (a .context) (a .c) (a .v) (c .before .match .keys1) (c .start-mathematics .ensures))
+    (λ c. let a = c .before .before .args in missed mathematicsRows (a .context) (a .c) (a .v) (a .c .code) (c .before .match .rest) (c .flows .ensures)))

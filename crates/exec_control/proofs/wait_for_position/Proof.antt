@@ -14,8 +14,8 @@ wait-for-position-spec =
     (λ c κs. tt)
     (λ c.
     let a = c .before .before .before .args in
-    c .flows .ensures ∙ ap (λ (t : Bool). flows (a .v) (cond (not t) GoOn (Stay 0 0))) (sym (eq-eqb (a .m .reached) 0 (c .before .if1 .taken))))
+    c .flows .ensures ∙ ap (λ (t : Bool). flows (a .v) (cond (not t) GoOn (Stay 0 0))) (sym (eq-eqb (a .context .reached) 0 (c .before .if1 .taken))))
     (λ c κs. tt)
     (λ c.
     let a = c .before .before .before .args in
-    c .flows2 .ensures ∙ ap (λ (t : Bool). flows (a .v) (cond (not t) GoOn (Stay 0 0))) (sym (ne-eqb (a .m .reached) 0 (c .before .if1 .left)))))
+    c .flows2 .ensures ∙ ap (λ (t : Bool). flows (a .v) (cond (not t) GoOn (Stay 0 0))) (sym (ne-eqb (a .context .reached) 0 (c .before .if1 .left)))))

@@ -2,7 +2,6 @@
 use mathlib.Core.Path.{_∙_}
 use mathlib.Core.List.{[]}
 use native.Mathlib.Omega.{arith}
-use Rattle.machine.specs.Given.{givenAt}
 use Rattle.exec_control.proofs.TimedWaits.{waits-first, waits-later}
 use Rattle.exec_control.proofs.waits.Statement.{statement}
 use Rattle.exec_control.proofs.waits.Tie as tie
@@ -14,9 +13,9 @@ waits-spec =
     (λ c κs. tt)
     (λ c.
     let a = c .before .before .before .args in
-    c .wait-or-pass .ensures ∙ waits-first (a .time) (givenAt (a .m) []) (c .before .if1 .taken))
+    c .wait-or-pass .ensures ∙ waits-first (a .time) (a .context) (c .before .if1 .taken))
     (λ c. let h = c .before .before .before .pre in omega arith)
     (λ c κs. tt)
     (λ c.
     let a = c .before .before .before .before .args in
-    c .wait-or-pass2 .ensures ∙ waits-later (a .time) (givenAt (a .m) []) (c .before .before .if1 .left)))
+    c .wait-or-pass2 .ensures ∙ waits-later (a .time) (a .context) (c .before .before .if1 .left)))

@@ -3,7 +3,7 @@ use mathlib.Core.Path.{ap, sym}
 use lib.ListN.{List·getD-eq-default}
 use borrow.Author.Needs.{needs}
 use denote.Ref.{now}
-use Rattle.machine.specs.Given.{level}
+use Rattle.machine.specs.Inputs.{level}
 use Rattle.exec_levels.proofs.input.Statement.{statement}
 use Rattle.exec_levels.proofs.input.Tie as tie
 

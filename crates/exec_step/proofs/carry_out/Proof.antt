@@ -1,7 +1,7 @@
 -- `carry_out` meets its contract.
 use mathlib.Core.Path.{sym, ap, subst, _∙_}
 use denote.Ref.{now}
-use Rattle.machine.specs.Given.{inputsOf}
+use Rattle.machine.specs.Inputs.{inputsOf}
 use Rattle.machine.specs.DepthAllows.{DepthAllows}
 use Rattle.machine.specs.Engine.{performed, termsHeld}
 use Rattle.machine.specs.declared.Effect.{Effect}
@@ -24,7 +24,7 @@ carry-out-spec =
     let a = st .args in
     let x = inputsOf (a .t) (now (a .inputs)) (a .start) (a .reached) in
     let f = same-effect (a .s) x (a .k) _ _ _ _ (c .before .before .level .ensures) (c .before .level2 .ensures) (c .before .before .before .before .before .before .command-here .ensures) in
-    (st .pre .0, subst (λ (e : Effect). DepthAllows (a .k .depth) (e .outcome)) (sym (c .perform .ensures ∙ f)) (deep (now (a .blocks)) (termsHeld (a .s)) (a .t) (a .k) (st .pre .1 .1 .1) (st .pre .1 .0) _ _)))
+    (st .pre .0, subst (λ (e : Effect). DepthAllows (a .k .depth) (e .outcome)) (sym (c .perform .ensures ∙ f)) (deep (now (a .blocks)) (termsHeld (a .s)) (a .t) (a .k) (st .pre .1 .1 .1) (st .pre .1 .0) _ _ _)))
     (λ c.
     let a = c .before .before .before .before .before .before .before .before .before .before .args in
     let x = inputsOf (a .t) (now (a .inputs)) (a .start) (a .reached) in

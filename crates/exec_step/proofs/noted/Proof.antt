@@ -4,7 +4,7 @@ use Prim.Native.Nat.{ℕ}
 use mathlib.Core.Bool.{Bool, cond}
 use borrow.Author.Tests.{eq-eqb, ne-eqb}
 use Rattle.state.specs.State.{withNotes}
-use Rattle.machine.specs.Given.{level}
+use Rattle.machine.specs.Inputs.{level}
 use Rattle.exec_step.proofs.noted.Statement.{statement}
 use Rattle.exec_step.proofs.noted.Tie as tie
 

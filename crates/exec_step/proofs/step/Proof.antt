@@ -2,7 +2,7 @@
 use mathlib.Core.Path.{_∙_}
 use borrow.Author.Needs.{needs}
 use denote.Ref.{now}
-use Rattle.machine.specs.Given.{inputsOf}
+use Rattle.machine.specs.Inputs.{inputsOf}
 use Rattle.exec_step.proofs.StepCases.{no-task, bad-inputs, of-task}
 use Rattle.exec_step.proofs.step.Statement.{statement}
 use Rattle.exec_step.proofs.step.Tie as tie

@@ -7,7 +7,7 @@ use borrow.Author.Tests.{not-true, not-false}
 use denote.Ref.{now}
 use Rattle.walk_point.specs.declared.Point.{Point}
 use Rattle.state.specs.State.{taskAt}
-use Rattle.machine.specs.Given.{inputsOf}
+use Rattle.machine.specs.Inputs.{inputsOf}
 use Rattle.machine.specs.Engine.{refuse, carriedOut}
 use Rattle.machine.specs.declared.Answer.the-variants.{Differs}
 use Rattle.exec_step.proofs.StepCases.{ready, not-running, differs, carried, fits-of, block-passes}

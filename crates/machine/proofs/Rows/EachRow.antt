@@ -11,38 +11,39 @@ use Rattle.command_table.specs.Rows.{rows, rowIn, rowOf, noRow}
 use Rattle.command_table.specs.declared.Row.{Row as Columns}
 use Rattle.command_table.proofs.EveryRow.{every, every-row}
 use Rattle.command_operands.specs.declared.Command.{Command}
-use Rattle.machine.specs.Effect.{CommandEffect, EffectRow, effectIn}
-use Rattle.machine.specs.Effect.{effectRows as deeds}
+use Rattle.machine.specs.Effect.{CommandEffect, EffectRow, effectIn, effectRows}
 use Rattle.machine.proofs.Every.{All}
 
 abbrev has : List EffectRow → ℕ → Bool
 has [] code = false
 has (r ∷ rs) code = eqb code (r .code) || has rs code
 
--- what is to be shown of a deed, for commands of its code
+-- what is to be shown of an effect, for commands of its code
 abbrev pub Of : (Command → CommandEffect → Type 0) → EffectRow → Type 0
-Of P r = (c : Command) → c .code ≡ r .code → P c (r .deed)
+Of P r = (c : Command) → c .code ≡ r .code → P c (r .effect)
 
-deed-in : (P : Command → CommandEffect → Type 0) (rs : List EffectRow) → All (Of P) rs → (c : Command) → has rs (c .code) ≡ true → P c (effectIn rs (c .code))
+effect-in : (P : Command → CommandEffect → Type 0) (rs : List EffectRow) → All (Of P) rs → (c : Command) → has rs (c .code) ≡ true → P c (effectIn rs (c .code))
 unfolding effectIn
-deed-in P [] All.end c e = clash (sym e)
-deed-in P (r ∷ rs) (All._&_ first rest) c e = go (eqb (c .code) (r .code)) refl e (deed-in P rs rest c)
+effect-in P [] All.end c e = clash (sym e)
+effect-in P (r ∷ rs) (All._&_ first rest) c e = go (eqb (c .code) (r .code)) refl e (effect-in P rs rest c)
   where
     go : (t : Bool) → eqb (c .code) (r .code) ≡ t → (t || has rs (c .code)) ≡ true → (has rs (c .code) ≡ true → P c (effectIn rs (c .code)))
-        → P c (cond t (r .deed) (effectIn rs (c .code)))
+        → P c (cond t (r .effect) (effectIn rs (c .code)))
     go true i k later = first c (eqb-true (c .code) (r .code) i)
     go false i k later = later k
 
 -- each code that is carried has a row of effects
-carried : ℕ → Columns → Bool
-carried code r = has deeds code
+module _ (inputs : List ℕ) where
+  carried : ℕ → Columns → Bool
+  carried code r = has (effectRows inputs) code
 
-all-carried : T (every carried rows)
-unfolding carried rows
-all-carried = tt
+  all-carried : T (every carried rows)
+  unfolding carried rows
+  all-carried = tt
 
-pub effect-of : (P : Command → CommandEffect → Type 0) → All (Of P) deeds → (c : Command) → rowOf (c .code) .carried ≡ true → P c (effectIn deeds (c .code))
-unfolding rowOf carried
-effect-of P all c n =
-    ⊎-elim (λ (e : rowIn rows (c .code) ≡ noRow). clash (sym n ∙ ap (λ (r : Columns). r .carried) e)) (λ h. deed-in P deeds all c h)
-    (every-row carried rows all-carried (c .code))
+  pub effect-of : (P : Command → CommandEffect → Type 0) → All (Of P) (effectRows inputs) → (c : Command) → rowOf (c .code) .carried ≡ true
+      → P c (effectIn (effectRows inputs) (c .code))
+  unfolding rowOf carried
+  effect-of P all c n =
+      ⊎-elim (λ (e : rowIn rows (c .code) ≡ noRow). clash (sym n ∙ ap (λ (r : Columns). r .carried) e)) (λ h. effect-in P (effectRows inputs) all c h)
+      (every-row carried rows all-carried (c .code))

@@ -3,6 +3,7 @@ use Prim.Native.Nat.{ℕ, _+_, _-_, _*_, _≤_}
 use mathlib.Core.Path.{_≡_, refl, sym, ap, subst, _∙_}
 use mathlib.Core.Bool.{true, _&&_, _||_, not, cond}
 use native.Mathlib.Omega.{arith}
+use mathlib.Core.List.{List}
 use lib.Dec.{eqb, leb}
 use lib.ListN.{getD}
 use lib.IntN.{ℤ, pos, negsuc, _+ℤ_, _-ℤ_, _*ℤ_}
@@ -19,9 +20,10 @@ use Rattle.command_judge.specs.BlockFault.{inRange}
 use Rattle.state.specs.State.{withFlag, withOutput, firstAxis, axisOf, withMark, withPosition, withSpeed, withAcceleration, withDeceleration}
 use Rattle.state.proofs.Setters.{flag-good, output-good, good-axis, mark-good, position-good, speed-good, acceleration-good, deceleration-good}
 use Rattle.state.specs.declared.Values.{Values}
-use Rattle.machine.specs.Given.{Given, inputAt}
+use Rattle.machine.specs.Inputs.{inputAt}
+use Rattle.machine.specs.declared.Context.{Context}
 use Rattle.machine.specs.Effect.{CommandEffect, effectRow, effectOf, compares, flag, output, bit, isSet, variable, within, natural, waits, timeOf, flagNumber}
-use Rattle.machine.specs.Effect.{effectRows as deeds}
+use Rattle.machine.specs.Effect.{effectRows}
 use Rattle.machine.specs.StepRule.{Reason}
 use Rattle.machine.specs.Allows.{Allows}
 use Rattle.machine.specs.declared.Request.the-variants.{MoveTo, MoveBy, Forward, Backward}
@@ -33,11 +35,11 @@ use Rattle.machine.proofs.Rows.Waits.{rounded}
 use Rattle.machine.proofs.Rows.Forms.{Ranged, Lawful, Law, simply, either, flows-law, effect-law, sets-law, axis-law, assigns-law, jump-law, moves-law}
 use Rattle.machine.proofs.Rows.Forms.{stays-law, waits-lawful, parameter-law, divides-law, waits-variable-law}
 
--- what is shown of a deed, at a command of its code
+-- what is shown of an effect, at a command of its code
 abbrev pub Always : Command → CommandEffect → Type 0
-Always c d = (g : Given) (v : Values) → Law (c .code) c g v (d g c v)
+Always c d = (g : Context) (v : Values) → Law (c .code) c g v (d g c v)
 
-at : (k : ℕ) (d : CommandEffect) → ((c : Command) → c .code ≡ k → (g : Given) (v : Values) → Law k c g v (d g c v)) → Of Always (effectRow k d)
+at : (k : ℕ) (d : CommandEffect) → ((c : Command) → c .code ≡ k → (g : Context) (v : Values) → Law k c g v (d g c v)) → Of Always (effectRow k d)
 at k d h c e g v = subst (λ (n : ℕ). Law n c g v (d g c v)) (sym e) (h c e g v)
 
 -- the ranges of a command whose code is known
@@ -47,7 +49,7 @@ ranges-at k count c e f = subst (λ (n : ℕ). inRange (rowOf n .ranges) count c
 -- ---- what single rows need
 
 -- 51
-ends : (c : Command) (g : Given) (v : Values) → Lawful 0x51 c g v (cond (eqb (c .x) 0) Restart End)
+ends : (c : Command) (g : Context) (v : Values) → Lawful 0x51 c g v (cond (eqb (c .x) 0) Restart End)
 unfolding rowOf rowIn rows
 ends c g v =
     either 0x51 c g v (eqb (c .x) 0) Restart End (λ e. simply 0x51 c g v Restart refl (rw e Allows.restart)) (λ e. simply 0x51 c g v End refl (rw e Allows.end))
@@ -66,9 +68,9 @@ not-zero z e i = clash (sym e ∙ ap (λ (n : ℤ). not (eqZ n (pos 0))) i)
 
 -- ---- the rows
 
-rows-keep : All (Of Always) deeds
+rows-keep : (inputs : List ℕ) → All (Of Always) (effectRows inputs)
 unfolding rowOf rowIn rows
-rows-keep =
+rows-keep inputs =
     at 0x00 _ (λ c e g v. moves-law 0x00 c g v MoveTo Allows.over Allows.stay) &
     at 0x01 _ (λ c e g v. moves-law 0x01 c g v MoveBy Allows.over Allows.stay) &
     at 0x03 _ (λ c e g v. moves-law 0x03 c g v Forward Allows.over Allows.stay) &
@@ -104,12 +106,12 @@ rows-keep =
     at 0x57 _ (λ c e g v. flows-law 0x57 c g v (Start bias (c .word)) (simply 0x57 c g v (Start bias (c .word)) refl Allows.start)) &
     at 0x58 _ (λ c e g v. stays-law 0x58 c g v (isSet (g .reached)) Allows.over Allows.stay) &
     at 0x59 _ (λ c e g v. flows-law 0x59 c g v (waits (2 * c .word) g) (waits-lawful 0x59 c g v (2 * c .word) refl Allows.over (λ _ _. Allows.stay) (λ _ _ f. twice (c .word) (f .word)))) &
-    at 0x5A _ (λ c e g v. waits-variable-law 0x5A c g v refl Allows.over (λ _ _. Allows.stay) Allows.refuse (Reason.waiting e) (λ _. short (g .model) (variable v (c .x)))) &
+    at 0x5A _ (λ c e g v. waits-variable-law 0x5A c g v refl Allows.over (λ _ _. Allows.stay) Allows.refuse (Reason.waiting e) (λ _. short (g .drive .model) (variable v (c .x)))) &
     at 0x60 _ (λ c e g v. sets-law 0x60 c g v (withFlag (c .x) (c .y) v) Allows.on (λ n f d. flag-good v d (c .x) (c .y) (leb-true (c .y) mostLevel (ranges-at 0x60 n c e (f .ranges))))) &
     at 0x61 _ (λ c e g v. jump-law 0x61 c g v (compares (c .y) (flag v (c .x)) (c .z)) (c .word) Allows.branch Allows.pass) &
     at 0x62 _ (λ c e g v. sets-law 0x62 c g v (withFlag (c .x) (flag v (c .y)) v) Allows.on
     (λ _ _ d. flag-good v d (c .x) (flag v (c .y)) (d .cells .flag (c .y)))) &
-    at 0x63 _ (λ c e g v. sets-law 0x63 c g v (withFlag (c .x) (inputAt g (c .y)) v) Allows.on (λ _ _ d. flag-good v d (c .x) (inputAt g (c .y)) (level-level (getD (g .levels) (c .y) 0)))) &
+    at 0x63 _ (λ c e g v. sets-law 0x63 c g v (withFlag (c .x) (inputAt inputs (c .y)) v) Allows.on (λ _ _ d. flag-good v d (c .x) (inputAt inputs (c .y)) (level-level (getD inputs (c .y) 0)))) &
     at 0x64 _ (λ c e g v. sets-law 0x64 c g v (withFlag (c .x) (output v (c .y)) v) Allows.on
     (λ _ _ d. flag-good v d (c .x) (output v (c .y)) (d .cells .output (c .y)))) &
     at 0x65 _ (λ c e g v. sets-law 0x65 c g v (withFlag (c .x) (bit (isSet (flag v (c .y)) && isSet (flag v (c .z)))) v) Allows.on (λ _ _ d. flag-good v d (c .x) (bit (isSet (flag v (c .y)) && isSet (flag v (c .z)))) (bit-level (isSet (flag v (c .y)) && isSet (flag v (c .z)))))) &
@@ -117,7 +119,7 @@ rows-keep =
     at 0x67 _ (λ c e g v. sets-law 0x67 c g v (withFlag (c .x) (bit (not (eqb (flag v (c .y)) (flag v (c .z))))) v) Allows.on (λ _ _ d. flag-good v d (c .x) (bit (not (eqb (flag v (c .y)) (flag v (c .z))))) (bit-level (not (eqb (flag v (c .y)) (flag v (c .z))))))) &
     at 0x68 _ (λ c e g v. sets-law 0x68 c g v (withFlag (c .x) (bit (not (isSet (flag v (c .y))))) v) Allows.on (λ _ _ d. flag-good v d (c .x) (bit (not (isSet (flag v (c .y))))) (bit-level (not (isSet (flag v (c .y))))))) &
     at 0x6E _ (λ c e g v. jump-law 0x6E c g v (compares (c .z) (bit (bitAt w32 (c .y) (variable v (c .x)))) 0) (c .word) Allows.branch Allows.pass) &
-    at 0x70 _ (λ c e g v. jump-law 0x70 c g v (compares (c .y) (inputAt g (c .x)) (c .z)) (c .word) Allows.branch Allows.pass) &
+    at 0x70 _ (λ c e g v. jump-law 0x70 c g v (compares (c .y) (inputAt inputs (c .x)) (c .z)) (c .word) Allows.branch Allows.pass) &
     at 0x71 _ (λ c e g v. jump-law 0x71 c g v (compares (c .y) (output v (c .x)) (c .z)) (c .word) Allows.branch Allows.pass) &
     at 0x72 _ (λ c e g v. sets-law 0x72 c g v (withOutput (c .x) (c .y) v) Allows.on (λ n f d. output-good v d (c .x) (c .y) (leb-true (c .y) mostLevel (ranges-at 0x72 n c e (f .ranges))))) &
     at 0x73 _ (λ c e g v. sets-law 0x73 c g v (withOutput (c .x) (flag v (c .y)) v) Allows.on
@@ -140,6 +142,6 @@ rows-keep =
     end
 
 -- the law of every command that is carried
-pub every-law : (g : Given) (c : Command) (v : Values) → rowOf (c .code) .carried ≡ true → Law (c .code) c g v (effectOf g c v)
+pub every-law : (inputs : List ℕ) (g : Context) (c : Command) (v : Values) → rowOf (c .code) .carried ≡ true → Law (c .code) c g v (effectOf inputs g c v)
 unfolding effectOf
-every-law g c v n = effect-of Always rows-keep c n g v
+every-law inputs g c v n = effect-of inputs Always (rows-keep inputs) c n g v

@@ -26,7 +26,7 @@ use Rattle.state.specs.Wait.{due}
 use Rattle.state.specs.GoodState.{GoodWait, GoodAxis, GoodValues, InRange}
 use Rattle.state.specs.declared.Axis.{Axis}
 use Rattle.state.specs.declared.Values.{Values}
-use Rattle.machine.specs.Given.{Given}
+use Rattle.machine.specs.declared.Context.{Context}
 use Rattle.machine.specs.Effect.{effect, sets, flows, jumpIf, halts, assigns, isSet, within, natural, variable, started, moves, waits, waitsVariable, parameter, divides, timeOf}
 use Rattle.machine.specs.Engine.{isWait}
 use Rattle.machine.specs.StepRule.{Reason}
@@ -102,14 +102,14 @@ pub record Fit (count : ℕ) (c : Command) : Type 0 where
   pub ranges : Ranged count c
 
 -- an outcome of the command c, whose code is k
-pub record Lawful (k : ℕ) (c : Command) (g : Given) (v : Values) (o : Outcome) : Type 0 where
+pub record Lawful (k : ℕ) (c : Command) (g : Context) (v : Values) (o : Outcome) : Type 0 where
   pub flow : Allows (flowBy (rowOf k .flow) (c .x) (c .word)) o
   pub calm : timeless k o ≡ true
-  pub wait : (count : ℕ) → Fit count c → GoodWait (g .model) (g .time) (g .turns) → Staying (g .model) o
+  pub wait : (count : ℕ) → Fit count c → GoodWait (g .drive .model) (g .time) (g .turns) → Staying (g .drive .model) o
   pub halt : (count : ℕ) → Ranged count c → Halting c v (g .time) o
 
 -- an effect
-pub record Law (k : ℕ) (c : Command) (g : Given) (v : Values) (e : Effect) : Type 0 where
+pub record Law (k : ℕ) (c : Command) (g : Context) (v : Values) (e : Effect) : Type 0 where
   pub outcome : Lawful k c g v (e .outcome)
   pub values : (count : ℕ) → Fit count c → GoodValues v → GoodValues (e .values)
   pub still : isHalt (e .outcome) ≡ true → (e .values ≡ v) × (e .request ≡ None)
@@ -132,7 +132,7 @@ is-zero : (z : ℤ) → eqZ z (pos 0) ≡ true → z ≡ pos 0
 is-zero (pos n) e = ap pos (eqb-true n 0 e)
 is-zero (negsuc n) e = clash (sym e)
 
-module _ (k : ℕ) (c : Command) (g : Given) (v : Values) where
+module _ (k : ℕ) (c : Command) (g : Context) (v : Values) where
   -- in the flow of the code
   abbrev In : Outcome → Type 0
   In o = Allows (flowBy (rowOf k .flow) (c .x) (c .word)) o
@@ -152,7 +152,7 @@ module _ (k : ℕ) (c : Command) (g : Given) (v : Values) where
   stays-on m = record { flow = m; calm = refl; wait = λ _ _ _. GoodWait.none; halt = λ _ _. tt }
 
   stays-for : (time turns : ℕ) → isWait k ≡ true → In (Stay time turns)
-      → ((count : ℕ) → Fit count c → GoodWait (g .model) (g .time) (g .turns) → GoodWait (g .model) time turns) → Lawful k c g v (Stay time turns)
+      → ((count : ℕ) → Fit count c → GoodWait (g .drive .model) (g .time) (g .turns) → GoodWait (g .drive .model) time turns) → Lawful k c g v (Stay time turns)
   stays-for time turns w m h = record {
     flow = m;
     calm = ap (λ (b : Bool). not (isSet time) || b) w ∙ or-true (not (isSet time));
@@ -213,11 +213,11 @@ module _ (k : ℕ) (c : Command) (g : Given) (v : Values) where
       → (eqb (g .time) 0 ≡ true → (count : ℕ) → Fit count c → time ≤ longestWait) → Lawful k c g v (waits time g)
   waits-lawful time w further again short =
       either (eqb (g .time) 0) _ _
-      (λ z. either (due (g .model) time 0) GoOn (Stay time 0) (λ _. simply GoOn refl further)
-      (λ e. stays-for time 0 w (again time 0) (λ count f h. begins (g .model) time (short z count f) e)))
-      (λ z. either (due (g .model) (g .time) (g .turns + 1)) GoOn (Stay (g .time) (g .turns + 1)) (λ _. simply GoOn refl further)
+      (λ z. either (due (g .drive .model) time 0) GoOn (Stay time 0) (λ _. simply GoOn refl further)
+      (λ e. stays-for time 0 w (again time 0) (λ count f h. begins (g .drive .model) time (short z count f) e)))
+      (λ z. either (due (g .drive .model) (g .time) (g .turns + 1)) GoOn (Stay (g .time) (g .turns + 1)) (λ _. simply GoOn refl further)
       (λ e. stays-for (g .time) (g .turns + 1) w (again (g .time) (g .turns + 1))
-      (λ count f h. goes-on (g .model) (g .time) (g .turns) h (eqb-false (g .time) 0 z) e)))
+      (λ count f h. goes-on (g .drive .model) (g .time) (g .turns) h (eqb-false (g .time) 0 z) e)))
 
   pub parameter-law : (most : ℕ) (put : ℕ → Axis → Axis) → In GoOn → In (Halt BadContent)
       → ((a : Axis) → GoodAxis a → (n : ℕ) → InRange most n → GoodAxis (put n a))
@@ -242,11 +242,11 @@ module _ (k : ℕ) (c : Command) (g : Given) (v : Values) where
 
   pub waits-variable-law : isWait k ≡ true → In GoOn → ((t n : ℕ) → In (Stay t n)) → In (Halt BadContent)
       → (g .time ≡ 0 → within 0 mostTime (variable v (c .x)) ≡ false → Reason c v (g .time) BadContent)
-      → (g .time ≡ 0 → within 0 mostTime (variable v (c .x)) ≡ true → timeOf (g .model) (natural (variable v (c .x))) ≤ longestWait)
+      → (g .time ≡ 0 → within 0 mostTime (variable v (c .x)) ≡ true → timeOf (g .drive .model) (natural (variable v (c .x))) ≤ longestWait)
       → Law k c g v (waitsVariable g c v)
   waits-variable-law w further again stops reason short =
       let z = variable v (c .x) in
-      let time = timeOf (g .model) (natural z) in
+      let time = timeOf (g .drive .model) (natural z) in
       either-effect (isSet (g .time) || within 0 mostTime z) (flows v (waits time g)) (halts BadContent v)
       (λ e. flows-law (waits time g) (waits-lawful time w further again (λ i count f. short (eqb-true (g .time) 0 i) (read i e))))
       (λ e. let n = neither (isSet (g .time)) (within 0 mostTime z) e in

@@ -3,11 +3,12 @@ use Prim.Native.Nat.{ℕ}
 use mathlib.Core.Path.{_≡_, subst}
 use mathlib.Core.Bool.{true}
 use mathlib.Core.Logic.{_↔_}
+use mathlib.Core.List.{List}
 use Rattle.command_table.specs.Rows.{rowOf}
 use Rattle.num_arith.specs.Ops.{quotient}
 use Rattle.command_operands.specs.declared.Command.{Command}
 use Rattle.state.specs.declared.Values.{Values}
-use Rattle.machine.specs.Given.{Given}
+use Rattle.machine.specs.declared.Context.{Context}
 use Rattle.machine.specs.Effect.{divides, effectIn, effectOf}
 use Rattle.machine.specs.StepRule.{Reason}
 use Rattle.machine.specs.declared.Cause.{Cause}
@@ -15,8 +16,8 @@ use Rattle.machine.specs.declared.Outcome.the-variants.{Halt}
 use Rattle.machine.proofs.Rows.Forms.{Halting, Ranged}
 use Rattle.machine.proofs.Rows.EveryLaw.{every-law}
 
-module _ (g : Given) (c : Command) (v : Values) where
-  pub halts-for : {q : Cause} → Reason c v (g .time) q → effectOf g c v .outcome ≡ Halt q
+module _ (inputs : List ℕ) (g : Context) (c : Command) (v : Values) where
+  pub halts-for : {q : Cause} → Reason c v (g .time) q → effectOf inputs g c v .outcome ≡ Halt q
   unfolding effectOf effectIn divides quotient
   halts-for (Reason.divisor e z) = rw (e, z)
   halts-for (Reason.speed e r) = rw (e, r)
@@ -26,6 +27,6 @@ module _ (g : Given) (c : Command) (v : Values) where
 
   -- of a command that is carried, with operands in range
   pub halts-exactly : rowOf (c .code) .carried ≡ true → (count : ℕ) → Ranged count c → (q : Cause)
-      → (effectOf g c v .outcome ≡ Halt q) ↔ Reason c v (g .time) q
+      → (effectOf inputs g c v .outcome ≡ Halt q) ↔ Reason c v (g .time) q
   halts-exactly carried count ranged q =
-      (λ e. subst (Halting c v (g .time)) e (every-law g c v carried .outcome .halt count ranged), λ r. halts-for r)
+      (λ e. subst (Halting c v (g .time)) e (every-law inputs g c v carried .outcome .halt count ranged), λ r. halts-for r)

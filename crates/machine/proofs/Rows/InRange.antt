@@ -11,7 +11,7 @@ use mir.Val.{SFits}
 use Rattle.limits.specs.Limits.{mostLevel, mostRamp, upTo}
 use Rattle.image_number.proofs.Choice.{clash, both}
 use Rattle.state.specs.GoodState.{InRange}
-use Rattle.machine.specs.Given.{level}
+use Rattle.machine.specs.Inputs.{level}
 use Rattle.machine.specs.Effect.{bit, natural, within}
 
 pub bit-level : (t : Bool) → bit t ≤ mostLevel

@@ -6,14 +6,14 @@ use lib.Dec.{eqb}
 use borrow.Author.Tests.{eqb-true, eqb-false, eq-eqb, ne-eqb}
 use Rattle.image_number.proofs.Choice.{clash}
 use Rattle.state.specs.declared.Values.{Values}
-use Rattle.machine.specs.Given.{Given}
+use Rattle.machine.specs.declared.Context.{Context}
 use Rattle.machine.specs.Effect.{started}
 
 -- the mark, or the start input and the level noted before
-abbrev pub Starts : Given → Values → Type 0
+abbrev pub Starts : Context → Values → Type 0
 Starts g v = (v .motion .mark ≡ 0 → ⊥) ⊎ ((g .start ≡ 0 → ⊥) × (v .notes .level ≡ 0))
 
-starts-for : (g : Given) (v : Values) → started g v ≡ true → Starts g v
+starts-for : (g : Context) (v : Values) → started g v ≡ true → Starts g v
 starts-for g v = to (eqb (v .motion .mark) 0) refl (eqb (g .start) 0) refl (eqb (v .notes .level) 0) refl
   where
     to : (a : Bool) → eqb (v .motion .mark) 0 ≡ a → (b : Bool) → eqb (g .start) 0 ≡ b → (c : Bool) → eqb (v .notes .level) 0 ≡ c
@@ -23,7 +23,7 @@ starts-for g v = to (eqb (v .motion .mark) 0) refl (eqb (g .start) 0) refl (eqb 
     to true i false j false k e = clash (sym e)
     to true i true j c k e = clash (sym e)
 
-pub started-exactly : (g : Given) (v : Values) → (started g v ≡ true) ↔ Starts g v
+pub started-exactly : (g : Context) (v : Values) → (started g v ≡ true) ↔ Starts g v
 started-exactly g v = (starts-for g v, from)
   where
     from : Starts g v → started g v ≡ true

@@ -12,7 +12,7 @@ use Rattle.image_number.proofs.Choice.{clash}
 use Rattle.state.specs.Wait.{due}
 use Rattle.state.specs.GoodState.{GoodWait}
 use Rattle.state.proofs.Wait.{due-exactly}
-use Rattle.machine.specs.Given.{Given}
+use Rattle.machine.specs.declared.Context.{Context}
 use Rattle.machine.specs.Effect.{waits, timeOf}
 use Rattle.machine.specs.declared.Outcome.{Outcome}
 use Rattle.machine.specs.declared.Outcome.the-variants.{GoOn, Stay, Jump, Call, Return, Start, Restart, End, Halt}
@@ -43,15 +43,15 @@ isOn Restart = false
 isOn End = false
 isOn (Halt q) = false
 
-pub passes-exactly : (time : ℕ) (g : Given) → (g .time ≡ 0 → ⊥)
-    → (waits time g ≡ GoOn) ↔ (1000 * g .time ≤ (g .turns + 1) * cycleOf (g .model))
+pub passes-exactly : (time : ℕ) (g : Context) → (g .time ≡ 0 → ⊥)
+    → (waits time g ≡ GoOn) ↔ (1000 * g .time ≤ (g .turns + 1) * cycleOf (g .drive .model))
 unfolding isOn
-passes-exactly time g n = rw (ne-eqb (g .time) 0 n) (go (due (g .model) (g .time) (g .turns + 1)) refl)
+passes-exactly time g n = rw (ne-eqb (g .time) 0 n) (go (due (g .drive .model) (g .time) (g .turns + 1)) refl)
   where
-    go : (t : Bool) → due (g .model) (g .time) (g .turns + 1) ≡ t
-        → (cond t GoOn (Stay (g .time) (g .turns + 1)) ≡ GoOn) ↔ (1000 * g .time ≤ (g .turns + 1) * cycleOf (g .model))
-    go true e = (λ _. due-exactly (g .model) (g .time) (g .turns + 1) .0 e, λ _. refl)
-    go false e = (λ i. clash (sym (ap isOn i)), λ l. clash (sym (due-exactly (g .model) (g .time) (g .turns + 1) .1 l) ∙ e))
+    go : (t : Bool) → due (g .drive .model) (g .time) (g .turns + 1) ≡ t
+        → (cond t GoOn (Stay (g .time) (g .turns + 1)) ≡ GoOn) ↔ (1000 * g .time ≤ (g .turns + 1) * cycleOf (g .drive .model))
+    go true e = (λ _. due-exactly (g .drive .model) (g .time) (g .turns + 1) .0 e, λ _. refl)
+    go false e = (λ i. clash (sym (ap isOn i)), λ l. clash (sym (due-exactly (g .drive .model) (g .time) (g .turns + 1) .1 l) ∙ e))
 
 -- ---- good waits
 

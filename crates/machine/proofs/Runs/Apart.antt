@@ -20,7 +20,7 @@ use Rattle.state.specs.State.{runs, ended, halted, taskAt}
 use Rattle.state.specs.declared.Task.{Task}
 use Rattle.state.specs.declared.Values.{Values}
 use Rattle.state.specs.declared.State.{State}
-use Rattle.machine.specs.Given.{Inputs}
+use Rattle.machine.specs.Inputs.{Inputs}
 use Rattle.machine.specs.Engine.{step, pointOf, noted, stopped, blockFits}
 use Rattle.machine.specs.Reference.{Thread, Machine, ReferenceOut, thread, idle}
 use Rattle.machine.specs.Alike.{returnsOf, SameTask, SameValues, Alike}

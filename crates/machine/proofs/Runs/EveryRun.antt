@@ -10,7 +10,7 @@ use Rattle.walk.specs.Walk.{Walk}
 use Rattle.state.specs.State.{runs, noTask, taskAt, fresh, freshValues, running, neverStarted}
 use Rattle.state.specs.declared.Values.{Values}
 use Rattle.state.specs.declared.State.{State}
-use Rattle.machine.specs.Given.{Inputs}
+use Rattle.machine.specs.Inputs.{Inputs}
 use Rattle.machine.specs.Engine.{step, pointOf}
 use Rattle.machine.specs.Reference.{Machine, referenceStep, referenceLoaded, idle, thread}
 use Rattle.machine.specs.Alike.{SameTask, SameValues, Alike}

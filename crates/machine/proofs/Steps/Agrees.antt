@@ -8,7 +8,7 @@ use Rattle.walk_flow.specs.Flow.{flowOf}
 use Rattle.state.specs.State.{taskAt}
 use Rattle.state.specs.declared.Task.{Task}
 use Rattle.state.specs.declared.State.{State}
-use Rattle.machine.specs.Given.{Inputs}
+use Rattle.machine.specs.Inputs.{Inputs}
 use Rattle.machine.specs.Engine.{pointOf, answerTo, performed, step}
 use Rattle.machine.specs.declared.StepOut.{StepOut}
 use Rattle.machine.specs.Reference.{Thread, Machine, ReferenceOut, replies, does, referenceStep}

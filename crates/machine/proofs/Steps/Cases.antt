@@ -27,10 +27,10 @@ use Rattle.walk.proofs.Points.Within.{Passes}
 use Rattle.state.specs.State.{runs, taskAt}
 use Rattle.state.specs.declared.Task.{Task}
 use Rattle.state.specs.declared.State.{State}
-use Rattle.machine.specs.Given.{Inputs, level}
+use Rattle.machine.specs.Inputs.{Inputs, level}
 use Rattle.machine.specs.Effect.{effectOf}
 use Rattle.image_header.proofs.Numbers.{is-same}
-use Rattle.machine.specs.Engine.{pointOf, given, performed, fits, refuse, taskStep, step, termsHeld}
+use Rattle.machine.specs.Engine.{pointOf, contextOf, performed, fits, refuse, taskStep, step, termsHeld}
 use Rattle.machine.specs.Reference.{Thread, Machine, idle, does, standsStill, lost, tries, acts, referenceStep}
 use Rattle.machine.specs.Alike.{returnsOf, SameTask}
 use Rattle.machine.specs.StepRule.{commandOf, executed}
@@ -79,7 +79,7 @@ module _ (image : List ℕ) where
 
   -- what the command of the step's task comes to
   abbrev pub effectHere : State → Inputs → Effect
-  effectHere s x = effectOf (given s (taskAt s (x .task)) x) (commandOf image s x) (s .values)
+  effectHere s x = effectOf (x .levels) (contextOf s (taskAt s (x .task)) x) (commandOf image s x) (s .values)
 
   abbrev pub threadOf : Machine → Inputs → Thread
   threadOf m x = getD (m .threads) (x .task) idle
@@ -90,7 +90,7 @@ module _ (image : List ℕ) where
     pub running : taskAt s (x .task) .status ≡ runs
     pub depth : taskAt s (x .task) .depth ≡ length (threadOf m x .returns)
     pub passes : Passes h (commandOf image s x) (pointOf (x .task) (taskAt s (x .task)))
-    pub law : Law (commandOf image s x .code) (commandOf image s x) (given s (taskAt s (x .task)) x) (s .values) (effectHere s x)
+    pub law : Law (commandOf image s x .code) (commandOf image s x) (contextOf s (taskAt s (x .task)) x) (s .values) (effectHere s x)
     pub engine : step image s x ≡ performed s x (taskAt s (x .task)) (effectHere s x)
     pub reference : referenceStep image m x ≡ does m x (threadOf m x) (effectHere s x)
 
@@ -140,8 +140,8 @@ module _ (image : List ℕ) where
     abbrev e : Effect
     e = effectHere s x
 
-    law : Law (c .code) c (given s k x) (s .values) e
-    law = every-law (given s k x) c (s .values) carried-here
+    law : Law (c .code) c (contextOf s k x) (s .values) e
+    law = every-law (x .levels) (contextOf s k x) c (s .values) carried-here
 
     in-flow : Allows (flowOf h c) (e .outcome)
     unfolding flowOf
@@ -165,8 +165,8 @@ module _ (image : List ℕ) where
     not-lost (Halt q) f = refl
 
     -- the reference machine sees the same wait and values
-    effect-same : effectOf
-        (record { model = headerOf image .header .drive .model; levels = x .levels; start = level (x .start); reached = level (x .reached); time = p .time; turns = p .turns })
+    effect-same : effectOf (x .levels)
+        (record { drive = headerOf image .header .drive; start = level (x .start); reached = level (x .reached); time = p .time; turns = p .turns })
         (commandAt (blocksOf image) (k .block)) (m .values)
         ≡ e
     effect-same = rw (← same .time r, ← same .turns r, ← g .values, g .header)

@@ -33,9 +33,9 @@ use Rattle.state.specs.declared.Values.{Values}
 use Rattle.state.specs.declared.State.{State}
 use Rattle.state.proofs.Fresh.{getD-replicate}
 use Rattle.walk_flow.specs.Terms.{under}
-use Rattle.machine.specs.Given.{Inputs, level}
+use Rattle.machine.specs.Inputs.{Inputs, level}
 use Rattle.machine.specs.Effect.{effectOf}
-use Rattle.machine.specs.Engine.{goTo, stayWith, callTo, returnFrom, startAnew, restarted, stopped, tasksAfter, pointOf, given, performed, isLoaded, blockFits, waitFits, fits, refuse, taskStep, step, termsHeld}
+use Rattle.machine.specs.Engine.{goTo, stayWith, callTo, returnFrom, startAnew, restarted, stopped, tasksAfter, pointOf, contextOf, performed, isLoaded, blockFits, waitFits, fits, refuse, taskStep, step, termsHeld}
 use Rattle.machine.specs.declared.StepOut.{StepOut}
 use Rattle.machine.specs.Reference.{keeps}
 use Rattle.machine.specs.Allows.{Allows}
@@ -223,7 +223,7 @@ module _ (image : List ℕ) (bytes : Bytes image) (s : State) (g : GoodState s) 
   c = commandAt bs (k .block)
 
   abbrev e : Effect
-  e = effectOf (given s k x) c (s .values)
+  e = effectOf (x .levels) (contextOf s k x) c (s .values)
 
   known : GoodTask h k
   known = g .task t l
@@ -252,8 +252,8 @@ module _ (image : List ℕ) (bytes : Bytes image) (s : State) (g : GoodState s) 
   unfolding commandAt
   fit-here = fit h (blockAt bs (k .block)) (bytes-at image bytes (k .block)) (eqb-true _ 0 (block-fits .0))
 
-  pub law : Law (c .code) c (given s k x) (s .values) e
-  law = every-law (given s k x) c (s .values) (used-carried (under h) (c .code) t (passed .allowed))
+  pub law : Law (c .code) c (contextOf s k x) (s .values) e
+  law = every-law (x .levels) (contextOf s k x) c (s .values) (used-carried (under h) (c .code) t (passed .allowed))
 
   tasks : GoodTasks h (s .tasks)
   tasks = record { three = g .three; task = g .task; first = g .first }

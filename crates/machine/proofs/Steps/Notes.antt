@@ -8,7 +8,7 @@ use Rattle.state.specs.State.{withNotes}
 use Rattle.state.specs.declared.Task.{Task}
 use Rattle.state.specs.declared.Values.{Values}
 use Rattle.state.specs.declared.State.{State}
-use Rattle.machine.specs.Given.{Inputs, level}
+use Rattle.machine.specs.Inputs.{Inputs, level}
 use Rattle.machine.specs.Engine.{noted, performed, refuse}
 use Rattle.machine.specs.Reference.{keeps}
 use Rattle.machine.specs.declared.Answer.{Answer}

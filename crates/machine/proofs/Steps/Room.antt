@@ -17,7 +17,7 @@ use Rattle.walk.proofs.Points.Within.{Passes, passes}
 use Rattle.state.specs.declared.Task.{Task}
 use Rattle.state.specs.declared.Values.{Values}
 use Rattle.machine.specs.DepthAllows.{DepthAllows}
-use Rattle.machine.specs.Given.{Given}
+use Rattle.machine.specs.declared.Context.{Context}
 use Rattle.machine.specs.Effect.{effectOf}
 use Rattle.machine.specs.Engine.{pointOf, blockFits}
 use Rattle.machine.specs.Allows.{Allows}
@@ -49,6 +49,6 @@ module _ (bs : List ℕ) (h : Terms) (t : ℕ) (k : Task) (pass : blockFits h bs
   room l End m = tt
   room l (Halt q) m = tt
 
-  pub deep : k .depth ≤ mostDepth → (g : Given) (v : Values) → DepthAllows (k .depth) (effectOf g c v .outcome)
+  pub deep : k .depth ≤ mostDepth → (inputs : List ℕ) (g : Context) (v : Values) → DepthAllows (k .depth) (effectOf inputs g c v .outcome)
   unfolding flowOf
-  deep l g v = room l (effectOf g c v .outcome) (every-law g c v (used-carried h (c .code) t (passed .allowed)) .outcome .flow)
+  deep l inputs g v = room l (effectOf inputs g c v .outcome) (every-law inputs g c v (used-carried h (c .code) t (passed .allowed)) .outcome .flow)

@@ -4,7 +4,7 @@ use Rattle.limits.specs.Limits.{stateLength}
 use Rattle.bias.specs.Step.{stepped}
 use mathlib.Core.List.{List}
 use Rattle.manual.specs.Run.{repeated}
-use Rattle.machine.specs.Given.{inputsOf}
+use Rattle.machine.specs.Inputs.{inputsOf}
 use denote.Ref.{now}
 use lib.ListN.{length}
 use mathlib.Core.Path.{_≡_, refl, ap, _∙_}

@@ -2,7 +2,7 @@
 use borrow.Author.Needs.{needs}
 use borrow.Author.Tests.{eq-eqb, ne-eqb}
 use Rattle.manual.specs.Run.{repeated, recorded}
-use Rattle.machine.specs.Given.{inputsOf}
+use Rattle.machine.specs.Inputs.{inputsOf}
 use denote.Ref.{now}
 use lib.ListN.{getD}
 use mathlib.Core.List.{List}
