@@ -30,23 +30,23 @@ not-not true = refl
 not-not false = refl
 
 -- the parts of what a command comes to
-pub together : (s : State) (t start : ℕ) (k : Task) (e : Effect) (v : Values) (ts : List Task) (a : Answer)
-    → v ≡ noted t start (e .values) → ts ≡ tasksAfter (s .header .start) t k (e .outcome) (s .tasks) → a ≡ answerTo (e .outcome) (pointOf t k)
-    → _≡_ {A = StepOut} (record { state = record { values = v; header = s .header; tasks = ts }; request = e .request; answer = a }) (performed s (inputsOf t [] start 0) k e)
+pub together : (s : State) (t start : ℕ) (task : Task) (e : Effect) (v : Values) (ts : List Task) (a : Answer)
+    → v ≡ noted t start (e .values) → ts ≡ tasksAfter (s .header .start) t task (e .outcome) (s .tasks) → a ≡ answerTo (e .outcome) (pointOf t task)
+    → _≡_ {A = StepOut} (record { state = record { values = v; header = s .header; tasks = ts }; request = e .request; answer = a }) (performed s (inputsOf t [] start 0) task e)
 unfolding performed
-together s t start k e v ts a i j l = rw (i, j, l) refl
+together s t start task e v ts a i j l = rw (i, j, l) refl
 
 -- the effect of a command, with the levels that the code reads
-pub same-effect : (s : State) (x : Inputs) (k : Task) (start reached : ℕ) (c d : Command) → start ≡ level (x .start) → reached ≡ level (x .reached) → c ≡ d
-    → effectOf (x .levels) (record { drive = s .header .drive; start = start; reached = reached; time = k .time; turns = k .turns }) c (s .values)
-    ≡ effectOf (x .levels) (contextOf s k x) d (s .values)
-same-effect s x k start reached c d i j e = rw (i, j, e) refl
+pub same-effect : (s : State) (x : Inputs) (task : Task) (start reached : ℕ) (c d : Command) → start ≡ level (x .start) → reached ≡ level (x .reached) → c ≡ d
+    → effectOf (x .levels) (record { drive = s .header .drive; start = start; reached = reached; time = task .time; turns = task .turns }) c (s .values)
+    ≡ effectOf (x .levels) (contextOf s task x) d (s .values)
+same-effect s x task start reached c d i j e = rw (i, j, e) refl
 
 -- what a good state's task has room for
-pub record Ready (k : Task) : Type 0 where
-  pub block : k .block < mostBlocks
-  pub depth : k .depth ≤ mostDepth
-  pub turns : k .turns < 4294967295
+pub record Ready (task : Task) : Type 0 where
+  pub block : task .block < mostBlocks
+  pub depth : task .depth ≤ mostDepth
+  pub turns : task .turns < 4294967295
 
 pub ready : (s : State) → GoodState s → (t : ℕ) → t < taskCount → Ready (taskAt s t)
 ready s g t l =
@@ -58,26 +58,26 @@ ready s g t l =
 -- ---- the tests in their order
 
 module _ (image : List ℕ) (s : State) (x : Inputs) where
-  module _ (k : Task) where
-    pub not-running : (k .status ≡ runs → ⊥) → refuse s NotRunning ≡ taskStep image s x k
+  module _ (task : Task) where
+    pub not-running : (task .status ≡ runs → ⊥) → refuse s NotRunning ≡ taskStep image s x task
     unfolding taskStep
-    not-running n = rw (ne-eqb (k .status) runs n) refl
+    not-running n = rw (ne-eqb (task .status) runs n) refl
 
-    pub differs : k .status ≡ runs → fits image (termsHeld s) (x .task) k ≡ false → refuse s (Differs (pointOf (x .task) k)) ≡ taskStep image s x k
+    pub differs : task .status ≡ runs → fits image (termsHeld s) (x .task) task ≡ false → refuse s (Differs (pointOf (x .task) task)) ≡ taskStep image s x task
     unfolding taskStep
-    differs e f = rw (eq-eqb (k .status) runs e, f) refl
+    differs e f = rw (eq-eqb (task .status) runs e, f) refl
 
-    pub carried : k .status ≡ runs → fits image (termsHeld s) (x .task) k ≡ true → carriedOut (blocksOf image) s x k ≡ taskStep image s x k
+    pub carried : task .status ≡ runs → fits image (termsHeld s) (x .task) task ≡ true → carriedOut (blocksOf image) s x task ≡ taskStep image s x task
     unfolding taskStep
-    carried e f = rw (eq-eqb (k .status) runs e, f) refl
+    carried e f = rw (eq-eqb (task .status) runs e, f) refl
 
   -- what 17 asks of an image, of what was read of it; the block at the pointer passes
-  pub fits-of : (r : HeaderRead) (bs : List ℕ) (k : Task) → r ≡ headerOf image → bs ≡ blocksOf image → fitsAs r bs (termsHeld s) (x .task) k ≡ fits image (termsHeld s) (x .task) k
+  pub fits-of : (r : HeaderRead) (bs : List ℕ) (task : Task) → r ≡ headerOf image → bs ≡ blocksOf image → fitsAs r bs (termsHeld s) (x .task) task ≡ fits image (termsHeld s) (x .task) task
   unfolding fits
-  fits-of r bs k e b = rw (e, b) refl
+  fits-of r bs task e b = rw (e, b) refl
 
-  pub block-passes : (r : HeaderRead) (bs : List ℕ) (k : Task) → fitsAs r bs (termsHeld s) (x .task) k ≡ true → blockFits (termsHeld s) bs (x .task) k ≡ true
-  block-passes r bs k e = both (blockFits (termsHeld s) bs (x .task) k) (waitFits bs k) (both (isLoaded r (s .header)) _ e .1) .0
+  pub block-passes : (r : HeaderRead) (bs : List ℕ) (task : Task) → fitsAs r bs (termsHeld s) (x .task) task ≡ true → blockFits (termsHeld s) bs (x .task) task ≡ true
+  block-passes r bs task e = both (blockFits (termsHeld s) bs (x .task) task) (waitFits bs task) (both (isLoaded r (s .header)) _ e .1) .0
 
   pub no-task : taskCount ≤ x .task → refuse s (NoTask (x .task)) ≡ step image s x
   unfolding step

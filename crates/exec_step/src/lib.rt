@@ -39,13 +39,13 @@ fn refuse(state: State, answer: Answer) -> StepOut
 }
 
 // Where a task is.
-fn point_of(t: u8, k: Task) -> Point
-    ensures { λ r. ⌜ r ≡ pointOf t k ⌝ }
+fn point_of(t: u8, task: Task) -> Point
+    ensures { λ r. ⌜ r ≡ pointOf t task ⌝ }
 {
     Point {
         task: t,
-        block: k.block,
-        depth: k.depth,
+        block: task.block,
+        depth: task.depth,
     }
 }
 
@@ -88,10 +88,10 @@ fn noted(t: u8, start: u8, v: Values) -> Values
 
 // 17: whether the lent image, whose header and blocks these are, is the loaded one, the block at the pointer passes 5 to 12 and 23 there, and a pending
 // wait stands at a wait.
-fn fits(read: HeaderRead, blocks: &[u8], header: Header, t: u8, k: Task) -> bool
-    ensures { λ r. ⌜ r ≡ fitsAs read (now (blocks .entry)) (under header) t k ⌝ }
+fn fits(read: HeaderRead, blocks: &[u8], header: Header, t: u8, task: Task) -> bool
+    ensures { λ r. ⌜ r ≡ fitsAs read (now (blocks .entry)) (under header) t task ⌝ }
 {
-    is_loaded(read, header) & (block_fits(header, blocks, t, k) & wait_fits(blocks, k))
+    is_loaded(read, header) & (block_fits(header, blocks, t, task) & wait_fits(blocks, task))
 }
 
 // Whether what was read of the lent image is this header.
@@ -103,47 +103,47 @@ fn is_loaded(read: HeaderRead, header: Header) -> bool
 }
 
 // Whether the block at a task's pointer passes 5 to 8 and 23 by itself, and 9 to 12 where the task is.
-fn block_fits(header: Header, blocks: &[u8], t: u8, k: Task) -> bool
-    ensures { λ r. ⌜ r ≡ blockFits (under header) (now (blocks .entry)) t k ⌝ }
+fn block_fits(header: Header, blocks: &[u8], t: u8, task: Task) -> bool
+    ensures { λ r. ⌜ r ≡ blockFits (under header) (now (blocks .entry)) t task ⌝ }
 {
-    let fault = walk_blocks::fault_at(header, blocks, point_of(t, k));
-    let block_fault = walk_blocks::block_fault_at(header, blocks, k.block);
+    let fault = walk_blocks::fault_at(header, blocks, point_of(t, task));
+    let block_fault = walk_blocks::block_fault_at(header, blocks, task.block);
     (block_fault.number() == 0) & (fault.number() == 0)
 }
 
 // The command at a task's block.
-fn command_here(blocks: &[u8], k: Task) -> Command
-    ensures { λ r. ⌜ r ≡ commandAt (now (blocks .entry)) (k .block) ⌝ }
+fn command_here(blocks: &[u8], task: Task) -> Command
+    ensures { λ r. ⌜ r ≡ commandAt (now (blocks .entry)) (task .block) ⌝ }
 {
-    walk_blocks::command_at(blocks, k.block)
+    walk_blocks::command_at(blocks, task.block)
 }
 
 // Whether a pending wait stands at a wait.
-fn wait_fits(blocks: &[u8], k: Task) -> bool
-    ensures { λ r. ⌜ r ≡ waitFits (now (blocks .entry)) k ⌝ }
+fn wait_fits(blocks: &[u8], task: Task) -> bool
+    ensures { λ r. ⌜ r ≡ waitFits (now (blocks .entry)) task ⌝ }
 {
-    let c = command_here(blocks, k);
-    (k.time == 0) | is_wait(c.code)
+    let c = command_here(blocks, task);
+    (task.time == 0) | is_wait(c.code)
 }
 
 // What a command comes to: the values with the start level noted, the tasks after its outcome, its request, its answer.
-fn performed(mut state: State, t: u8, start: u8, k: Task, e: Effect) -> StepOut
-    requires { ⌜ k .block < mostBlocks ⌝ }
-    requires { ⌜ DepthAllows (k .depth) (e .outcome) ⌝ }
-    ensures { λ r. ⌜ r ≡ performed state (inputsOf t [] start 0) k e ⌝ }
+fn performed(mut state: State, t: u8, start: u8, task: Task, e: Effect) -> StepOut
+    requires { ⌜ task .block < mostBlocks ⌝ }
+    requires { ⌜ DepthAllows (task .depth) (e .outcome) ⌝ }
+    ensures { λ r. ⌜ r ≡ performed state (inputsOf t [] start 0) task e ⌝ }
 {
     let header = state.header;
     let outcome = e.outcome;
     let request = e.request;
     let values = noted(t, start, e.values);
     let before = state.tasks;
-    let after = exec_tasks::after(header.start, t, k, outcome, before);
+    let after = exec_tasks::after(header.start, t, task, outcome, before);
     state.values = values;
     state.tasks = after;
     StepOut {
         state: state,
         request: request,
-        answer: answer_to(outcome, point_of(t, k)),
+        answer: answer_to(outcome, point_of(t, task)),
     }
 }
 
@@ -155,15 +155,15 @@ fn carry_out(
     inputs: &[u8],
     start: u8,
     reached: u8,
-    k: Task,
+    task: Task,
 ) -> StepOut
-    requires { ⌜ k .block < mostBlocks ⌝ }
-    requires { ⌜ k .depth ≤ mostDepth ⌝ }
-    requires { ⌜ k .turns < 4294967295 ⌝ }
-    requires { ⌜ blockFits (termsHeld s) (now blocks) t k ≡ true ⌝ }
-    ensures { λ r. ⌜ r ≡ carriedOut (now (blocks .entry)) s (inputsOf t (now (inputs .entry)) start reached) k ⌝ }
+    requires { ⌜ task .block < mostBlocks ⌝ }
+    requires { ⌜ task .depth ≤ mostDepth ⌝ }
+    requires { ⌜ task .turns < 4294967295 ⌝ }
+    requires { ⌜ blockFits (termsHeld s) (now blocks) t task ≡ true ⌝ }
+    ensures { λ r. ⌜ r ≡ carriedOut (now (blocks .entry)) s (inputsOf t (now (inputs .entry)) start reached) task ⌝ }
 {
-    let c = command_here(blocks, k);
+    let c = command_here(blocks, task);
     let header = s.header;
     let drive = header.drive;
     let values = s.values;
@@ -171,11 +171,11 @@ fn carry_out(
         drive: drive,
         start: exec_effect::level(start),
         reached: exec_effect::level(reached),
-        time: k.time,
-        turns: k.turns,
+        time: task.time,
+        turns: task.turns,
     };
     let e = exec_dispatch::perform(context, inputs, c, values);
-    performed(s, t, start, k, e)
+    performed(s, t, start, task, e)
 }
 
 // 18, then 17, then the command.
@@ -185,16 +185,16 @@ fn task_step(image: &[u8], s: State, t: u8, inputs: &[u8], start: u8, reached: u
     ensures { λ r. ⌜ r ≡ taskStep (now (image .entry)) s (inputsOf t (now (inputs .entry)) start reached) (taskAt s t) ⌝ }
 {
     let tasks = s.tasks;
-    let k = tasks[t as usize];
-    if k.status != state::RUNNING {
+    let task = tasks[t as usize];
+    if task.status != state::RUNNING {
         return refuse(s, Answer::NotRunning);
     }
     let read = reader::read(image);
     let blocks = reader::part_of(image, read);
-    if !fits(read, blocks, s.header, t, k) {
-        return refuse(s, Answer::Differs(point_of(t, k)));
+    if !fits(read, blocks, s.header, t, task) {
+        return refuse(s, Answer::Differs(point_of(t, task)));
     }
-    carry_out(blocks, s, t, inputs, start, reached, k)
+    carry_out(blocks, s, t, inputs, start, reached, task)
 }
 
 // One step of a task, on a good state: 15 first, the task number, then the length of the input levels.

@@ -12,119 +12,119 @@ ghost use Rattle.machine.specs.Engine.{goTo, stayWith, callTo, returnFrom, star
 const TASK_COUNT: u8 = limits::TASK_COUNT as u8;
 
 // To a block, with no wait.
-fn go_to(b: u16, mut k: Task) -> Task
-    ensures { λ r. ⌜ r ≡ goTo b k ⌝ }
+fn go_to(b: u16, mut task: Task) -> Task
+    ensures { λ r. ⌜ r ≡ goTo b task ⌝ }
 {
-    k.status = state::RUNNING;
-    k.block = b;
-    k.time = 0;
-    k.turns = 0;
-    k
+    task.status = state::RUNNING;
+    task.block = b;
+    task.time = 0;
+    task.turns = 0;
+    task
 }
 
 // At the same block, with a wait.
-fn stay_with(time: u32, turns: u32, mut k: Task) -> Task
-    ensures { λ r. ⌜ r ≡ stayWith time turns k ⌝ }
+fn stay_with(time: u32, turns: u32, mut task: Task) -> Task
+    ensures { λ r. ⌜ r ≡ stayWith time turns task ⌝ }
 {
-    k.status = state::RUNNING;
-    k.time = time;
-    k.turns = turns;
-    k
+    task.status = state::RUNNING;
+    task.time = time;
+    task.turns = turns;
+    task
 }
 
 // A call: the block behind it goes on the call stack.
-fn call_to(a: u16, mut k: Task) -> Task
-    requires { ⌜ k .block < mostBlocks ⌝ }
-    requires { ⌜ k .depth < mostDepth ⌝ }
-    ensures { λ r. ⌜ r ≡ callTo a k ⌝ }
+fn call_to(a: u16, mut task: Task) -> Task
+    requires { ⌜ task .block < mostBlocks ⌝ }
+    requires { ⌜ task .depth < mostDepth ⌝ }
+    ensures { λ r. ⌜ r ≡ callTo a task ⌝ }
 {
-    let depth = k.depth;
-    k.stack[depth as usize] = k.block + 1;
-    k.status = state::RUNNING;
-    k.block = a;
-    k.depth = depth + 1;
-    k.time = 0;
-    k.turns = 0;
-    k
+    let depth = task.depth;
+    task.stack[depth as usize] = task.block + 1;
+    task.status = state::RUNNING;
+    task.block = a;
+    task.depth = depth + 1;
+    task.time = 0;
+    task.turns = 0;
+    task
 }
 
 // A return: the last block comes off the stack, and its entry is cleared.
-fn return_from(mut k: Task) -> Task
-    requires { ⌜ 0 < k .depth ⌝ }
-    requires { ⌜ k .depth ≤ mostDepth ⌝ }
-    ensures { λ r. ⌜ r ≡ returnFrom k ⌝ }
+fn return_from(mut task: Task) -> Task
+    requires { ⌜ 0 < task .depth ⌝ }
+    requires { ⌜ task .depth ≤ mostDepth ⌝ }
+    ensures { λ r. ⌜ r ≡ returnFrom task ⌝ }
 {
-    let last = k.depth - 1;
-    let stack = k.stack;
+    let last = task.depth - 1;
+    let stack = task.stack;
     let b = stack[last as usize];
-    k.stack[last as usize] = 0;
-    k.status = state::RUNNING;
-    k.block = b;
-    k.depth = last;
-    k.time = 0;
-    k.turns = 0;
-    k
+    task.stack[last as usize] = 0;
+    task.status = state::RUNNING;
+    task.block = b;
+    task.depth = last;
+    task.time = 0;
+    task.turns = 0;
+    task
 }
 
 // A task anew at a block; the start of BIAS stays the program start.
 fn start_anew(first: u16, u: u8, a: u16) -> Task
     ensures { λ r. ⌜ r ≡ startAnew first u a ⌝ }
 {
-    let mut k = Task::running(a);
+    let mut task = Task::running(a);
     if u == limits::BIAS {
-        k.start = first;
+        task.start = first;
     }
-    k
+    task
 }
 
 // A task back at its start.
-fn restarted(k: Task) -> Task
-    ensures { λ r. ⌜ r ≡ restarted k ⌝ }
+fn restarted(task: Task) -> Task
+    ensures { λ r. ⌜ r ≡ restarted task ⌝ }
 {
-    Task::running(k.start)
+    Task::running(task.start)
 }
 
 // A task that has ended or is halted.
-fn stopped(status: u8, mut k: Task) -> Task
-    ensures { λ r. ⌜ r ≡ stopped status k ⌝ }
+fn stopped(status: u8, mut task: Task) -> Task
+    ensures { λ r. ⌜ r ≡ stopped status task ⌝ }
 {
-    k.status = status;
-    k.time = 0;
-    k.turns = 0;
-    k
+    task.status = status;
+    task.time = 0;
+    task.turns = 0;
+    task
 }
 
 // A task's record put in its place.
-fn put(mut tasks: [Task; TASKS], t: u8, k: Task) -> [Task; TASKS]
-    ensures { λ r. ⌜ r ≡ set tasks t k ⌝ }
+fn put(mut tasks: [Task; TASKS], t: u8, task: Task) -> [Task; TASKS]
+    ensures { λ r. ⌜ r ≡ set tasks t task ⌝ }
 {
     if t < TASK_COUNT {
-        tasks[t as usize] = k;
+        tasks[t as usize] = task;
     }
     tasks
 }
 
-// The tasks after the outcome of a command that task t executed at k; `first` is the program start.
-pub fn after(first: u16, t: u8, k: Task, outcome: Outcome, tasks: [Task; TASKS]) -> [Task; TASKS]
-    requires { ⌜ k .block < mostBlocks ⌝ }
-    requires { ⌜ DepthAllows (k .depth) outcome ⌝ }
-    ensures { λ r. ⌜ r ≡ tasksAfter first t k outcome tasks ⌝ }
+// The tasks after the outcome of a command that task t executed at task; `first` is the program start.
+pub fn after(first: u16, t: u8, task: Task, outcome: Outcome, tasks: [Task; TASKS]) -> [Task; TASKS]
+    requires { ⌜ task .block < mostBlocks ⌝ }
+    requires { ⌜ DepthAllows (task .depth) outcome ⌝ }
+    ensures { λ r. ⌜ r ≡ tasksAfter first t task outcome tasks ⌝ }
 {
     match outcome {
-        Outcome::GoOn => put(tasks, t, go_to(k.block + 1, k)),
-        Outcome::Stay(time, turns) => put(tasks, t, stay_with(time, turns, k)),
-        Outcome::Jump(a) => put(tasks, t, go_to(a, k)),
-        Outcome::Call(a) => put(tasks, t, call_to(a, k)),
-        Outcome::Return => put(tasks, t, return_from(k)),
+        Outcome::GoOn => put(tasks, t, go_to(task.block + 1, task)),
+        Outcome::Stay(time, turns) => put(tasks, t, stay_with(time, turns, task)),
+        Outcome::Jump(a) => put(tasks, t, go_to(a, task)),
+        Outcome::Call(a) => put(tasks, t, call_to(a, task)),
+        Outcome::Return => put(tasks, t, return_from(task)),
         Outcome::Start(u, a) => {
             put(
-                put(tasks, t, go_to(k.block + 1, k)),
+                put(tasks, t, go_to(task.block + 1, task)),
                 u,
                 start_anew(first, u, a),
             )
         }
-        Outcome::Restart => put(tasks, t, restarted(k)),
-        Outcome::End => put(tasks, t, stopped(state::ENDED, k)),
-        Outcome::Halt(cause) => put(tasks, t, stopped(state::HALTED, k)),
+        Outcome::Restart => put(tasks, t, restarted(task)),
+        Outcome::End => put(tasks, t, stopped(state::ENDED, task)),
+        Outcome::Halt(cause) => put(tasks, t, stopped(state::HALTED, task)),
     }
 }

@@ -17,13 +17,13 @@ returnsOf stack zero = []
 returnsOf stack (suc d) = getD stack d 0 ∷ returnsOf stack d
 
 -- a task of the engine and one of the reference machine: both run or neither; where they run, block, return blocks, start block and wait are the same
-pub record SameTask (k : Task) (p : Thread) : Type 0 where
-  pub running : eqb (k .status) runs ≡ p .runs
-  pub block : k .status ≡ runs → k .block ≡ p .block
-  pub returns : k .status ≡ runs → returnsOf (k .stack) (k .depth) ≡ p .returns
-  pub start : k .status ≡ runs → k .start ≡ p .start
-  pub time : k .status ≡ runs → k .time ≡ p .time
-  pub turns : k .status ≡ runs → k .turns ≡ p .turns
+pub record SameTask (task : Task) (p : Thread) : Type 0 where
+  pub running : eqb (task .status) runs ≡ p .runs
+  pub block : task .status ≡ runs → task .block ≡ p .block
+  pub returns : task .status ≡ runs → returnsOf (task .stack) (task .depth) ≡ p .returns
+  pub start : task .status ≡ runs → task .start ≡ p .start
+  pub time : task .status ≡ runs → task .time ≡ p .time
+  pub turns : task .status ≡ runs → task .turns ≡ p .turns
 
 pub record SameValues (v w : Values) : Type 0 where
   pub variables : v .cells .variables ≡ w .cells .variables

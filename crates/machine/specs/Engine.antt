@@ -16,7 +16,7 @@ use Rattle.walk_fault.specs.Fault.{faultNumber}
 use Rattle.walk_point.specs.PointFault.{point}
 use Rattle.walk_point.specs.declared.Point.{Point}
 use Rattle.walk.specs.Blocks.{commandAt, faultAt, blockNumber}
-use Rattle.state.specs.State.{runs, ended, halted, emptyStack, task, taskAt, withNotes}
+use Rattle.state.specs.State.{runs, ended, halted, emptyStack, taskWith, taskAt, withNotes}
 use Rattle.state.specs.declared.Task.{Task}
 use Rattle.state.specs.declared.Values.{Values}
 use Rattle.state.specs.declared.State.{State}
@@ -35,43 +35,43 @@ use Rattle.machine.specs.declared.Answer.the-variants.{Done, NoTask, Inp
 
 -- to a block, with no wait
 abbrev pub goTo : ℕ → Task → Task
-goTo b k = task runs b (k .start) (k .depth) (k .stack) 0 0
+goTo b task = taskWith runs b (task .start) (task .depth) (task .stack) 0 0
 
 -- at the same block, with a wait of T and k, or with none
 abbrev pub stayWith : ℕ → ℕ → Task → Task
-stayWith time turns k = task runs (k .block) (k .start) (k .depth) (k .stack) time turns
+stayWith time turns task = taskWith runs (task .block) (task .start) (task .depth) (task .stack) time turns
 
 -- the block behind the call goes on the stack
 abbrev pub callTo : ℕ → Task → Task
-callTo a k = task runs a (k .start) (k .depth + 1) (set (k .stack) (k .depth) (k .block + 1)) 0 0
+callTo a task = taskWith runs a (task .start) (task .depth + 1) (set (task .stack) (task .depth) (task .block + 1)) 0 0
 
 -- the last block comes off the stack, and its entry is cleared
 abbrev pub returnFrom : Task → Task
-returnFrom k = task runs (getD (k .stack) (k .depth - 1) 0) (k .start) (k .depth - 1) (set (k .stack) (k .depth - 1) 0) 0 0
+returnFrom task = taskWith runs (getD (task .stack) (task .depth - 1) 0) (task .start) (task .depth - 1) (set (task .stack) (task .depth - 1) 0) 0 0
 
 -- anew at a block; the start of BIAS stays the program start
 abbrev pub startAnew : ℕ → ℕ → ℕ → Task
-startAnew first u a = task runs a (cond (eqb u bias) first a) 0 emptyStack 0 0
+startAnew first u a = taskWith runs a (cond (eqb u bias) first a) 0 emptyStack 0 0
 
 abbrev pub restarted : Task → Task
-restarted k = task runs (k .start) (k .start) 0 emptyStack 0 0
+restarted task = taskWith runs (task .start) (task .start) 0 emptyStack 0 0
 
 -- ended or halted: block, start and stack stay, and no wait is pending
 abbrev pub stopped : ℕ → Task → Task
-stopped status k = task status (k .block) (k .start) (k .depth) (k .stack) 0 0
+stopped status task = taskWith status (task .block) (task .start) (task .depth) (task .stack) 0 0
 
 -- ---- the three tasks after a command's outcome, for the task t that is at k; `first` is the program start
 
 abbrev pub tasksAfter : ℕ → ℕ → Task → Outcome → List Task → List Task
-tasksAfter first t k GoOn l = set l t (goTo (k .block + 1) k)
-tasksAfter first t k (Stay time turns) l = set l t (stayWith time turns k)
-tasksAfter first t k (Jump a) l = set l t (goTo a k)
-tasksAfter first t k (Call a) l = set l t (callTo a k)
-tasksAfter first t k Return l = set l t (returnFrom k)
-tasksAfter first t k (Start u a) l = set (set l t (goTo (k .block + 1) k)) u (startAnew first u a)
-tasksAfter first t k Restart l = set l t (restarted k)
-tasksAfter first t k End l = set l t (stopped ended k)
-tasksAfter first t k (Halt q) l = set l t (stopped halted k)
+tasksAfter first t task GoOn l = set l t (goTo (task .block + 1) task)
+tasksAfter first t task (Stay time turns) l = set l t (stayWith time turns task)
+tasksAfter first t task (Jump a) l = set l t (goTo a task)
+tasksAfter first t task (Call a) l = set l t (callTo a task)
+tasksAfter first t task Return l = set l t (returnFrom task)
+tasksAfter first t task (Start u a) l = set (set l t (goTo (task .block + 1) task)) u (startAnew first u a)
+tasksAfter first t task Restart l = set l t (restarted task)
+tasksAfter first t task End l = set l t (stopped ended task)
+tasksAfter first t task (Halt q) l = set l t (stopped halted task)
 
 -- ---- a step
 
@@ -81,7 +81,7 @@ refuse s a = record { state = s; request = None; answer = a }
 
 -- where a task is
 abbrev pub pointOf : ℕ → Task → Point
-pointOf t k = point t (k .block) (k .depth)
+pointOf t task = point t (task .block) (task .depth)
 
 -- the answer to a command that was done
 abbrev pub answerTo : Outcome → Point → Answer
@@ -101,23 +101,23 @@ noted t start v = cond (eqb t bias) (withNotes (record { level = level start }) 
 
 -- what the command may read besides the values and the input levels
 abbrev pub contextOf : State → Task → Inputs → Context
-contextOf s k x = record {
+contextOf s task x = record {
   drive = s .header .drive;
   start = level (x .start);
   reached = level (x .reached);
-  time = k .time;
-  turns = k .turns;
+  time = task .time;
+  turns = task .turns;
 }
 
 unfoldable pub performed : State → Inputs → Task → Effect → StepOut
-performed s x k e = record {
+performed s x task e = record {
   state = record {
     values = noted (x .task) (x .start) (e .values);
     header = s .header;
-    tasks = tasksAfter (s .header .start) (x .task) k (e .outcome) (s .tasks);
+    tasks = tasksAfter (s .header .start) (x .task) task (e .outcome) (s .tasks);
   };
   request = e .request;
-  answer = answerTo (e .outcome) (pointOf (x .task) k);
+  answer = answerTo (e .outcome) (pointOf (x .task) task);
 }
 
 -- ---- 17: the lent image is not the loaded one, or the block at the pointer breaks 5 to 12 or 23 at the present depth, or a wait is pending at no wait
@@ -131,32 +131,32 @@ abbrev pub isLoaded : HeaderRead → Header → Bool
 isLoaded r h = done (r .result) && sameHeader (r .header) h
 
 abbrev pub blockFits : Terms → List ℕ → ℕ → Task → Bool
-blockFits h bs t k = eqb (blockNumber h bs (k .block)) 0 && eqb (faultNumber (faultAt h bs (pointOf t k))) 0
+blockFits h bs t task = eqb (blockNumber h bs (task .block)) 0 && eqb (faultNumber (faultAt h bs (pointOf t task))) 0
 
 abbrev pub isWait : ℕ → Bool
 isWait code = eqb code 0x59 || eqb code 0x5A
 
 abbrev pub waitFits : List ℕ → Task → Bool
-waitFits bs k = not (isSet (k .time)) || isWait (commandAt bs (k .block) .code)
+waitFits bs task = not (isSet (task .time)) || isWait (commandAt bs (task .block) .code)
 
 -- of an image whose header was read as r and whose blocks are bs
 abbrev pub fitsAs : HeaderRead → List ℕ → Terms → ℕ → Task → Bool
-fitsAs r bs h t k = isLoaded r (h .header) && (blockFits h bs t k && waitFits bs k)
+fitsAs r bs h t task = isLoaded r (h .header) && (blockFits h bs t task && waitFits bs task)
 
 unfoldable pub fits : List ℕ → Terms → ℕ → Task → Bool
-fits image h t k = fitsAs (headerOf image) (blocksOf image) h t k
+fits image h t task = fitsAs (headerOf image) (blocksOf image) h t task
 
 -- the command at the task's block
 abbrev pub carriedOut : List ℕ → State → Inputs → Task → StepOut
-carriedOut bs s x k = performed s x k (effectOf (x .levels) (contextOf s k x) (commandAt bs (k .block)) (s .values))
+carriedOut bs s x task = performed s x task (effectOf (x .levels) (contextOf s task x) (commandAt bs (task .block)) (s .values))
 
 -- 18, then 17, then the command
 unfoldable pub taskStep : List ℕ → State → Inputs → Task → StepOut
-taskStep image s x k =
-    cond (eqb (k .status) runs)
-    (cond (fits image (termsHeld s) (x .task) k)
-    (carriedOut (blocksOf image) s x k)
-    (refuse s (Differs (pointOf (x .task) k))))
+taskStep image s x task =
+    cond (eqb (task .status) runs)
+    (cond (fits image (termsHeld s) (x .task) task)
+    (carriedOut (blocksOf image) s x task)
+    (refuse s (Differs (pointOf (x .task) task))))
     (refuse s NotRunning)
 
 -- 15 first: the task number, then the length of the input levels

@@ -30,12 +30,12 @@ pub record Thread : Type 0 where
   pub turns : ℕ
   pub returns : List ℕ
 
-abbrev pub thread : ℕ → ℕ → ℕ → ℕ → List ℕ → Thread
-thread block start time turns returns = record { runs = true; block = block; start = start; time = time; turns = turns; returns = returns }
+abbrev pub threadAt : ℕ → ℕ → ℕ → ℕ → List ℕ → Thread
+threadAt block start time turns returns = record { runs = true; block = block; start = start; time = time; turns = turns; returns = returns }
 
 -- not running
 abbrev pub off : Thread → Thread
-off k = record { runs = false; block = k .block; start = k .start; time = 0; turns = 0; returns = k .returns }
+off thread = record { runs = false; block = thread .block; start = thread .start; time = 0; turns = 0; returns = thread .returns }
 
 -- a state: the values and the three tasks
 pub record Machine : Type 0 where
@@ -45,7 +45,7 @@ pub record Machine : Type 0 where
 -- ---- as load leaves it: position 0, the other parameters at their least, the start input taken as high, BIAS alone running
 
 abbrev pub idle : Thread
-idle = off (thread 0 0 0 0 [])
+idle = off (threadAt 0 0 0 0 [])
 
 unfoldable pub referenceLoaded : List ℕ → Machine
 referenceLoaded image = record {
@@ -54,36 +54,36 @@ referenceLoaded image = record {
     motion = record { axis = record { position = pos 0; speed = 1; acceleration = 1; deceleration = 1 }; mark = 0 };
     notes = record { level = 1 };
   };
-  threads = thread (headerOf image .header .start) (headerOf image .header .start) 0 0 [] ∷ idle ∷ idle ∷ [];
+  threads = threadAt (headerOf image .header .start) (headerOf image .header .start) 0 0 [] ∷ idle ∷ idle ∷ [];
 }
 
 -- ---- a command's outcome
 
 abbrev pub goesTo : ℕ → Thread → Thread
-goesTo b k = thread b (k .start) 0 0 (k .returns)
+goesTo b thread = threadAt b (thread .start) 0 0 (thread .returns)
 
 -- to the latest entry, which comes off
 abbrev pub back : Thread → List ℕ → Thread
-back k [] = k
-back k (b ∷ bs) = thread b (k .start) 0 0 bs
+back thread [] = thread
+back thread (b ∷ bs) = threadAt b (thread .start) 0 0 bs
 
 abbrev pub put : ℕ → Thread → List Thread → List Thread
-put t k l = set l t k
+put t thread l = set l t thread
 
 -- 57 leaves BIAS's start where it is; 54 and 90 name the start of the task they start
 abbrev pub anew : ℕ → ℕ → List Thread → Thread
-anew u a l = thread a (cond (eqb u 0) (getD l 0 idle .start) a) 0 0 []
+anew u a l = threadAt a (cond (eqb u 0) (getD l 0 idle .start) a) 0 0 []
 
 unfoldable pub follows : ℕ → Thread → Outcome → List Thread → List Thread
-follows t k GoOn l = put t (goesTo (k .block + 1) k) l
-follows t k (Stay time turns) l = put t (thread (k .block) (k .start) time turns (k .returns)) l
-follows t k (Jump a) l = put t (goesTo a k) l
-follows t k (Call a) l = put t (thread a (k .start) 0 0 ((k .block + 1) ∷ k .returns)) l
-follows t k Return l = put t (back k (k .returns)) l
-follows t k (Start u a) l = put u (anew u a l) (put t (goesTo (k .block + 1) k) l)
-follows t k Restart l = put t (thread (k .start) (k .start) 0 0 []) l
-follows t k End l = put t (off k) l
-follows t k (Halt q) l = put t (off k) l
+follows t thread GoOn l = put t (goesTo (thread .block + 1) thread) l
+follows t thread (Stay time turns) l = put t (threadAt (thread .block) (thread .start) time turns (thread .returns)) l
+follows t thread (Jump a) l = put t (goesTo a thread) l
+follows t thread (Call a) l = put t (threadAt a (thread .start) 0 0 ((thread .block + 1) ∷ thread .returns)) l
+follows t thread Return l = put t (back thread (thread .returns)) l
+follows t thread (Start u a) l = put u (anew u a l) (put t (goesTo (thread .block + 1) thread) l)
+follows t thread Restart l = put t (threadAt (thread .start) (thread .start) 0 0 []) l
+follows t thread End l = put t (off thread) l
+follows t thread (Halt q) l = put t (off thread) l
 
 -- ---- a step
 
@@ -96,25 +96,25 @@ abbrev pub standsStill : Machine → Answer → ReferenceOut
 standsStill m a = record { machine = m; request = None; answer = a }
 
 abbrev pub replies : Outcome → ℕ → Thread → Answer
-replies GoOn t k = Done
-replies (Stay time turns) t k = Done
-replies (Jump a) t k = Done
-replies (Call a) t k = Done
-replies Return t k = Done
-replies (Start u a) t k = Done
-replies Restart t k = Done
-replies End t k = Done
-replies (Halt q) t k = Halted q (record { task = t; block = k .block; depth = length (k .returns) })
+replies GoOn t thread = Done
+replies (Stay time turns) t thread = Done
+replies (Jump a) t thread = Done
+replies (Call a) t thread = Done
+replies Return t thread = Done
+replies (Start u a) t thread = Done
+replies Restart t thread = Done
+replies End t thread = Done
+replies (Halt q) t thread = Halted q (record { task = t; block = thread .block; depth = length (thread .returns) })
 
 -- BIAS's steps note the start input's level
 abbrev pub keeps : ℕ → ℕ → Values → Values
 keeps t start v = record { cells = v .cells; motion = v .motion; notes = cond (eqb t 0) (record { level = level start }) (v .notes) }
 
 unfoldable pub does : Machine → Inputs → Thread → Effect → ReferenceOut
-does m x k e = record {
-  machine = record { values = keeps (x .task) (x .start) (e .values); threads = follows (x .task) k (e .outcome) (m .threads) };
+does m x thread e = record {
+  machine = record { values = keeps (x .task) (x .start) (e .values); threads = follows (x .task) thread (e .outcome) (m .threads) };
   request = e .request;
-  answer = replies (e .outcome) (x .task) k;
+  answer = replies (e .outcome) (x .task) thread;
 }
 
 -- a return with nothing to return to
@@ -132,23 +132,23 @@ lost (Halt q) l = false
 
 -- a return with nothing to return to stands still
 unfoldable pub tries : Machine → Inputs → Thread → Effect → ReferenceOut
-tries m x k e = cond (lost (e .outcome) (k .returns)) (standsStill m Done) (does m x k e)
+tries m x thread e = cond (lost (e .outcome) (thread .returns)) (standsStill m Done) (does m x thread e)
 
 -- the command at its block; past the end, and where there is no command, it stands still
 unfoldable pub acts : List ℕ → Machine → Inputs → Thread → ReferenceOut
-acts image m x k =
-    cond (ltb (k .block) (headerOf image .header .count))
-    (cond (rowOf (commandAt (blocksOf image) (k .block) .code) .carried)
-    (tries m x k
+acts image m x thread =
+    cond (ltb (thread .block) (headerOf image .header .count))
+    (cond (rowOf (commandAt (blocksOf image) (thread .block) .code) .carried)
+    (tries m x thread
     (effectOf (x .levels)
     (record {
       drive = headerOf image .header .drive;
       start = level (x .start);
       reached = level (x .reached);
-      time = k .time;
-      turns = k .turns;
+      time = thread .time;
+      turns = thread .turns;
     })
-    (commandAt (blocksOf image) (k .block)) (m .values)))
+    (commandAt (blocksOf image) (thread .block)) (m .values)))
     (standsStill m Done))
     (standsStill m Done)
 

@@ -38,8 +38,8 @@ pub data SameHanded : List StepOut → List ReferenceOut → Type 0 where
   more : {o : StepOut} {d : ReferenceOut} {os : List StepOut} {ds : List ReferenceOut} → o .answer ≡ d .answer → o .request ≡ d .request → SameHanded os ds → SameHanded (o ∷ os) (d ∷ ds)
 
 -- part 3: a task that runs is at a block of the image that is permitted to it on that drive, at its depth, which is at most the limit
-pub record Permitted (image : List ℕ) (t : ℕ) (k : Task) : Type 0 where
-  pub block : k .block < headerOf image .header .count
-  pub sound : blockNumber (termsOf image) (blocksOf image) (k .block) ≡ 0
-  pub fine : faultAt (termsOf image) (blocksOf image) (pointOf t k) ≡ Fine
-  pub depth : k .depth ≤ mostDepth
+pub record Permitted (image : List ℕ) (t : ℕ) (task : Task) : Type 0 where
+  pub block : task .block < headerOf image .header .count
+  pub sound : blockNumber (termsOf image) (blocksOf image) (task .block) ≡ 0
+  pub fine : faultAt (termsOf image) (blocksOf image) (pointOf t task) ≡ Fine
+  pub depth : task .depth ≤ mostDepth

@@ -37,7 +37,7 @@ abbrev answersOf : List StepOut → List Answer
 answersOf = map (λ (o : StepOut). o .answer)
 
 abbrev placesOf : List Task → List Place
-placesOf = map (λ (k : Task). record { status = k .status; block = k .block; depth = k .depth })
+placesOf = map (λ (task : Task). record { status = task .status; block = task .block; depth = task .depth })
 
 -- what is computed: the verdict, the answers, where the tasks are afterwards, and flag 1
 record Computed : Type 0 where

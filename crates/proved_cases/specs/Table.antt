@@ -120,7 +120,7 @@ abbrev pub biasStep : ℕ → Inputs
 biasStep start = record { task = 0; levels = replicate 256 0; start = start; reached = 0 }
 
 abbrev pub standAt : Task → Stand
-standAt k = stand (k .block) (k .time) (k .turns)
+standAt task = stand (task .block) (task .time) (task .turns)
 
 -- before and after one more step
 unfoldable pub standings : List ℕ → State → Reply

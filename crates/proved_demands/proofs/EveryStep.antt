@@ -15,7 +15,7 @@ use Rattle.image_number.proofs.Choice.{clash, both}
 use Rattle.image_header.specs.Scan.{blocksOf, headerOf}
 use Rattle.command_operands.specs.declared.Command.{Command}
 use Rattle.walk_point.specs.declared.Point.{Point}
-use Rattle.state.specs.State.{runs, halted, task, taskAt}
+use Rattle.state.specs.State.{runs, halted, taskWith, taskAt}
 use Rattle.state.specs.GoodState.{GoodState, GoodWait}
 use Rattle.state.specs.declared.Task.{Task}
 use Rattle.state.specs.declared.Values.{Values}
@@ -68,8 +68,8 @@ no-turns model _ _ GoodWait.none e = refl
 no-turns model _ _ (GoodWait.pending l m d) e = absurd (omega arith)
 
 -- so that halting changes the status alone
-status-alone : (k : Task) → k .time ≡ 0 → k .turns ≡ 0 → stopped halted k ≡ withStatus halted k
-status-alone k e f = λ ι. task halted (k .block) (k .start) (k .depth) (k .stack) (sym e ι) (sym f ι)
+status-alone : (task : Task) → task .time ≡ 0 → task .turns ≡ 0 → stopped halted task ≡ withStatus halted task
+status-alone task e f = λ ι. taskWith halted (task .block) (task .start) (task .depth) (task .stack) (sym e ι) (sym f ι)
 
 -- ---- an outcome is a halt, or is answered 0
 

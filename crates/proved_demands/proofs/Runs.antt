@@ -95,26 +95,26 @@ refused-stays image s x =
     effect = effectOf (x .levels) (contextOf s (taskAt s (x .task)) x) (commandAt (blocksOf image) (taskAt s (x .task) .block)) (s .values)
 
 -- the reference machine never says that the image differs
-reply-same : (o : Outcome) (t : ℕ) (k : Thread) → differs (replies o t k) ≡ false
-reply-same outcome.GoOn t k = refl
-reply-same (outcome.Stay time turns) t k = refl
-reply-same (outcome.Jump a) t k = refl
-reply-same (outcome.Call a) t k = refl
-reply-same outcome.Return t k = refl
-reply-same (outcome.Start u a) t k = refl
-reply-same outcome.Restart t k = refl
-reply-same outcome.End t k = refl
-reply-same (outcome.Halt n) t k = refl
+reply-same : (o : Outcome) (t : ℕ) (thread : Thread) → differs (replies o t thread) ≡ false
+reply-same outcome.GoOn t thread = refl
+reply-same (outcome.Stay time turns) t thread = refl
+reply-same (outcome.Jump a) t thread = refl
+reply-same (outcome.Call a) t thread = refl
+reply-same outcome.Return t thread = refl
+reply-same (outcome.Start u a) t thread = refl
+reply-same outcome.Restart t thread = refl
+reply-same outcome.End t thread = refl
+reply-same (outcome.Halt n) t thread = refl
 
 turn-same : (image : List ℕ) (m : Machine) (x : Inputs) → differs (referenceStep image m x .answer) ≡ false
 unfolding referenceStep acts tries does
 turn-same image m x =
     either Same (ltb 2 (x .task)) refl
     (either Same (eqb (length (x .levels)) 256)
-    (either Same (k .runs)
-    (either Same (ltb (k .block) (headerOf image .header .count))
-    (either Same (rowOf (commandAt (blocksOf image) (k .block) .code) .carried)
-    (either Same (lost (effect .outcome) (k .returns)) refl (reply-same (effect .outcome) (x .task) k)) refl)
+    (either Same (thread .runs)
+    (either Same (ltb (thread .block) (headerOf image .header .count))
+    (either Same (rowOf (commandAt (blocksOf image) (thread .block) .code) .carried)
+    (either Same (lost (effect .outcome) (thread .returns)) refl (reply-same (effect .outcome) (x .task) thread)) refl)
     refl)
     refl)
     refl)
@@ -122,8 +122,8 @@ turn-same image m x =
     Same : ReferenceOut → Type 0
     Same d = differs (d .answer) ≡ false
 
-    k : Thread
-    k = getD (m .threads) (x .task) idle
+    thread : Thread
+    thread = getD (m .threads) (x .task) idle
 
     effect : Effect
     effect =
@@ -132,10 +132,10 @@ turn-same image m x =
           drive = headerOf image .header .drive;
           start = level (x .start);
           reached = level (x .reached);
-          time = k .time;
-          turns = k .turns;
+          time = thread .time;
+          turns = thread .turns;
         })
-        (commandAt (blocksOf image) (k .block)) (m .values)
+        (commandAt (blocksOf image) (thread .block)) (m .values)
 
 -- ---- a list of steps
 

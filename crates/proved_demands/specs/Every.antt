@@ -8,7 +8,7 @@ use mathlib.Core.List.{List}
 use lib.ListN.{length, set}
 use Rattle.limits.specs.Limits.{taskCount, inputsLength}
 use Rattle.num_le.specs.LittleEndian.{Bytes}
-use Rattle.state.specs.State.{runs, halted, task, taskAt}
+use Rattle.state.specs.State.{runs, halted, taskWith, taskAt}
 use Rattle.state.specs.declared.Task.{Task}
 use Rattle.state.specs.declared.State.{State}
 use Rattle.state_layout.specs.Layout.{decoded, encoded}
@@ -28,7 +28,7 @@ use Rattle.bias.specs.Step.{stepped}
 
 -- block, start, call stack and wait stay
 abbrev pub withStatus : ℕ → Task → Task
-withStatus status k = task status (k .block) (k .start) (k .depth) (k .stack) (k .time) (k .turns)
+withStatus status task = taskWith status (task .block) (task .start) (task .depth) (task .stack) (task .time) (task .turns)
 
 -- the task is halted, a BIAS step has noted the start level, and nothing else has changed
 abbrev pub haltedState : State → Inputs → State

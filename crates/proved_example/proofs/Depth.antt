@@ -10,7 +10,7 @@ use Rattle.limits.specs.Limits.{bias, taskCount, mostDepth, inputsLength}
 use Rattle.image_header.specs.GoodHeader.{GoodHeader}
 use Rattle.image_header.specs.declared.Header.{Header}
 use Rattle.num_le.specs.LittleEndian.{Bytes}
-use Rattle.state.specs.State.{runs, task, emptyStack, neverStarted, freshValues, fresh, taskAt}
+use Rattle.state.specs.State.{runs, taskWith, emptyStack, neverStarted, freshValues, fresh, taskAt}
 use Rattle.state.specs.GoodState.{GoodTask, GoodWait, GoodState}
 use Rattle.state.specs.declared.State.{State}
 use Rattle.state.proofs.Fresh.{getD-replicate, values-good, fresh-good}
@@ -51,7 +51,7 @@ module _ (h : Header) (g : GoodHeader h) where
   fiveDeep = record {
     values = freshValues;
     header = h;
-    tasks = task runs (h .start) (h .start) 5 emptyStack 0 0 ∷ neverStarted ∷ neverStarted ∷ [];
+    tasks = taskWith runs (h .start) (h .start) 5 emptyStack 0 0 ∷ neverStarted ∷ neverStarted ∷ [];
   }
 
   good : GoodState fiveDeep

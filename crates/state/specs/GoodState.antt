@@ -26,15 +26,15 @@ pub data GoodWait (model : ℕ) : ℕ → ℕ → Type 0 where
   pending : {time turns : ℕ} → 0 < time → time ≤ longestWait → due model time turns ≡ false → GoodWait model time turns
 
 -- a task: block and start in the image; the call stack's entries under the depth too, and those above it 0
-pub record GoodTask (h : Header) (k : Task) : Type 0 where
-  pub status : k .status ≤ halted
-  pub block : k .block < h .count
-  pub start : k .start < h .count
-  pub depth : k .depth ≤ mostDepth
-  pub long : length (k .stack) ≡ mostDepth
-  pub under : (i : ℕ) → i < k .depth → getD (k .stack) i 0 < h .count
-  pub above : (i : ℕ) → k .depth ≤ i → getD (k .stack) i 0 ≡ 0
-  pub wait : GoodWait (h .drive .model) (k .time) (k .turns)
+pub record GoodTask (h : Header) (task : Task) : Type 0 where
+  pub status : task .status ≤ halted
+  pub block : task .block < h .count
+  pub start : task .start < h .count
+  pub depth : task .depth ≤ mostDepth
+  pub long : length (task .stack) ≡ mostDepth
+  pub under : (i : ℕ) → i < task .depth → getD (task .stack) i 0 < h .count
+  pub above : (i : ℕ) → task .depth ≤ i → getD (task .stack) i 0 ≡ 0
+  pub wait : GoodWait (h .drive .model) (task .time) (task .turns)
 
 -- a parameter from 1 up to its most
 pub record InRange (most n : ℕ) : Type 0 where

@@ -29,20 +29,20 @@ halted = 3
 abbrev pub emptyStack : List ℕ
 emptyStack = replicate mostDepth 0
 
-abbrev pub task : ℕ → ℕ → ℕ → ℕ → List ℕ → ℕ → ℕ → Task
-task status block start depth stack time turns =
+abbrev pub taskWith : ℕ → ℕ → ℕ → ℕ → List ℕ → ℕ → ℕ → Task
+taskWith status block start depth stack time turns =
     record { status = status; block = block; start = start; depth = depth; stack = stack; time = time; turns = turns }
 
 abbrev pub neverStarted : Task
-neverStarted = task never 0 0 0 emptyStack 0 0
+neverStarted = taskWith never 0 0 0 emptyStack 0 0
 
 -- past the array's end there is this: all 0, and no stack
 abbrev pub noTask : Task
-noTask = task never 0 0 0 [] 0 0
+noTask = taskWith never 0 0 0 [] 0 0
 
 -- begun at a block, which is its start block too, with an empty call stack and no wait
 abbrev pub running : ℕ → Task
-running a = task runs a a 0 emptyStack 0 0
+running a = taskWith runs a a 0 emptyStack 0 0
 
 -- ---- as load leaves it
 

@@ -120,16 +120,16 @@ fn put_starts(b: &mut [u8; STATE_LENGTH], plc: u16, mathematics: u16)
 }
 
 // A task's record, from a place on.
-fn put_task(b: &mut [u8; STATE_LENGTH], at: u16, k: Task)
+fn put_task(b: &mut [u8; STATE_LENGTH], at: u16, task: Task)
     requires { ⌜ at + taskLength ≤ stateLength ⌝ }
-    ensures { λ _. ⌜ now (b .exit) ≡ puts (now (b .entry)) at (taskBytes k) ⌝ }
+    ensures { λ _. ⌜ now (b .exit) ≡ puts (now (b .entry)) at (taskBytes task) ⌝ }
 {
-    state_bytes::put_byte(b, at, k.status);
-    state_bytes::put_byte(b, at + 1, k.depth);
-    state_bytes::put_word(b, at + 2, k.block);
-    put_stack(b, at + state_layout::STACK_AT, &k.stack);
-    state_bytes::put_long(b, at + state_layout::TIME_AT, k.time);
-    state_bytes::put_long(b, at + state_layout::TURNS_AT, k.turns);
+    state_bytes::put_byte(b, at, task.status);
+    state_bytes::put_byte(b, at + 1, task.depth);
+    state_bytes::put_word(b, at + 2, task.block);
+    put_stack(b, at + state_layout::STACK_AT, &task.stack);
+    state_bytes::put_long(b, at + state_layout::TIME_AT, task.time);
+    state_bytes::put_long(b, at + state_layout::TURNS_AT, task.turns);
 }
 
 fn put_stack(b: &mut [u8; STATE_LENGTH], at: u16, stack: &[u16; STACK_LENGTH])

@@ -100,15 +100,15 @@ fn levels_are(levels: &[u8; CELLS]) -> bool
 }
 
 // Status, block and start, depth, call stack and wait of a task.
-fn task_is(h: Header, k: Task) -> bool
-    ensures { λ r. ⌜ r ≡ taskIs h k ⌝ }
+fn task_is(h: Header, task: Task) -> bool
+    ensures { λ r. ⌜ r ≡ taskIs h task ⌝ }
 {
-    (k.status <= state::HALTED)
-        & ((k.block < h.count)
-            & ((k.start < h.count)
-                & ((k.depth <= limits::MOST_DEPTH)
-                    & (stack_is(h.count, k.depth as usize, &k.stack)
-                        & wait_is(h.drive, k.time, k.turns)))))
+    (task.status <= state::HALTED)
+        & ((task.block < h.count)
+            & ((task.start < h.count)
+                & ((task.depth <= limits::MOST_DEPTH)
+                    & (stack_is(h.count, task.depth as usize, &task.stack)
+                        & wait_is(h.drive, task.time, task.turns)))))
 }
 
 fn stack_is(count: u16, depth: usize, stack: &[u16; STACK_LENGTH]) -> bool

@@ -154,21 +154,21 @@ stack-has b at bytes =
     subst (λ (v : ℕ). Has b (at + 2 * k) (leBytes 2 v)) (sym (getD-table mostDepth (λ (j : ℕ). leNumberAt 2 b (at + 2 * j)) 0 k lt))
     (of-number 2 b (at + 2 * k) bytes))
 
-pub parts-long : (k : Task) → lens (taskParts k) ≡ taskLengths
-parts-long k = let s = stack-long (k .stack) in λ ι. 1 ∷ 1 ∷ 2 ∷ s ι ∷ 4 ∷ 4 ∷ []
+pub parts-long : (task : Task) → lens (taskParts task) ≡ taskLengths
+parts-long task = let s = stack-long (task .stack) in λ ι. 1 ∷ 1 ∷ 2 ∷ s ι ∷ 4 ∷ 4 ∷ []
 
-pub task-long : (k : Task) → length (taskBytes k) ≡ taskLength
-task-long k = length-joined (taskParts k) taskLengths (parts-long k)
+pub task-long : (task : Task) → length (taskBytes task) ≡ taskLength
+task-long task = length-joined (taskParts task) taskLengths (parts-long task)
 
-pub task-back : (l : List ℕ) (at : ℕ) (k : Task) (start : ℕ) → start ≡ k .start → TaskFits k → Has l at (taskBytes k) → taskIn l at start ≡ k
-task-back l at k start e f x =
-    let place = section (taskParts k) taskLengths (parts-long k) x in
-    let status = number 1 (k .status) (f .status) (moved (at + 0) at (omega arith) (place 0 (omega arith))) in
-    let depth = number 1 (k .depth) (f .depth) (place 1 (omega arith)) in
-    let block = number 2 (k .block) (f .block) (place 2 (omega arith)) in
-    let stack = stack-back l (at + taskPart 3) (k .stack) (f .long) (f .entry) (place 3 (omega arith)) in
-    let time = number 4 (k .time) (f .time) (place 4 (omega arith)) in
-    let turns = number 4 (k .turns) (f .turns) (place 5 (omega arith)) in
+pub task-back : (l : List ℕ) (at : ℕ) (task : Task) (start : ℕ) → start ≡ task .start → TaskFits task → Has l at (taskBytes task) → taskIn l at start ≡ task
+task-back l at task start e f x =
+    let place = section (taskParts task) taskLengths (parts-long task) x in
+    let status = number 1 (task .status) (f .status) (moved (at + 0) at (omega arith) (place 0 (omega arith))) in
+    let depth = number 1 (task .depth) (f .depth) (place 1 (omega arith)) in
+    let block = number 2 (task .block) (f .block) (place 2 (omega arith)) in
+    let stack = stack-back l (at + taskPart 3) (task .stack) (f .long) (f .entry) (place 3 (omega arith)) in
+    let time = number 4 (task .time) (f .time) (place 4 (omega arith)) in
+    let turns = number 4 (task .turns) (f .turns) (place 5 (omega arith)) in
     λ ι.
     record { status = status ι; block = block ι; start = e ι; depth = depth ι; stack = stack ι; time = time ι; turns = turns ι }
 

@@ -73,59 +73,59 @@ wait-judged m time turns (GoodWait.pending a b e) = second (eqb time 0 && eqb tu
 
 -- ---- tasks
 
-module _ (h : Header) (k : Task) where
-  entry-judged : GoodTask h k → (i : ℕ) → entryIs (h .count) (k .depth) i (getD (k .stack) i 0) ≡ true
+module _ (h : Header) (task : Task) where
+  entry-judged : GoodTask h task → (i : ℕ) → entryIs (h .count) (task .depth) i (getD (task .stack) i 0) ≡ true
   entry-judged g i =
-      let x : ℕ = getD (k .stack) i 0 in
-      by i (k .depth)
-      (λ c. first (ltb i (k .depth) && ltb x (h .count)) (leb (k .depth) i && eqb x 0) (rw (lt-ltb i (k .depth) c, lt-ltb x (h .count) (g .under i c))))
-      (λ c. second (ltb i (k .depth) && ltb x (h .count)) (leb (k .depth) i && eqb x 0) (rw (le-leb (k .depth) i c, eq-eqb x 0 (g .above i c))))
+      let x : ℕ = getD (task .stack) i 0 in
+      by i (task .depth)
+      (λ c. first (ltb i (task .depth) && ltb x (h .count)) (leb (task .depth) i && eqb x 0) (rw (lt-ltb i (task .depth) c, lt-ltb x (h .count) (g .under i c))))
+      (λ c. second (ltb i (task .depth) && ltb x (h .count)) (leb (task .depth) i && eqb x 0) (rw (le-leb (task .depth) i c, eq-eqb x 0 (g .above i c))))
 
-  module _ (i : ℕ) (e : entryIs (h .count) (k .depth) i (getD (k .stack) i 0) ≡ true) where
-    ways : ((ltb i (k .depth) && ltb (getD (k .stack) i 0) (h .count)) ≡ true) ⊎ ((leb (k .depth) i && eqb (getD (k .stack) i 0) 0) ≡ true)
-    ways = one (ltb i (k .depth) && ltb (getD (k .stack) i 0) (h .count)) (leb (k .depth) i && eqb (getD (k .stack) i 0) 0) e
+  module _ (i : ℕ) (e : entryIs (h .count) (task .depth) i (getD (task .stack) i 0) ≡ true) where
+    ways : ((ltb i (task .depth) && ltb (getD (task .stack) i 0) (h .count)) ≡ true) ⊎ ((leb (task .depth) i && eqb (getD (task .stack) i 0) 0) ≡ true)
+    ways = one (ltb i (task .depth) && ltb (getD (task .stack) i 0) (h .count)) (leb (task .depth) i && eqb (getD (task .stack) i 0) 0) e
 
-    under-depth : i < k .depth → getD (k .stack) i 0 < h .count
+    under-depth : i < task .depth → getD (task .stack) i 0 < h .count
     under-depth l =
-        ⊎-elim (λ c. ltb-true (getD (k .stack) i 0) (h .count) (both (ltb i (k .depth)) _ c .1))
-        (λ c. let z = leb-true (k .depth) i (both (leb (k .depth) i) _ c .0) in absurd (omega arith))
+        ⊎-elim (λ c. ltb-true (getD (task .stack) i 0) (h .count) (both (ltb i (task .depth)) _ c .1))
+        (λ c. let z = leb-true (task .depth) i (both (leb (task .depth) i) _ c .0) in absurd (omega arith))
         ways
 
-    above-depth : k .depth ≤ i → getD (k .stack) i 0 ≡ 0
+    above-depth : task .depth ≤ i → getD (task .stack) i 0 ≡ 0
     above-depth l =
-        ⊎-elim (λ c. let z = ltb-true i (k .depth) (both (ltb i (k .depth)) _ c .0) in absurd (omega arith))
-        (λ c. eqb-true (getD (k .stack) i 0) 0 (both (leb (k .depth) i) _ c .1))
+        ⊎-elim (λ c. let z = ltb-true i (task .depth) (both (ltb i (task .depth)) _ c .0) in absurd (omega arith))
+        (λ c. eqb-true (getD (task .stack) i 0) 0 (both (leb (task .depth) i) _ c .1))
         ways
 
-  judged-task : length (k .stack) ≡ mostDepth → taskIs h k ≡ true → GoodTask h k
+  judged-task : length (task .stack) ≡ mostDepth → taskIs h task ≡ true → GoodTask h task
   judged-task long e =
-      let r1 = both (leb (k .status) halted) _ e in
-      let r2 = both (ltb (k .block) (h .count)) _ (r1 .1) in
-      let r3 = both (ltb (k .start) (h .count)) _ (r2 .1) in
-      let r4 = both (leb (k .depth) mostDepth) _ (r3 .1) in
-      let r5 = both (allOf (entryIs (h .count) (k .depth)) (k .stack) mostDepth) _ (r4 .1) in
-      let d = leb-true (k .depth) mostDepth (r4 .0) in
-      let entry = all-true (entryIs (h .count) (k .depth)) (k .stack) mostDepth (r5 .0) in
+      let r1 = both (leb (task .status) halted) _ e in
+      let r2 = both (ltb (task .block) (h .count)) _ (r1 .1) in
+      let r3 = both (ltb (task .start) (h .count)) _ (r2 .1) in
+      let r4 = both (leb (task .depth) mostDepth) _ (r3 .1) in
+      let r5 = both (allOf (entryIs (h .count) (task .depth)) (task .stack) mostDepth) _ (r4 .1) in
+      let d = leb-true (task .depth) mostDepth (r4 .0) in
+      let entry = all-true (entryIs (h .count) (task .depth)) (task .stack) mostDepth (r5 .0) in
       record {
-        status = leb-true (k .status) halted (r1 .0);
-        block = ltb-true (k .block) (h .count) (r2 .0);
-        start = ltb-true (k .start) (h .count) (r3 .0);
+        status = leb-true (task .status) halted (r1 .0);
+        block = ltb-true (task .block) (h .count) (r2 .0);
+        start = ltb-true (task .start) (h .count) (r3 .0);
         depth = d;
         long = long;
         under = λ i l. under-depth i (entry i (omega arith)) l;
-        above = λ i l. by i mostDepth (λ c. above-depth i (entry i c) l) (λ c. List·getD-eq-default (k .stack) 0 {n = i} (omega arith));
-        wait = judged-wait (h .drive .model) (k .time) (k .turns) (r5 .1);
+        above = λ i l. by i mostDepth (λ c. above-depth i (entry i c) l) (λ c. List·getD-eq-default (task .stack) 0 {n = i} (omega arith));
+        wait = judged-wait (h .drive .model) (task .time) (task .turns) (r5 .1);
       }
 
-  task-judged : GoodTask h k → taskIs h k ≡ true
+  task-judged : GoodTask h task → taskIs h task ≡ true
   task-judged g =
       rw (
-        le-leb (k .status) halted (g .status),
-        lt-ltb (k .block) (h .count) (g .block),
-        lt-ltb (k .start) (h .count) (g .start),
-        le-leb (k .depth) mostDepth (g .depth),
-        true-all (entryIs (h .count) (k .depth)) (k .stack) mostDepth (λ i lt. entry-judged g i),
-        wait-judged (h .drive .model) (k .time) (k .turns) (g .wait),
+        le-leb (task .status) halted (g .status),
+        lt-ltb (task .block) (h .count) (g .block),
+        lt-ltb (task .start) (h .count) (g .start),
+        le-leb (task .depth) mostDepth (g .depth),
+        true-all (entryIs (h .count) (task .depth)) (task .stack) mostDepth (λ i lt. entry-judged g i),
+        wait-judged (h .drive .model) (task .time) (task .turns) (g .wait),
       )
 
 -- ---- values

@@ -123,17 +123,17 @@ abbrev pub taskPart : ℕ → ℕ
 taskPart k = offset taskLengths k
 
 abbrev pub taskParts : Task → List (List ℕ)
-taskParts k =
-    leBytes 1 (k .status)
-    ∷ leBytes 1 (k .depth)
-    ∷ leBytes 2 (k .block)
-    ∷ stackBytes (k .stack)
-    ∷ leBytes 4 (k .time)
-    ∷ leBytes 4 (k .turns)
+taskParts task =
+    leBytes 1 (task .status)
+    ∷ leBytes 1 (task .depth)
+    ∷ leBytes 2 (task .block)
+    ∷ stackBytes (task .stack)
+    ∷ leBytes 4 (task .time)
+    ∷ leBytes 4 (task .turns)
     ∷ []
 
 abbrev pub taskBytes : Task → List ℕ
-taskBytes k = joined (taskParts k)
+taskBytes task = joined (taskParts task)
 
 -- with its start
 abbrev pub taskIn : List ℕ → ℕ → ℕ → Task

@@ -34,9 +34,9 @@ abbrev pub entryIs : ℕ → ℕ → ℕ → ℕ → Bool
 entryIs count depth i b = (ltb i depth && ltb b count) || (leb depth i && eqb b 0)
 
 abbrev pub taskIs : Header → Task → Bool
-taskIs h k =
-    leb (k .status) halted && (ltb (k .block) (h .count) && (ltb (k .start) (h .count) && (leb (k .depth) mostDepth
-    && (allOf (entryIs (h .count) (k .depth)) (k .stack) mostDepth && waitIs (h .drive .model) (k .time) (k .turns)))))
+taskIs h task =
+    leb (task .status) halted && (ltb (task .block) (h .count) && (ltb (task .start) (h .count) && (leb (task .depth) mostDepth
+    && (allOf (entryIs (h .count) (task .depth)) (task .stack) mostDepth && waitIs (h .drive .model) (task .time) (task .turns)))))
 
 abbrev pub levelIs : ℕ → ℕ → Bool
 levelIs i x = leb x mostLevel

@@ -15,5 +15,5 @@ performed-spec =
     (λ c κs. tt)
     (λ c.
     let a = c .before .before .before .before .before .before .args in
-    together (a .state) (a .t) (a .start) (a .k) (a .e) _ _ _ (c .before .before .before .before .noted .ensures) (c .before .before .after .ensures)
+    together (a .state) (a .t) (a .start) (a .task) (a .e) _ _ _ (c .before .before .before .before .noted .ensures) (c .before .before .after .ensures)
     (c .answer-to .ensures ∙ ap (answerTo (a .e .outcome)) (c .before .point-of .ensures))))

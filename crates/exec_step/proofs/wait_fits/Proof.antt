@@ -16,4 +16,4 @@ wait-fits-spec =
     (λ c κs. tt)
     (λ c.
     let a = c .before .before .before .before .args in
-    ap₂ _||_ (not-not (eqb (a .k .time) 0)) (c .is-wait .ensures ∙ ap (λ (k : Command). isWait (k .code)) (c .before .before .command-here .ensures))))
+    ap₂ _||_ (not-not (eqb (a .task .time) 0)) (c .is-wait .ensures ∙ ap (λ (k : Command). isWait (k .code)) (c .before .before .command-here .ensures))))

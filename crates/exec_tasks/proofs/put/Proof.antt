@@ -12,4 +12,4 @@ put-spec =
     (λ c. search needs)
     (λ c. search needs)
     (λ c. search needs)
-    (λ c. let a = c .before .args in set-past (a .t1) (a .t) (a .k) (omega arith)))
+    (λ c. let a = c .before .args in set-past (a .t1) (a .t) (a .task) (omega arith)))

@@ -22,7 +22,7 @@ use Rattle.state.specs.declared.Values.{Values}
 use Rattle.state.specs.declared.State.{State}
 use Rattle.machine.specs.Inputs.{Inputs}
 use Rattle.machine.specs.Engine.{step, pointOf, noted, stopped, blockFits}
-use Rattle.machine.specs.Reference.{Thread, Machine, ReferenceOut, thread, idle}
+use Rattle.machine.specs.Reference.{Thread, Machine, ReferenceOut, threadAt, idle}
 use Rattle.machine.specs.Alike.{returnsOf, SameTask, SameValues, Alike}
 use Rattle.machine.specs.Run.{SameHanded, Permitted}
 use Rattle.machine.specs.StepRule.{Calls, callsAfter, commandOf, executed, Behind, Reason, Stopped, StepRule, EachStep}
@@ -56,11 +56,11 @@ values-are v w e = λ ι. record {
 
 -- a running task, as the reference machine would have it
 abbrev pub threadFor : Task → Thread
-threadFor k = thread (k .block) (k .start) (k .time) (k .turns) (returnsOf (k .stack) (k .depth))
+threadFor k = threadAt (k .block) (k .start) (k .time) (k .turns) (returnsOf (k .stack) (k .depth))
 
-pub thread-is : (k : Task) (p : Thread) → SameTask k p → k .status ≡ runs → p ≡ threadFor k
-thread-is k p e r = λ ι. record {
-  runs = (sym (e .running) ∙ eq-eqb (k .status) runs r) ι;
+pub thread-is : (task : Task) (p : Thread) → SameTask task p → task .status ≡ runs → p ≡ threadFor task
+thread-is task p e r = λ ι. record {
+  runs = (sym (e .running) ∙ eq-eqb (task .status) runs r) ι;
   block = sym (e .block r) ι;
   start = sym (e .start r) ι;
   time = sym (e .time r) ι;
@@ -68,8 +68,8 @@ thread-is k p e r = λ ι. record {
   returns = sym (e .returns r) ι;
 }
 
-pub both-run : (k : Task) (p : Thread) → SameTask k p → p .runs ≡ true → k .status ≡ runs
-both-run k p e r = eqb-true (k .status) runs (e .running ∙ r)
+pub both-run : (task : Task) (p : Thread) → SameTask task p → p .runs ≡ true → task .status ≡ runs
+both-run task p e r = eqb-true (task .status) runs (e .running ∙ r)
 
 pub alike-is : (s : State) (m : Machine) → Alike s m
     → (s .values ≡ m .values) × ((t : ℕ) → t < taskCount → taskAt s t .status ≡ runs → getD (m .threads) t idle ≡ threadFor (taskAt s t))
@@ -77,13 +77,13 @@ alike-is s m e = (values-are (s .values) (m .values) (e .values), λ t l r. thre
 
 -- ---- part 3: what is permitted passes the engine's own tests of a block
 
-pub permitted-fits : (image : List ℕ) (t : ℕ) (k : Task) → Permitted image t k → blockFits (termsOf image) (blocksOf image) t k ≡ true
-permitted-fits image t k p =
+pub permitted-fits : (image : List ℕ) (t : ℕ) (task : Task) → Permitted image t task → blockFits (termsOf image) (blocksOf image) t task ≡ true
+permitted-fits image t task p =
     let e = ap (λ (f : Fault). eqb (faultNumber f) 0) (p .fine) in
     λ ι. eqb (p .sound ι) 0 && e ι
 
-pub permitted-at : (image : List ℕ) (t : ℕ) (k : Task) → Permitted image t k → (k .block < headerOf image .header .count) × (k .depth ≤ mostDepth)
-permitted-at image t k p = (p .block, p .depth)
+pub permitted-at : (image : List ℕ) (t : ℕ) (task : Task) → Permitted image t task → (task .block < headerOf image .header .count) × (task .depth ≤ mostDepth)
+permitted-at image t task p = (p .block, p .depth)
 
 -- ---- parts 4 to 6
 

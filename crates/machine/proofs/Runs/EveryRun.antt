@@ -12,7 +12,7 @@ use Rattle.state.specs.declared.Values.{Values}
 use Rattle.state.specs.declared.State.{State}
 use Rattle.machine.specs.Inputs.{Inputs}
 use Rattle.machine.specs.Engine.{step, pointOf}
-use Rattle.machine.specs.Reference.{Machine, referenceStep, referenceLoaded, idle, thread}
+use Rattle.machine.specs.Reference.{Machine, referenceStep, referenceLoaded, idle, threadAt}
 use Rattle.machine.specs.Alike.{SameTask, SameValues, Alike}
 use Rattle.machine.specs.Run.{outs, stateAfter, referenceOuts, machineAfter, SameHanded, Permitted}
 use Rattle.machine.specs.StepRule.{Calls, noCalls, callsAfter, EachStep}
@@ -43,7 +43,7 @@ values-same v w e = rw e (record {
 
 module _ (image : List ℕ) where
   -- the fresh states agree
-  first-same : SameTask (running (hd image .header .start)) (thread (hd image .header .start) (hd image .header .start) 0 0 [])
+  first-same : SameTask (running (hd image .header .start)) (threadAt (hd image .header .start) (hd image .header .start) 0 0 [])
   first-same = record { running = refl; block = λ _. refl; returns = λ _. refl; start = λ _. refl; time = λ _. refl; turns = λ _. refl }
 
   idle-same : SameTask neverStarted idle
@@ -81,7 +81,7 @@ module _ (image : List ℕ) where
 
       same : (t : ℕ) → t < taskCount
           → SameTask (getD (running (hd image .header .start) ∷ neverStarted ∷ neverStarted ∷ []) t noTask)
-          (getD (thread (hd image .header .start) (hd image .header .start) 0 0 [] ∷ idle ∷ idle ∷ []) t idle)
+          (getD (threadAt (hd image .header .start) (hd image .header .start) 0 0 [] ∷ idle ∷ idle ∷ []) t idle)
       same zero l = first-same
       same (suc zero) l = idle-same
       same (suc (suc zero)) l = idle-same

@@ -25,16 +25,16 @@ use Rattle.machine.proofs.Steps.Notes.{noted-alike}
 use Rattle.machine.proofs.Steps.Cases.{Agree, Ran, Case, effectHere, threadOf, step-case}
 
 -- both answer alike
-answers-same : (o : Outcome) (t : ℕ) (k : Task) (p : Thread) → k .block ≡ p .block → k .depth ≡ length (p .returns) → answerTo o (pointOf t k) ≡ replies o t p
-answers-same GoOn t k p e f = refl
-answers-same (Stay time turns) t k p e f = refl
-answers-same (Jump a) t k p e f = refl
-answers-same (Call a) t k p e f = refl
-answers-same Return t k p e f = refl
-answers-same (Start u a) t k p e f = refl
-answers-same Restart t k p e f = refl
-answers-same End t k p e f = refl
-answers-same (Halt q) t k p e f = rw (e, f)
+answers-same : (o : Outcome) (t : ℕ) (task : Task) (p : Thread) → task .block ≡ p .block → task .depth ≡ length (p .returns) → answerTo o (pointOf t task) ≡ replies o t p
+answers-same GoOn t task p e f = refl
+answers-same (Stay time turns) t task p e f = refl
+answers-same (Jump a) t task p e f = refl
+answers-same (Call a) t task p e f = refl
+answers-same Return t task p e f = refl
+answers-same (Start u a) t task p e f = refl
+answers-same Restart t task p e f = refl
+answers-same End t task p e f = refl
+answers-same (Halt q) t task p e f = rw (e, f)
 
 module _ (image : List ℕ) where
   pub record SameStep (o : StepOut) (d : ReferenceOut) : Type 0 where

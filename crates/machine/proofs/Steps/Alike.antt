@@ -10,7 +10,7 @@ use borrow.Author.Tests.{ne-eqb}
 use Rattle.state.specs.State.{runs}
 use Rattle.state.specs.declared.Task.{Task}
 use Rattle.machine.specs.Engine.{goTo, stayWith, callTo, returnFrom, startAnew, restarted, stopped}
-use Rattle.machine.specs.Reference.{Thread, thread, off, goesTo, back, anew, idle}
+use Rattle.machine.specs.Reference.{Thread, threadAt, off, goesTo, back, anew, idle}
 use Rattle.machine.specs.Alike.{returnsOf, SameTask}
 
 -- a store above the depth changes no entry that counts
@@ -25,39 +25,39 @@ pub returns-return : (stack : List ℕ) (d : ℕ) → (d ≡ 0 → ⊥) → retu
 returns-return stack zero n = absurd (n refl)
 returns-return stack (suc d) n = let e : suc d - 1 ≡ d = omega arith in rw e
 
-module _ (k : Task) (p : Thread) (s : SameTask k p) (r : k .status ≡ runs) where
-  pub go-same : (b c : ℕ) → b ≡ c → SameTask (goTo b k) (goesTo c p)
+module _ (task : Task) (p : Thread) (s : SameTask task p) (r : task .status ≡ runs) where
+  pub go-same : (b c : ℕ) → b ≡ c → SameTask (goTo b task) (goesTo c p)
   go-same b c e = record { running = refl; block = λ _. e; returns = λ _. s .returns r; start = λ _. s .start r; time = λ _. refl; turns = λ _. refl }
 
-  pub stay-same : (time turns : ℕ) → SameTask (stayWith time turns k) (thread (p .block) (p .start) time turns (p .returns))
+  pub stay-same : (time turns : ℕ) → SameTask (stayWith time turns task) (threadAt (p .block) (p .start) time turns (p .returns))
   stay-same time turns =
       record { running = refl; block = λ _. s .block r; returns = λ _. s .returns r; start = λ _. s .start r; time = λ _. refl; turns = λ _. refl }
 
-  pub call-same : (a : ℕ) → k .depth < length (k .stack) → SameTask (callTo a k) (thread a (p .start) 0 0 ((p .block + 1) ∷ p .returns))
+  pub call-same : (a : ℕ) → task .depth < length (task .stack) → SameTask (callTo a task) (threadAt a (p .start) 0 0 ((p .block + 1) ∷ p .returns))
   call-same a l = record {
     running = refl;
     block = λ _. refl;
-    returns = λ _. returns-call (k .stack) (k .depth) (k .block + 1) l ∙ rw (s .block r, s .returns r) refl;
+    returns = λ _. returns-call (task .stack) (task .depth) (task .block + 1) l ∙ rw (s .block r, s .returns r) refl;
     start = λ _. s .start r;
     time = λ _. refl;
     turns = λ _. refl;
   }
 
-  pub return-same : (k .depth ≡ 0 → ⊥) → SameTask (returnFrom k) (back p (p .returns))
-  return-same n = rw (sym (s .returns r) ∙ returns-return (k .stack) (k .depth) n)
+  pub return-same : (task .depth ≡ 0 → ⊥) → SameTask (returnFrom task) (back p (p .returns))
+  return-same n = rw (sym (s .returns r) ∙ returns-return (task .stack) (task .depth) n)
       (record {
         running = refl;
         block = λ _. refl;
-        returns = λ _. returns-set (k .stack) (k .depth - 1) (k .depth - 1) 0 (omega arith);
+        returns = λ _. returns-set (task .stack) (task .depth - 1) (task .depth - 1) 0 (omega arith);
         start = λ _. s .start r;
         time = λ _. refl;
         turns = λ _. refl;
       })
 
-  pub restart-same : SameTask (restarted k) (thread (p .start) (p .start) 0 0 [])
+  pub restart-same : SameTask (restarted task) (threadAt (p .start) (p .start) 0 0 [])
   restart-same = record { running = refl; block = λ _. s .start r; returns = λ _. refl; start = λ _. s .start r; time = λ _. refl; turns = λ _. refl }
 
-  pub stop-same : (status : ℕ) → (status ≡ runs → ⊥) → SameTask (stopped status k) (off p)
+  pub stop-same : (status : ℕ) → (status ≡ runs → ⊥) → SameTask (stopped status task) (off p)
   stop-same status n = record {
     running = ne-eqb status runs n;
     block = λ e. absurd (n e);

@@ -57,8 +57,8 @@ use Rattle.machine.proofs.Steps.Cases.{used-carried}
 -- ---- tasks
 
 module _ (h : Header) where
-  module _ (k : Task) (g : GoodTask h k) where
-    go-good : (b : ℕ) → b < h .count → GoodTask h (goTo b k)
+  module _ (own : Task) (g : GoodTask h own) where
+    go-good : (b : ℕ) → b < h .count → GoodTask h (goTo b own)
     go-good b l = record {
       status = omega arith;
       block = l;
@@ -70,7 +70,7 @@ module _ (h : Header) where
       wait = GoodWait.none;
     }
 
-    stay-good : (time turns : ℕ) → GoodWait (h .drive .model) time turns → GoodTask h (stayWith time turns k)
+    stay-good : (time turns : ℕ) → GoodWait (h .drive .model) time turns → GoodTask h (stayWith time turns own)
     stay-good time turns w = record {
       status = omega arith;
       block = g .block;
@@ -82,7 +82,7 @@ module _ (h : Header) where
       wait = w;
     }
 
-    stop-good : (status : ℕ) → status ≤ halted → GoodTask h (stopped status k)
+    stop-good : (status : ℕ) → status ≤ halted → GoodTask h (stopped status own)
     stop-good status l = record {
       status = l;
       block = g .block;
@@ -94,39 +94,39 @@ module _ (h : Header) where
       wait = GoodWait.none;
     }
 
-    call-good : (a : ℕ) → a < h .count → k .block + 1 < h .count → k .depth < mostDepth → GoodTask h (callTo a k)
+    call-good : (a : ℕ) → a < h .count → own .block + 1 < h .count → own .depth < mostDepth → GoodTask h (callTo a own)
     call-good a l n d = record {
       status = omega arith;
       block = l;
       start = g .start;
       depth = omega arith;
-      long = length-set (k .stack) (k .depth) (k .block + 1) ∙ g .long;
-      under = λ i j. entry i j (ℕ-discrete i (k .depth));
-      above = λ i j. getD-set-other (k .stack) (k .depth) i (k .block + 1) 0 (omega arith) ∙ g .above i (omega arith);
+      long = length-set (own .stack) (own .depth) (own .block + 1) ∙ g .long;
+      under = λ i j. entry i j (ℕ-discrete i (own .depth));
+      above = λ i j. getD-set-other (own .stack) (own .depth) i (own .block + 1) 0 (omega arith) ∙ g .above i (omega arith);
       wait = GoodWait.none;
     }
       where
-        entry : (i : ℕ) → i < k .depth + 1 → Dec (i ≡ k .depth) → getD (set (k .stack) (k .depth) (k .block + 1)) i 0 < h .count
-        entry i j (yes e) = let m = g .long in rw (e, getD-set-same (k .stack) (k .depth) (k .block + 1) 0 (omega arith)) n
-        entry i j (no e) = rw (getD-set-other (k .stack) (k .depth) i (k .block + 1) 0 e) (g .under i (omega arith))
+        entry : (i : ℕ) → i < own .depth + 1 → Dec (i ≡ own .depth) → getD (set (own .stack) (own .depth) (own .block + 1)) i 0 < h .count
+        entry i j (yes e) = let m = g .long in rw (e, getD-set-same (own .stack) (own .depth) (own .block + 1) 0 (omega arith)) n
+        entry i j (no e) = rw (getD-set-other (own .stack) (own .depth) i (own .block + 1) 0 e) (g .under i (omega arith))
 
-    return-good : (k .depth ≡ 0 → ⊥) → GoodTask h (returnFrom k)
+    return-good : (own .depth ≡ 0 → ⊥) → GoodTask h (returnFrom own)
     return-good n = let d = g .depth in record {
       status = omega arith;
-      block = g .under (k .depth - 1) (omega arith);
+      block = g .under (own .depth - 1) (omega arith);
       start = g .start;
       depth = omega arith;
-      long = length-set (k .stack) (k .depth - 1) 0 ∙ g .long;
-      under = λ i j. rw (getD-set-other (k .stack) (k .depth - 1) i 0 0 (omega arith)) (g .under i (omega arith));
-      above = λ i j. entry i j (ℕ-discrete i (k .depth - 1));
+      long = length-set (own .stack) (own .depth - 1) 0 ∙ g .long;
+      under = λ i j. rw (getD-set-other (own .stack) (own .depth - 1) i 0 0 (omega arith)) (g .under i (omega arith));
+      above = λ i j. entry i j (ℕ-discrete i (own .depth - 1));
       wait = GoodWait.none;
     }
       where
-        entry : (i : ℕ) → k .depth - 1 ≤ i → Dec (i ≡ k .depth - 1) → getD (set (k .stack) (k .depth - 1) 0) i 0 ≡ 0
-        entry i j (yes e) = let m = g .long in let d = g .depth in rw (e, getD-set-same (k .stack) (k .depth - 1) 0 0 (omega arith)) refl
-        entry i j (no e) = getD-set-other (k .stack) (k .depth - 1) i 0 0 e ∙ g .above i (omega arith)
+        entry : (i : ℕ) → own .depth - 1 ≤ i → Dec (i ≡ own .depth - 1) → getD (set (own .stack) (own .depth - 1) 0) i 0 ≡ 0
+        entry i j (yes e) = let m = g .long in let d = g .depth in rw (e, getD-set-same (own .stack) (own .depth - 1) 0 0 (omega arith)) refl
+        entry i j (no e) = getD-set-other (own .stack) (own .depth - 1) i 0 0 e ∙ g .above i (omega arith)
 
-    restart-good : GoodTask h (restarted k)
+    restart-good : GoodTask h (restarted own)
     restart-good = record {
       status = omega arith;
       block = g .start;
@@ -161,13 +161,13 @@ module _ (h : Header) where
     task : (t : ℕ) → t < taskCount → GoodTask h (getD l t noTask)
     first : getD l bias noTask .start ≡ h .start
 
-  put-good : (l : List Task) (t : ℕ) (k : Task) → GoodTasks l → t < taskCount → GoodTask h k → (t ≡ bias → k .start ≡ h .start) → GoodTasks (set l t k)
-  put-good l t k g i d f =
+  put-good : (l : List Task) (t : ℕ) (own : Task) → GoodTasks l → t < taskCount → GoodTask h own → (t ≡ bias → own .start ≡ h .start) → GoodTasks (set l t own)
+  put-good l t own g i d f =
       let n = g .three in
       record {
-        three = length-set l t k ∙ g .three;
-        task = at-set l noTask t k (λ u q. u < taskCount → GoodTask h q) (omega arith) (λ _. d) (λ u _ j. g .task u j);
-        first = at-set l noTask t k (λ u q. u ≡ bias → q .start ≡ h .start) (omega arith) f (λ u _ e. rw e (g .first)) bias refl;
+        three = length-set l t own ∙ g .three;
+        task = at-set l noTask t own (λ u q. u < taskCount → GoodTask h q) (omega arith) (λ _. d) (λ u _ j. g .task u j);
+        first = at-set l noTask t own (λ u q. u ≡ bias → q .start ≡ h .start) (omega arith) f (λ u _ e. rw e (g .first)) bias refl;
       }
 
 -- ---- bytes

@@ -25,9 +25,9 @@ notes-same t start v = go (eqb t bias)
     go true = refl
     go false = refl
 
-pub noted-alike : (s : State) (x : Inputs) (k : Task) (e : Effect) → performed s x k e .state .values ≡ keeps (x .task) (x .start) (e .values)
+pub noted-alike : (s : State) (x : Inputs) (task : Task) (e : Effect) → performed s x task e .state .values ≡ keeps (x .task) (x .start) (e .values)
 unfolding performed
-noted-alike s x k e = notes-same (x .task) (x .start) (e .values)
+noted-alike s x task e = notes-same (x .task) (x .start) (e .values)
 
 pub refused-alike : (s : State) (a : Answer) → refuse s a .state ≡ s
 refused-alike s a = refl

@@ -112,36 +112,36 @@ follows-count calls l t b i e n _ _ Allows.end = same-count calls l t _ i n refl
 -- ---- tasks after an outcome
 
 -- another task stays, or the outcome starts it
-other-task : (first t : ℕ) (k : Task) (o : Outcome) (l : List Task) (u : ℕ) → (u ≡ t → ⊥)
-    → (getD (tasksAfter first t k o l) u noTask ≡ getD l u noTask) ⊎ ((a : ℕ) × (o ≡ Start u a))
-other-task first t k GoOn l u n = inl (getD-set-other l t u _ noTask n)
-other-task first t k (Stay time turns) l u n = inl (getD-set-other l t u _ noTask n)
-other-task first t k (Jump a) l u n = inl (getD-set-other l t u _ noTask n)
-other-task first t k (Call a) l u n = inl (getD-set-other l t u _ noTask n)
-other-task first t k Return l u n = inl (getD-set-other l t u _ noTask n)
-other-task first t k (Start w a) l u n = go (ℕ-discrete u w)
+other-task : (first t : ℕ) (task : Task) (o : Outcome) (l : List Task) (u : ℕ) → (u ≡ t → ⊥)
+    → (getD (tasksAfter first t task o l) u noTask ≡ getD l u noTask) ⊎ ((a : ℕ) × (o ≡ Start u a))
+other-task first t task GoOn l u n = inl (getD-set-other l t u _ noTask n)
+other-task first t task (Stay time turns) l u n = inl (getD-set-other l t u _ noTask n)
+other-task first t task (Jump a) l u n = inl (getD-set-other l t u _ noTask n)
+other-task first t task (Call a) l u n = inl (getD-set-other l t u _ noTask n)
+other-task first t task Return l u n = inl (getD-set-other l t u _ noTask n)
+other-task first t task (Start w a) l u n = go (ℕ-discrete u w)
   where
-    go : Dec (u ≡ w) → (getD (tasksAfter first t k (Start w a) l) u noTask ≡ getD l u noTask) ⊎ ((a′ : ℕ) × (Start w a ≡ Start u a′))
+    go : Dec (u ≡ w) → (getD (tasksAfter first t task (Start w a) l) u noTask ≡ getD l u noTask) ⊎ ((a′ : ℕ) × (Start w a ≡ Start u a′))
     go (yes e) = inr (a, rw e refl)
-    go (no d) = inl (getD-set-other (set l t (goTo (k .block + 1) k)) w u _ noTask d ∙ getD-set-other l t u _ noTask n)
-other-task first t k Restart l u n = inl (getD-set-other l t u _ noTask n)
-other-task first t k End l u n = inl (getD-set-other l t u _ noTask n)
-other-task first t k (Halt q) l u n = inl (getD-set-other l t u _ noTask n)
+    go (no d) = inl (getD-set-other (set l t (goTo (task .block + 1) task)) w u _ noTask d ∙ getD-set-other l t u _ noTask n)
+other-task first t task Restart l u n = inl (getD-set-other l t u _ noTask n)
+other-task first t task End l u n = inl (getD-set-other l t u _ noTask n)
+other-task first t task (Halt q) l u n = inl (getD-set-other l t u _ noTask n)
 
 -- the step's own task runs on, ends or halts
-own-task : (first t : ℕ) (k : Task) (o : Outcome) (l : List Task) → t < length l → k .status ≡ runs → (getD (tasksAfter first t k o l) t noTask .status ≡ runs → ⊥)
+own-task : (first t : ℕ) (task : Task) (o : Outcome) (l : List Task) → t < length l → task .status ≡ runs → (getD (tasksAfter first t task o l) t noTask .status ≡ runs → ⊥)
     → (o ≡ End) ⊎ ((q : Cause) × (o ≡ Halt q))
-own-task first t k GoOn l i r s = absurd (s (rw (getD-set-same l t (goTo (k .block + 1) k) noTask i) refl))
-own-task first t k (Stay time turns) l i r s = absurd (s (rw (getD-set-same l t (stayWith time turns k) noTask i) refl))
-own-task first t k (Jump a) l i r s = absurd (s (rw (getD-set-same l t (goTo a k) noTask i) refl))
-own-task first t k (Call a) l i r s = absurd (s (rw (getD-set-same l t (callTo a k) noTask i) refl))
-own-task first t k Return l i r s = absurd (s (rw (getD-set-same l t (returnFrom k) noTask i) refl))
-own-task first t k (Start w a) l i r s =
-    absurd (s (kept-set (λ x. x .status ≡ runs) (set l t (goTo (k .block + 1) k)) w (startAnew first w a) noTask refl t
-    (rw (getD-set-same l t (goTo (k .block + 1) k) noTask i) refl)))
-own-task first t k Restart l i r s = absurd (s (rw (getD-set-same l t (restarted k) noTask i) refl))
-own-task first t k End l i r s = inl refl
-own-task first t k (Halt q) l i r s = inr (q, refl)
+own-task first t task GoOn l i r s = absurd (s (rw (getD-set-same l t (goTo (task .block + 1) task) noTask i) refl))
+own-task first t task (Stay time turns) l i r s = absurd (s (rw (getD-set-same l t (stayWith time turns task) noTask i) refl))
+own-task first t task (Jump a) l i r s = absurd (s (rw (getD-set-same l t (goTo a task) noTask i) refl))
+own-task first t task (Call a) l i r s = absurd (s (rw (getD-set-same l t (callTo a task) noTask i) refl))
+own-task first t task Return l i r s = absurd (s (rw (getD-set-same l t (returnFrom task) noTask i) refl))
+own-task first t task (Start w a) l i r s =
+    absurd (s (kept-set (λ x. x .status ≡ runs) (set l t (goTo (task .block + 1) task)) w (startAnew first w a) noTask refl t
+    (rw (getD-set-same l t (goTo (task .block + 1) task) noTask i) refl)))
+own-task first t task Restart l i r s = absurd (s (rw (getD-set-same l t (restarted task) noTask i) refl))
+own-task first t task End l i r s = inl refl
+own-task first t task (Halt q) l i r s = inr (q, refl)
 
 -- ---- the step
 

@@ -21,54 +21,54 @@ use Rattle.machine.specs.Effect.{isSet}
 use Rattle.machine.specs.Engine.{goTo, stayWith, callTo, returnFrom, startAnew, restarted, stopped, pointOf, isWait, waitFits}
 
 module _ (h : Terms) (bs : List ℕ) where
-  pub record Sound (t : ℕ) (k : Task) : Type 0 where
-    pub reach : k .status ≡ runs → Reaches h bs (pointOf t k)
-    pub home : k .status ≡ runs → Reaches h bs (point t (k .start) 0)
-    pub backs : k .status ≡ runs → (i : ℕ) → i < k .depth → Reaches h bs (point t (getD (k .stack) i 0) i)
-    pub long : length (k .stack) ≡ mostDepth
-    pub wait : k .status ≡ runs → waitFits bs k ≡ true
+  pub record Sound (t : ℕ) (task : Task) : Type 0 where
+    pub reach : task .status ≡ runs → Reaches h bs (pointOf t task)
+    pub home : task .status ≡ runs → Reaches h bs (point t (task .start) 0)
+    pub backs : task .status ≡ runs → (i : ℕ) → i < task .depth → Reaches h bs (point t (getD (task .stack) i 0) i)
+    pub long : length (task .stack) ≡ mostDepth
+    pub wait : task .status ≡ runs → waitFits bs task ≡ true
 
   -- a task that does not run
-  idle-sound : (t : ℕ) (k : Task) → length (k .stack) ≡ mostDepth → (k .status ≡ runs → ⊥) → Sound t k
-  idle-sound t k l n = record { reach = λ e. absurd (n e); home = λ e. absurd (n e); backs = λ e. absurd (n e); long = l; wait = λ e. absurd (n e) }
+  idle-sound : (t : ℕ) (task : Task) → length (task .stack) ≡ mostDepth → (task .status ≡ runs → ⊥) → Sound t task
+  idle-sound t task l n = record { reach = λ e. absurd (n e); home = λ e. absurd (n e); backs = λ e. absurd (n e); long = l; wait = λ e. absurd (n e) }
 
   pub never-sound : (t : ℕ) → Sound t neverStarted
   never-sound t = idle-sound t neverStarted refl (λ e. omega arith)
 
-  module _ (t : ℕ) (k : Task) (s : Sound t k) (r : k .status ≡ runs) where
-    pub go-sound : (b : ℕ) → Reaches h bs (point t b (k .depth)) → Sound t (goTo b k)
+  module _ (t : ℕ) (task : Task) (s : Sound t task) (r : task .status ≡ runs) where
+    pub go-sound : (b : ℕ) → Reaches h bs (point t b (task .depth)) → Sound t (goTo b task)
     go-sound b q = record { reach = λ _. q; home = λ _. s .home r; backs = λ _. s .backs r; long = s .long; wait = λ _. refl }
 
-    pub stay-sound : (time turns : ℕ) → (not (isSet time) || isWait (commandAt bs (k .block) .code)) ≡ true → Sound t (stayWith time turns k)
+    pub stay-sound : (time turns : ℕ) → (not (isSet time) || isWait (commandAt bs (task .block) .code)) ≡ true → Sound t (stayWith time turns task)
     stay-sound time turns w = record { reach = λ _. s .reach r; home = λ _. s .home r; backs = λ _. s .backs r; long = s .long; wait = λ _. w }
 
-    pub call-sound : (a : ℕ) → Reaches h bs (point t a (k .depth + 1)) → Reaches h bs (point t (k .block + 1) (k .depth)) → k .depth < mostDepth → Sound t (callTo a k)
+    pub call-sound : (a : ℕ) → Reaches h bs (point t a (task .depth + 1)) → Reaches h bs (point t (task .block + 1) (task .depth)) → task .depth < mostDepth → Sound t (callTo a task)
     call-sound a q b d = record {
       reach = λ _. q;
       home = λ _. s .home r;
-      backs = λ _ i l. entry i l (ℕ-discrete i (k .depth));
-      long = length-set (k .stack) (k .depth) (k .block + 1) ∙ s .long;
+      backs = λ _ i l. entry i l (ℕ-discrete i (task .depth));
+      long = length-set (task .stack) (task .depth) (task .block + 1) ∙ s .long;
       wait = λ _. refl;
     }
       where
-        entry : (i : ℕ) → i < k .depth + 1 → Dec (i ≡ k .depth) → Reaches h bs (point t (getD (set (k .stack) (k .depth) (k .block + 1)) i 0) i)
-        entry i l (yes e) = let n = s .long in rw (e, getD-set-same (k .stack) (k .depth) (k .block + 1) 0 (omega arith)) b
-        entry i l (no n) = rw (getD-set-other (k .stack) (k .depth) i (k .block + 1) 0 n) (s .backs r i (omega arith))
+        entry : (i : ℕ) → i < task .depth + 1 → Dec (i ≡ task .depth) → Reaches h bs (point t (getD (set (task .stack) (task .depth) (task .block + 1)) i 0) i)
+        entry i l (yes e) = let n = s .long in rw (e, getD-set-same (task .stack) (task .depth) (task .block + 1) 0 (omega arith)) b
+        entry i l (no n) = rw (getD-set-other (task .stack) (task .depth) i (task .block + 1) 0 n) (s .backs r i (omega arith))
 
-    pub return-sound : (k .depth ≡ 0 → ⊥) → Sound t (returnFrom k)
+    pub return-sound : (task .depth ≡ 0 → ⊥) → Sound t (returnFrom task)
     return-sound n = record {
-      reach = λ _. s .backs r (k .depth - 1) (omega arith);
+      reach = λ _. s .backs r (task .depth - 1) (omega arith);
       home = λ _. s .home r;
-      backs = λ _ i l. rw (getD-set-other (k .stack) (k .depth - 1) i 0 0 (omega arith)) (s .backs r i (omega arith));
-      long = length-set (k .stack) (k .depth - 1) 0 ∙ s .long;
+      backs = λ _ i l. rw (getD-set-other (task .stack) (task .depth - 1) i 0 0 (omega arith)) (s .backs r i (omega arith));
+      long = length-set (task .stack) (task .depth - 1) 0 ∙ s .long;
       wait = λ _. refl;
     }
 
-    pub restart-sound : Sound t (restarted k)
+    pub restart-sound : Sound t (restarted task)
     restart-sound = record { reach = λ _. s .home r; home = λ _. s .home r; backs = λ _ i l. absurd (omega arith); long = refl; wait = λ _. refl }
 
-    pub stop-sound : (status : ℕ) → (status ≡ runs → ⊥) → Sound t (stopped status k)
-    stop-sound status n = idle-sound t (stopped status k) (s .long) n
+    pub stop-sound : (status : ℕ) → (status ≡ runs → ⊥) → Sound t (stopped status task)
+    stop-sound status n = idle-sound t (stopped status task) (s .long) n
 
   pub start-sound : (u a : ℕ) → Reaches h bs (point u a 0) → Sound u (startAnew (h .header .start) u a)
   start-sound u a q = record { reach = λ _. q; home = λ _. home (eqb u bias) refl; backs = λ _ i l. absurd (omega arith); long = refl; wait = λ _. refl }

@@ -28,19 +28,19 @@ use Rattle.machine.proofs.Rows.Outcomes.{call-deep, return-deep}
 use Rattle.machine.proofs.Steps.Cases.{used-carried}
 use Rattle.machine.proofs.Steps.KeepsGood.{no-fault}
 
-module _ (bs : List ℕ) (h : Terms) (t : ℕ) (k : Task) (pass : blockFits h bs t k ≡ true) where
+module _ (bs : List ℕ) (h : Terms) (t : ℕ) (task : Task) (pass : blockFits h bs t task ≡ true) where
   abbrev c : Command
-  c = commandAt bs (k .block)
+  c = commandAt bs (task .block)
 
-  passed : Passes h c (pointOf t k)
+  passed : Passes h c (pointOf t task)
   unfolding faultAt
   passed =
-      let d = both (eqb (blockNumber h bs (k .block)) 0) (eqb (faultNumber (faultAt h bs (pointOf t k))) 0) pass in
-      passes h c (pointOf t k) (no-fault (faultAt h bs (pointOf t k)) (eqb-true _ 0 (d .1)))
+      let d = both (eqb (blockNumber h bs (task .block)) 0) (eqb (faultNumber (faultAt h bs (pointOf t task))) 0) pass in
+      passes h c (pointOf t task) (no-fault (faultAt h bs (pointOf t task)) (eqb-true _ 0 (d .1)))
 
-  room : k .depth ≤ mostDepth → (o : Outcome) → Allows (flowOf h c) o → DepthAllows (k .depth) o
-  room l (Call a) m = leb-false mostDepth (k .depth) (sym (call-deep (pointOf t k) (flowOf h c) a m) ∙ passed .shallow)
-  room l Return m = let n = eqb-false (k .depth) 0 (sym (return-deep (pointOf t k) (flowOf h c) m) ∙ passed .called) in (omega arith, l)
+  room : task .depth ≤ mostDepth → (o : Outcome) → Allows (flowOf h c) o → DepthAllows (task .depth) o
+  room l (Call a) m = leb-false mostDepth (task .depth) (sym (call-deep (pointOf t task) (flowOf h c) a m) ∙ passed .shallow)
+  room l Return m = let n = eqb-false (task .depth) 0 (sym (return-deep (pointOf t task) (flowOf h c) m) ∙ passed .called) in (omega arith, l)
   room l GoOn m = tt
   room l (Stay time turns) m = tt
   room l (Jump a) m = tt
@@ -49,6 +49,6 @@ module _ (bs : List ℕ) (h : Terms) (t : ℕ) (k : Task) (pass : blockFits h bs
   room l End m = tt
   room l (Halt q) m = tt
 
-  pub deep : k .depth ≤ mostDepth → (inputs : List ℕ) (g : Context) (v : Values) → DepthAllows (k .depth) (effectOf inputs g c v .outcome)
+  pub deep : task .depth ≤ mostDepth → (inputs : List ℕ) (g : Context) (v : Values) → DepthAllows (task .depth) (effectOf inputs g c v .outcome)
   unfolding flowOf
   deep l inputs g v = room l (effectOf inputs g c v .outcome) (every-law inputs g c v (used-carried h (c .code) t (passed .allowed)) .outcome .flow)
