@@ -9,7 +9,7 @@ use lib.Dec.{leb}
 use lib.ListN.{length}
 use borrow.Author.Tests.{not-false, leb-true, le-leb, lt-leb, eq-eqb, ne-eqb}
 use Rattle.num_le.specs.LittleEndian.{Bytes}
-use Rattle.image_number.proofs.Choice.{by}
+use Rattle.logic.proofs.Choice.{by}
 use Rattle.machine.specs.Inputs.{inputsOf}
 use Rattle.bias_results.specs.declared.BiasVerdict.{BiasVerdict}
 use Rattle.bias.specs.Load.{load}

@@ -6,16 +6,13 @@ use mathlib.Core.Logic.{_⊎_, inl, inr}
 use mathlib.Core.List.{List, [], _∷_}
 use lib.Dec.{T, eqb}
 use borrow.Author.Tests.{eqb-true}
+use Rattle.logic.proofs.Choice.{both-hold, is-true}
 use Rattle.command_table.specs.Rows.{Coded, rowIn, noRow}
 use Rattle.command_table.specs.declared.Row.{Row}
 
 abbrev pub every : (ℕ → Row → Bool) → List Coded → Bool
 every test [] = true
 every test (r ∷ rs) = test (r .code) (r .columns) && every test rs
-
-both : (a b : Bool) → T (a && b) → (a ≡ true) × T b
-both true b t = (refl, t)
-both false b t = absurd t
 
 -- two tests that agree
 abbrev pub same : Bool → Bool → Bool
@@ -34,8 +31,8 @@ pub every-row : (test : ℕ → Row → Bool) (rs : List Coded) → T (every tes
 unfolding rowIn
 every-row test [] t code = inl refl
 every-row test (r ∷ rs) t code =
-    let f = both (test (r .code) (r .columns)) (every test rs) t in
-    go (eqb code (r .code)) refl (f .0) (every-row test rs (f .1) code)
+    let f = both-hold (test (r .code) (r .columns)) (every test rs) t in
+    go (eqb code (r .code)) refl (is-true _ (f .0)) (every-row test rs (f .1) code)
   where
     go : (b : Bool) → eqb code (r .code) ≡ b → test (r .code) (r .columns) ≡ true
         → (rowIn rs code ≡ noRow) ⊎ (test code (rowIn rs code) ≡ true)

@@ -19,8 +19,8 @@ use Rattle.drive.specs.Boards.{mayCarry, withBoards, fitted, Carries, Mi
 use Rattle.drive.specs.declared.Drive.{Drive}
 use Rattle.drive.specs.declared.Presence.{Presence}
 use Rattle.drive.specs.declared.Presence.the-variants.{Present, BoardMissing, Never}
-use Rattle.drive.proofs.Below.{both, left, right}
-use Rattle.drive.proofs.EveryDrive.{and-true, from-least, empty-always, no-board-on-631, written-is-read, never-both}
+use Rattle.logic.proofs.Choice.{both, both-hold}
+use Rattle.drive.proofs.EveryDrive.{from-least, empty-always, no-board-on-631, written-is-read, never-both}
 
 -- ---- the three answers differ, and so do the two of a test
 
@@ -77,13 +77,13 @@ real (SlotC c) = not (eqb c 0)
 
 abbrev allReal : List PinRow → Bool
 allReal [] = true
-allReal (r ∷ rs) = both (real (r .home)) (allReal rs)
+allReal (r ∷ rs) = real (r .home) && allReal rs
 
 real-in : (rs : List PinRow) → T (allReal rs) → (pin : ℕ) → T (real (homeIn rs pin))
 unfolding homeIn
 real-in [] t pin = tt
 real-in (r ∷ rs) t pin =
-    pick (leb (r .first) pin && leb pin (r .last)) (left (real (r .home)) (allReal rs) t) (real-in rs (right (real (r .home)) (allReal rs) t) pin)
+    let h = both-hold (real (r .home)) (allReal rs) t in pick (leb (r .first) pin && leb pin (r .last)) (h .0) (real-in rs (h .1) pin)
   where
     pick : (m : Bool) → T (real (r .home)) → T (real (homeIn rs pin)) → T (real (cond m (r .home) (homeIn rs pin)))
     pick true h later = h
@@ -122,8 +122,8 @@ module _ (d : Drive) where
   carried-at Nowhere e n = never-true e
   carried-at Only631 e n = never-true e
   carried-at Others e n = never-true e
-  carried-at (SlotB b) e n = lacking (takesB (d .model) b) (eqb (d .b) b) (and-true (not (eqb b 0)) (takesB (d .model) b) e .1) n
-  carried-at (SlotC c) e n = lacking (takesC (d .model) c) (eqb (d .c) c) (and-true (not (eqb c 0)) (takesC (d .model) c) e .1) n
+  carried-at (SlotB b) e n = lacking (takesB (d .model) b) (eqb (d .b) b) (both (not (eqb b 0)) (takesB (d .model) b) e .1) n
+  carried-at (SlotC c) e n = lacking (takesC (d .model) c) (eqb (d .c) c) (both (not (eqb c 0)) (takesC (d .model) c) e .1) n
 
   -- whatever is in the slots, carried by the type or not
   never-at : (h : Home) → presence d h ≡ Never → (b c : ℕ) → presence (withBoards d b c) h ≡ Never
@@ -169,8 +169,8 @@ module _ (d : Drive) (kind : PinKind) (pin : ℕ) where
       at Nowhere e p = never-true e
       at Only631 e p = never-true e
       at Others e p = never-true e
-      at (SlotB k) e p = n .none k (d .c) (record { inB = and-true (not (eqb k 0)) (takesB (d .model) k) e .1; inC = own .inC }) p
-      at (SlotC k) e p = n .none (d .b) k (record { inB = own .inB; inC = and-true (not (eqb k 0)) (takesC (d .model) k) e .1 }) p
+      at (SlotB k) e p = n .none k (d .c) (record { inB = both (not (eqb k 0)) (takesB (d .model) k) e .1; inC = own .inC }) p
+      at (SlotC k) e p = n .none (d .b) k (record { inB = own .inB; inC = both (not (eqb k 0)) (takesC (d .model) k) e .1 }) p
 
   missing-back : Missing d kind pin → pinOf d kind pin ≡ BoardMissing
   unfolding pinOf
@@ -205,7 +205,7 @@ module _ (d : Drive) (kind : PinKind) (pin : ℕ) where
 
 zero-board : (b : ℕ) (could : Bool) → (could ≡ true → b ≡ 0) → (not (eqb b 0) && could) ≡ true → ⊥
 zero-board b could zeroed e =
-    let t = and-true (not (eqb b 0)) could e in never-true (sym (ap (λ (k : ℕ). not (eqb k 0)) (zeroed (t .1))) ∙ t .0)
+    let t = both (not (eqb b 0)) could e in never-true (sym (ap (λ (k : ℕ). not (eqb k 0)) (zeroed (t .1))) ∙ t .0)
 
 -- it may carry no board
 pub no-board : (h : Home) → mayCarry type631 h ≡ true → ⊥

@@ -1,7 +1,7 @@
 -- What the definitions of types, boards and pins say of every drive. Types: 0 is the 631, 4 the 637f. Board 0 of a slot is the empty slot.
 use Prim.Native.Nat.{ℕ, zero, suc, _<_, _≤_}
 use native.Mathlib.Omega.{arith}
-use mathlib.Core.Path.{_≡_, refl, ap, _∙_}
+use mathlib.Core.Path.{_≡_, refl, sym, ap, _∙_}
 use mathlib.Core.Bool.{Bool, true, false, _&&_, not, cond}
 use mathlib.Core.List.{List}
 use lib.ListN.{length, getD}
@@ -18,25 +18,23 @@ use Rattle.drive_pins.specs.declared.PinKind.the-variants.{Input, OutputWritten
 use Rattle.drive.specs.declared.Presence.{Presence}
 use Rattle.drive.specs.declared.Presence.the-variants.{Present, Never}
 use Rattle.drive.proofs.TypesAndSlots.{no-cycle, past-types, by-least}
-use Rattle.drive.proofs.Below.{both, left, right, at}
+use Rattle.logic.proofs.Choice.{clash, both}
+use Rattle.logic.specs.Each.{eachBelow}
+use Rattle.logic.proofs.Each.{each-passes}
 use Rattle.drive_pins.proofs.Homes.{read-other}
 
 -- ---- boards
 
-pub and-true : (a b : Bool) → (a && b) ≡ true → (a ≡ true) × (b ≡ true)
-and-true true b e = (refl, e)
-and-true false b e = (e, let z : _≡_ {A = ℕ} 0 1 = cc in absurd (omega arith))
-
 -- a board number that a type takes is one of its slot's list
 pub board-small : (least : List ℕ) (t b : ℕ) → takes least t b ≡ true → b < length least
 unfolding takes
-board-small least t b e = ltb-true b (length least) (and-true (ltb b (length least)) _ e .0)
+board-small least t b e = ltb-true b (length least) (both (ltb b (length least)) _ e .0)
 
 -- only the five types take boards, and none a board whose least type is above it
 pub from-least : (least : List ℕ) (t b : ℕ) → takes least t b ≡ true → (t < 5) × (getD least b 0 ≤ t)
 unfolding takes
 from-least least t b e =
-    let r = and-true (ltb t (length cycles)) (leb (getD least b 0) t) (and-true (ltb b (length least)) _ e .1) in
+    let r = both (ltb t (length cycles)) (leb (getD least b 0) t) (both (ltb b (length least)) _ e .1) in
     (ltb-true t 5 (r .0), leb-true (getD least b 0) t (r .1))
 
 -- each of the five types takes board 0, the empty slot, in both slots
@@ -132,23 +130,23 @@ has d (SlotC b) p = tt
 
 -- neither a 631 nor another type can have both
 abbrev apart : Home → Home → Bool
-apart h g = both (not (both (on true h) (on true g))) (not (both (on false h) (on false g)))
+apart h g = not (on true h && on true g) && not (on false h && on false g)
 
-hit : (a b : Bool) → T (not (both a b)) → T a → T b → ⊥
-hit true true t p q = t
+hit : (a b : Bool) → not (a && b) ≡ true → T a → T b → ⊥
+hit true true t p q = clash (sym t)
 hit true false t p q = q
 hit false b t p q = p
 
-clash : (b : Bool) (h g : Home) → T (apart h g) → T (on b h) → T (on b g) → ⊥
-clash true h g t p q = hit (on true h) (on true g) (left (not (both (on true h) (on true g))) (not (both (on false h) (on false g))) t) p q
-clash false h g t p q = hit (on false h) (on false g) (right (not (both (on true h) (on true g))) (not (both (on false h) (on false g))) t) p q
+not-both : (b : Bool) (h g : Home) → apart h g ≡ true → T (on b h) → T (on b g) → ⊥
+not-both true h g e p q = hit (on true h) (on true g) (both (not (on true h && on true g)) (not (on false h && on false g)) e .0) p q
+not-both false h g e p q = hit (on false h) (on false g) (both (not (on true h && on true g)) (not (on false h && on false g)) e .1) p q
 
 -- a pin that a drive has as an input, or would have with another board, it never has as an output that can be read
 pub never-both : (d : Drive) (pin : ℕ) → pin < 256 → (pinOf d Input pin ≡ Never → ⊥) → (pinOf d OutputRead pin ≡ Never → ⊥) → ⊥
-unfolding pinOf homeOf homeIn inputs outputsRead outputsWritten
+unfolding pinOf homeOf homeIn inputs outputsRead outputsWritten eachBelow
 never-both d pin h p q =
-    clash (eqb (d .model) 0) (homeIn inputs pin) (homeIn outputsRead pin)
-    (at (λ k. apart (homeIn inputs k) (homeIn outputsRead k)) 256 tt pin h)
+    not-both (eqb (d .model) 0) (homeIn inputs pin) (homeIn outputsRead pin)
+    (each-passes (λ k. apart (homeIn inputs k) (homeIn outputsRead k)) 256 refl pin h)
     (has d (homeIn inputs pin) p)
     (has d (homeIn outputsRead pin) q)
 

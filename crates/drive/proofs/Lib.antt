@@ -1,4 +1,3 @@
 mod TypesAndSlots
-mod Below
 pub mod EveryDrive
 pub mod Boards

@@ -5,16 +5,12 @@ use mathlib.Core.Bool.{Bool, true, false, _&&_, not, cond}
 use mathlib.Core.List.{List, [], _∷_, _++_}
 use lib.Dec.{T, eqb, ltb}
 use borrow.Author.Tests.{ne-eqb}
-use Rattle.image_number.proofs.Choice.{clash}
+use Rattle.logic.proofs.Choice.{clash, both-hold, is-true}
 use Rattle.machine.specs.Effect.{CommandEffect, EffectRow, nothing, effectIn, effectRows, motionRows, controlRows, levelRows, variableRows, mathematicsRows}
 
 abbrev all : (ℕ → Bool) → List EffectRow → Bool
 all test [] = true
 all test (r ∷ rs) = test (r .code) && all test rs
-
-both : (a b : Bool) → T (a && b) → (a ≡ true) × T b
-both true b t = (refl, t)
-both false b t = absurd t
 
 module _ (test : ℕ → Bool) (n : ℕ) (no : test n ≡ false) where
   -- a code that passes the test is another one
@@ -26,15 +22,15 @@ module _ (test : ℕ → Bool) (n : ℕ) (no : test n ≡ false) where
   unfolding effectIn
   skip [] rest t = refl
   skip (r ∷ front) rest t =
-      let h = both (test (r .code)) (all test front) t in
-      ap (λ (b : Bool). cond b (r .effect) (effectIn (front ++ rest) n)) (other (r .code) (h .0)) ∙ skip front rest (h .1)
+      let h = both-hold (test (r .code)) (all test front) t in
+      ap (λ (b : Bool). cond b (r .effect) (effectIn (front ++ rest) n)) (other (r .code) (is-true _ (h .0))) ∙ skip front rest (h .1)
 
   absent : (rs : List EffectRow) → T (all test rs) → effectIn rs n ≡ nothing
   unfolding effectIn
   absent [] t = refl
   absent (r ∷ rs) t =
-      let h = both (test (r .code)) (all test rs) t in
-      ap (λ (b : Bool). cond b (r .effect) (effectIn rs n)) (other (r .code) (h .0)) ∙ absent rs (h .1)
+      let h = both-hold (test (r .code)) (all test rs) t in
+      ap (λ (b : Bool). cond b (r .effect) (effectIn rs n)) (other (r .code) (is-true _ (h .0))) ∙ absent rs (h .1)
 
   stop : (front rest : List EffectRow) → T (all test rest) → effectIn (front ++ rest) n ≡ effectIn front n
   unfolding effectIn

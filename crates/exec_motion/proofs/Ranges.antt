@@ -10,7 +10,7 @@ use borrow.Author.Tests.{leb-true}
 use mir.Syntax.{w16, w32}
 use mir.Val.{Fits, SFits, toZ, ofZ}
 use mir.Facts.{toZ-ofZ}
-use Rattle.image_number.proofs.Choice.{clash, both}
+use Rattle.logic.proofs.Choice.{clash, both}
 use Rattle.machine.specs.Effect.{within, natural}
 
 pub small : (n : ℕ) → n < 65536 → SFits w32 (pos n)

@@ -16,7 +16,7 @@ use Rattle.state.specs.declared.Values.{Values}
 use Rattle.state.specs.declared.State.{State}
 use Rattle.machine.specs.Inputs.{Inputs, inputsOf, level}
 use Rattle.machine.specs.Effect.{effectOf}
-use Rattle.image_number.proofs.Choice.{both}
+use Rattle.logic.proofs.Choice.{both}
 use Rattle.image_header.specs.Scan.{headerOf, blocksOf}
 use Rattle.image_header.specs.declared.reader.HeaderRead.{HeaderRead}
 use Rattle.machine.specs.Engine.{noted, tasksAfter, answerTo, pointOf, performed, refuse, fits, contextOf, carriedOut, taskStep, step, isLoaded, blockFits, waitFits, fitsAs, termsHeld}

@@ -12,9 +12,10 @@ use borrow.Author.Tests.{eqb-true, eqb-false}
 use Rattle.image_result.specs.ImageResult.{done}
 use Rattle.image_number.specs.declared.Number.{Number}
 use Rattle.image_number.specs.declared.Number as number
-use Rattle.image_number.proofs.Choice.{clash}
+use Rattle.logic.proofs.Choice.{clash}
 use Rattle.drive.specs.Types.{slotB, slotC}
 use Rattle.drive.proofs.EveryDrive.{board-small}
+use Rattle.logic.proofs.Each.{all-pass}
 use Rattle.image_header.specs.Numbers.{headerFrom, Narrow}
 use Rattle.image_header.specs.GoodHeader.{GoodHeader}
 use Rattle.image_header.specs.Rows.{rowCount, checked, passed, accepts}
@@ -22,7 +23,7 @@ use Rattle.image_header.specs.Scan.{Source, withNumber, unlessFailed, ju
 use Rattle.image_header.specs.declared.reader.Check.{Check}
 use Rattle.image_header.specs.declared.reader.Check.the-variants.{Passes, Fails}
 use Rattle.image_header.specs.declared.reader.Scan.{Scan}
-use Rattle.image_header.proofs.Rows.{all-rows, accepted-good, looks-back}
+use Rattle.image_header.proofs.Rows.{accepted-good, looks-back}
 use Rattle.image_header.proofs.Scanning.{stays, takes, refused-empty}
 
 abbrev valueOf : Number → ℕ
@@ -135,7 +136,7 @@ module _ (n : ℕ) (source : Source) where
     unfolding accepts
     accepted-header =
         record {
-          good = accepted-good (scannedHeader (scan n source rowCount)) (all-rows (scannedHeader (scan n source rowCount)) rowCount row-passes);
+          good = accepted-good (scannedHeader (scan n source rowCount)) (all-pass (λ (row : ℕ). passed (checked row (scannedHeader (scan n source rowCount)))) rowCount row-passes);
           is = is;
           numbers = λ k l. went rowCount h k l .stood;
           fine = λ k l. went rowCount h k l .before;

@@ -12,7 +12,7 @@ use Rattle.limits.specs.Limits.{mostBlocks, blockLength}
 use Rattle.drive.specs.Types.{slotB, slotC}
 use Rattle.drive.proofs.EveryDrive.{board-small}
 use Rattle.image_result.specs.ImageResult.{done}
-use Rattle.image_number.proofs.Choice as choice
+use Rattle.logic.proofs.Choice as choice
 use Rattle.image_number.specs.Number.{numberLimit, secondByte, firstByte, numberAt}
 use Rattle.image_number.specs.declared.Number.{Number}
 use Rattle.image_number.specs.declared.Number as number

@@ -8,9 +8,9 @@ use lib.ListN.{getD}
 use lib.Dec.{eqb}
 use borrow.Author.Count.{below-more}
 use borrow.Author.Tests.{eqb-true, eq-eqb}
-use Rattle.image_number.proofs.Choice.{both}
+use Rattle.logic.proofs.Each.{each-passes, all-pass}
 use Rattle.image_header.specs.Numbers.{numbersOf, headerFrom}
-use Rattle.image_header.specs.Rows.{rowCount, firstSame, sameHeader}
+use Rattle.image_header.specs.Rows.{rowCount, sameHeader}
 use Rattle.image_header.specs.declared.Header.{Header}
 
 -- a header is that of its numbers
@@ -41,21 +41,11 @@ same-numbers ns ms e =
 
 -- ---- the same header, as 17 tests it: each number is the same
 
-firsts-same : (ns ms : List ℕ) (n : ℕ) → firstSame n ns ms ≡ true → (k : ℕ) → k < n → getD ns k 0 ≡ getD ms k 0
-unfolding firstSame
-firsts-same ns ms zero e k l = absurd (omega arith)
-firsts-same ns ms (suc n) e k l =
-    let r = both (firstSame n ns ms) (eqb (getD ns n 0) (getD ms n 0)) e in
-    below-more (λ (j : ℕ). getD ns j 0 ≡ getD ms j 0) n (firsts-same ns ms n (r .0)) (eqb-true (getD ns n 0) (getD ms n 0) (r .1)) k (omega arith)
-
 pub same-is : (a b : Header) → sameHeader a b ≡ true → a ≡ b
 unfolding sameHeader
-same-is a b e = same-numbers (numbersOf a) (numbersOf b) (firsts-same (numbersOf a) (numbersOf b) rowCount e)
+same-is a b e = same-numbers (numbersOf a) (numbersOf b) (λ k l. eqb-true _ _ (each-passes (λ (j : ℕ). eqb (getD (numbersOf a) j 0) (getD (numbersOf b) j 0)) rowCount e k l))
 
 pub is-same : (a : Header) → sameHeader a a ≡ true
-unfolding sameHeader firstSame
-is-same a = go rowCount
-  where
-    go : (n : ℕ) → firstSame n (numbersOf a) (numbersOf a) ≡ true
-    go zero = refl
-    go (suc n) = rw (go n, eq-eqb (getD (numbersOf a) n 0) (getD (numbersOf a) n 0) refl)
+unfolding sameHeader
+is-same a =
+    all-pass (λ (k : ℕ). eqb (getD (numbersOf a) k 0) (getD (numbersOf a) k 0)) rowCount (λ k l. eq-eqb (getD (numbersOf a) k 0) (getD (numbersOf a) k 0) refl)

@@ -9,6 +9,7 @@ use lib.Seq.{take-all}
 use lib.Dec.{ltb}
 use borrow.Author.Tests.{ltb-false, le-ltb}
 use Rattle.limits.specs.Limits.{blockLength}
+use Rattle.image_result.proofs.Done.{is-done}
 use Rattle.image_result.specs.ImageResult.{done}
 use Rattle.image_header.specs.Rows.{rowCount}
 use Rattle.image_header.specs.Scan.{fromImage, scan, scannedHeader, firstRefusal, lengthResult, readWith, closed, headerOf, blocksOf}
@@ -16,7 +17,7 @@ use Rattle.image_result.specs.declared.ImageResult.the-variants.{Done, EndsEarl
 use Rattle.image_result.specs.declared.ImageResult.{ImageResult}
 use Rattle.image_header.specs.declared.reader.Scan.{Scan}
 use Rattle.image_header.specs.declared.reader.HeaderRead.{HeaderRead}
-use Rattle.image_number.proofs.Choice.{clash, other-way}
+use Rattle.logic.proofs.Choice.{clash, other-way}
 
 -- two judgements that both let pass
 pub neither : (a b : ImageResult) → done (firstRefusal a b) ≡ true → (done a ≡ true) × (done b ≡ true)
@@ -30,15 +31,6 @@ neither a b h = go (done a) refl
 pub both-pass : (a b : ImageResult) → done a ≡ true → firstRefusal a b ≡ b
 unfolding firstRefusal
 both-pass a b e = rw e
-
--- an result that is no refusal is Done
-pub is-done : (o : ImageResult) → done o ≡ true → o ≡ Done
-is-done Done e = refl
-is-done (EndsEarly p) e = clash (sym e)
-is-done (NotShortest p) e = clash (sym e)
-is-done (OutOfRange p) e = clash (sym e)
-is-done (LeftOver p) e = clash (sym e)
-is-done (NoRoom p) e = clash (sym e)
 
 -- the length is right
 pub length-right : (at count n : ℕ) → done (lengthResult at count n) ≡ true → n ≡ at + blockLength * count

@@ -8,9 +8,11 @@ use lib.ListN.{getD}
 use lib.Dec.{ltb, leb}
 use borrow.Author.Count.{below-more}
 use borrow.Author.Tests.{eqb-true, ltb-true, leb-true, eq-eqb, lt-ltb, le-leb}
+use Rattle.logic.specs.Each.{eachBelow}
+use Rattle.logic.proofs.Each.{each-passes}
 use Rattle.limits.specs.Limits.{mostBlocks}
 use Rattle.drive.specs.Types.{types}
-use Rattle.image_number.proofs.Choice.{both, clash}
+use Rattle.logic.proofs.Choice.{both, clash}
 use Rattle.image_header.specs.Numbers.{headerFrom}
 use Rattle.image_header.specs.GoodHeader.{GoodHeader}
 use Rattle.image_header.specs.Rows.{format1, formatFits, typeFits, slotBFits, slotCFits, countFits, startFits, Test, test, rowCount, check, checked, passed, firstPass, accepts}
@@ -35,22 +37,10 @@ is-passed (Fails k) e = clash (sym e)
 -- ---- every row
 
 module _ (h : Header) where
-  row-of : (n : ℕ) → firstPass n h ≡ true → (row : ℕ) → row < n → passed (checked row h) ≡ true
-  unfolding firstPass
-  row-of zero e row l = absurd (omega arith)
-  row-of (suc n) e row l =
-      let r = both (firstPass n h) (passed (checked n h)) e in
-      below-more (λ (k : ℕ). passed (checked k h) ≡ true) n (row-of n (r .0)) (r .1) row (omega arith)
-
-  pub all-rows : (n : ℕ) → ((row : ℕ) → row < n → passed (checked row h) ≡ true) → firstPass n h ≡ true
-  unfolding firstPass
-  all-rows zero f = refl
-  all-rows (suc n) f = rw (all-rows n (λ row l. f row (omega arith)), f n (omega arith))
-
   pub accepted-good : accepts h ≡ true → GoodHeader h
   unfolding accepts checked
   accepted-good e =
-      let at = row-of rowCount e in
+      let at = each-passes (λ (row : ℕ). passed (checked row h)) rowCount e in
       let f = held (test 0 formatFits) [] h (at 0 (omega arith)) .0 in
       let m = held (test 1 typeFits) [] h (at 1 (omega arith)) .0 in
       let b = held (test 2 slotBFits) [] h (at 2 (omega arith)) .0 in
@@ -68,7 +58,7 @@ module _ (h : Header) where
       }
 
   pub good-accepted : GoodHeader h → accepts h ≡ true
-  unfolding accepts firstPass checked
+  unfolding accepts eachBelow checked
   good-accepted g =
       rw (
         eq-eqb (h .format) format1 (g .format),

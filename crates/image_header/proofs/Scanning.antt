@@ -11,7 +11,7 @@ use Rattle.image_result.specs.ImageResult.{done}
 use Rattle.image_number.specs.Number.{numberAt, firstByte, secondByte}
 use Rattle.image_number.specs.declared.Number.{Number}
 use Rattle.image_number.specs.declared.Number as number
-use Rattle.image_number.proofs.Choice.{either, clash}
+use Rattle.logic.proofs.Choice.{either, clash}
 use Rattle.image_header.specs.Numbers.{headerFrom}
 use Rattle.image_header.specs.Rows.{checked}
 use Rattle.image_header.specs.Scan.{Source, fromImage, noNumbers, withNumber, unlessFailed, judged, taken, more, scan}

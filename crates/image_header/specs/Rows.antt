@@ -1,9 +1,10 @@
 -- The header's numbers judged (document 01, "The image" and refusal 3): what must hold of each, and when it is asked.
-use Prim.Native.Nat.{ℕ, zero, suc}
-use mathlib.Core.Bool.{Bool, true, false, _&&_, cond}
+use Prim.Native.Nat.{ℕ}
+use mathlib.Core.Bool.{Bool, true, false, cond}
 use mathlib.Core.List.{List, [], _∷_}
 use lib.ListN.{length, getD}
 use lib.Dec.{eqb, ltb}
+use Rattle.logic.specs.Each.{eachBelow}
 use Rattle.limits.specs.Limits.{mostBlocks, upTo}
 use Rattle.drive.specs.Types.{types, takesB, takesC}
 use Rattle.image_header.specs.Numbers.{numbersOf}
@@ -78,18 +79,17 @@ abbrev pub passed : Check → Bool
 passed Passes = true
 passed (Fails k) = false
 
-unfoldable pub firstPass : ℕ → Header → Bool
-firstPass zero h = true
-firstPass (suc row) h = firstPass row h && passed (checked row h)
+-- so do the first n
+abbrev pub firstPass : ℕ → Header → Bool
+firstPass n h = eachBelow (λ (row : ℕ). passed (checked row h)) n
 
 unfoldable pub accepts : Header → Bool
 accepts h = firstPass rowCount h
 
 -- ---- two headers are the same: each number is
 
-unfoldable pub firstSame : ℕ → List ℕ → List ℕ → Bool
-firstSame zero ns ms = true
-firstSame (suc k) ns ms = firstSame k ns ms && eqb (getD ns k 0) (getD ms k 0)
+abbrev pub firstSame : ℕ → List ℕ → List ℕ → Bool
+firstSame n ns ms = eachBelow (λ (k : ℕ). eqb (getD ns k 0) (getD ms k 0)) n
 
 unfoldable pub sameHeader : Header → Header → Bool
 sameHeader a b = firstSame rowCount (numbersOf a) (numbersOf b)

@@ -1,4 +1,2 @@
-pub mod Choice
 pub mod Numbers
-pub mod Stands
 pub mod RoundTrip

@@ -6,7 +6,7 @@ use mathlib.Core.List.{List, [], _∷_}
 use lib.ListN.{length, getD}
 use lib.Dec.{ltb}
 use borrow.Author.Tests.{lt-ltb, le-ltb, eq-eqb, ne-eqb}
-use Rattle.image_number.proofs.Choice.{either}
+use Rattle.logic.proofs.Choice.{either}
 use Rattle.image_number.specs.Number.{numberBytes, firstByte, secondByte, numberAt}
 use Rattle.image_number.specs.declared.Number.{Number}
 

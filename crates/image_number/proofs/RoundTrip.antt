@@ -8,8 +8,8 @@ use mathlib.Core.List.{List, [], _∷_}
 use lib.ListN.{length, getD}
 use Rattle.image_number.specs.Number.{numberLimit, numberBytes, numberAt, Readable}
 use Rattle.image_number.specs.declared.Number.{Number}
-use Rattle.image_number.proofs.Choice.{by}
-use Rattle.image_number.proofs.Stands.{Has, head, tail, none, cons, itself}
+use Rattle.logic.proofs.Choice.{by}
+use Rattle.logic.proofs.Has.{Has, whole, head, tail, nil, cons}
 use Rattle.image_number.proofs.Numbers as numbers
 use Rattle.image_number.proofs.Numbers.{one, two, short-one, cut, more, zero-high, big-high, good-high}
 
@@ -57,7 +57,7 @@ module _ (s : List ℕ) (at v n : ℕ) (byte : getD s at 0 < 256) (read : number
       let p : getD s at 0 ≡ v = cc in
       let q : at + 1 ≡ n = cc in
       let w = one v (omega arith) in
-      record { has = rw w (cons p none); small = omega arith; next = rw w (sym q); room = omega arith }
+      record { has = rw w (cons p nil); small = omega arith; next = rw w (sym q); room = omega arith }
 
   there-two : at + 1 < length s → 128 ≤ getD s at 0 → (getD s (at + 1) 0 ≡ 0 → ⊥) → getD s (at + 1) 0 < 128 → There s at v n
   there-two h l z k =
@@ -65,7 +65,7 @@ module _ (s : List ℕ) (at v n : ℕ) (byte : getD s at 0 < 256) (read : number
       let p : getD s at 0 - 128 + 128 * getD s (at + 1) 0 ≡ v = cc in
       let q : at + 2 ≡ n = cc in
       let w = two v (omega arith) in
-      record { has = rw w (cons (omega arith) (cons (omega arith) none)); small = omega arith; next = rw w (sym q); room = omega arith }
+      record { has = rw w (cons (omega arith) (cons (omega arith) nil)); small = omega arith; next = rw w (sym q); room = omega arith }
 
   pub number-only : There s at v n
   number-only =
@@ -108,5 +108,5 @@ readable-exactly v = (below, within)
           bytes = number-bytes v h;
           at = 0;
           next = 0 + length (numberBytes v);
-          read = number-back (numberBytes v) 0 v h (itself (numberBytes v)) (omega arith);
+          read = number-back (numberBytes v) 0 v h (whole (numberBytes v)) (omega arith);
         }

@@ -18,7 +18,7 @@ use Rattle.image_number.specs.declared.Number.{Number}
 use Rattle.image_number.specs.declared.Number as number
 use Rattle.image_header.specs.declared.reader.Scan.{Scan}
 use Rattle.image_writer.specs.declared.Written.{Written}
-use Rattle.image_number.proofs.Choice.{clash, other-way}
+use Rattle.logic.proofs.Choice.{clash, other-way}
 use Rattle.image_header.proofs.Accepted.{place, Accepted, accepted-header}
 use Rattle.image_header.proofs.Longest.{number-small}
 use Rattle.image_header.proofs.Read.{neither, both-pass}

@@ -29,7 +29,7 @@ use Rattle.image_writer.proofs.Judged.{judged-numbers, small-numbers, p
 use Rattle.image_number.proofs.RoundTrip.{There, number-back, number-only}
 use Rattle.image_header.proofs.Read.{closed-is, read-fine, scanOf}
 use Rattle.image_header.proofs.Scanning.{takes}
-use Rattle.image_number.proofs.Stands.{Has, left, right, none, join, itself, front}
+use Rattle.logic.proofs.Has.{Has, whole, front, left, right, nil, join}
 use Rattle.image_writer.proofs.HeaderBytes.{one-more, room, image-length}
 
 -- the same numbers at the same places give the same scan
@@ -53,7 +53,7 @@ each-number s numbers (suc m) h k lt =
     below-more (λ (j : ℕ). Has s (length (firstNumbers numbers j)) (numberBytes (getD numbers j 0))) m
     (each-number s numbers m (left (firstNumbers numbers m) (numberBytes (getD numbers m 0)) h))
     (let e : 0 + length (firstNumbers numbers m) ≡ length (firstNumbers numbers m) = omega arith in
-    rw e at (right (firstNumbers numbers m) (numberBytes (getD numbers m 0)) h))
+    rw e at (right (firstNumbers numbers m) (numberBytes (getD numbers m 0)) (length (firstNumbers numbers m)) refl h))
     k
     (omega arith)
 
@@ -79,7 +79,7 @@ module _ (numbers blocks : List ℕ) (space : ℕ) (ok : done (written numbers (
       let m = one-more numbers k in
       let r = room numbers k rowCount lt in
       let l = image-length numbers blocks in
-      let h = each-number s numbers rowCount (left (firstNumbers numbers rowCount) blocks (itself s)) k lt in
+      let h = each-number s numbers rowCount (left (firstNumbers numbers rowCount) blocks (whole s)) k lt in
       let e : length (firstNumbers numbers k) + length (numberBytes (getD numbers k 0)) ≡ place 0 (givenNumbers numbers) (suc k) = omega arith in
       ap (numberAt s) p
       ∙ number-back s (length (firstNumbers numbers k)) (getD numbers k 0) (small-numbers numbers fits k lt) h (omega arith)
@@ -166,7 +166,7 @@ module _ (image : List ℕ) (bytes : Bytes image) (ok : headerOf image .result �
   -- the numbers' bytes are the front of the image
   has-front : (k : ℕ) → k ≤ rowCount → (p k ≡ length (firstNumbers numbers k)) × Has image 0 (firstNumbers numbers k)
   unfolding scan firstNumbers
-  has-front zero h = (refl, none)
+  has-front zero h = (refl, nil)
   has-front (suc k) h =
       let lt : k < rowCount = omega arith in
       let t = there k lt in
@@ -175,7 +175,7 @@ module _ (image : List ℕ) (bytes : Bytes image) (ok : headerOf image .result �
       let e : p k ≡ 0 + length (firstNumbers numbers k) = omega arith in
       let m = one-more numbers k in (
         t .next ∙ ap (λ (j : ℕ). j + length (numberBytes (getD numbers k 0))) (f .0) ∙ sym m,
-        join (firstNumbers numbers k) (numberBytes (getD numbers k 0)) (f .1) (rw e at (t .has)),
+        join (firstNumbers numbers k) (numberBytes (getD numbers k 0)) (length (firstNumbers numbers k)) refl (f .1) (rw e at (t .has)),
       )
 
   blocks-are : blocksOf image ≡ drop (p rowCount) image

@@ -4,7 +4,7 @@ use mathlib.Core.List.{List}
 use Prim.Native.Nat.{ℕ, _/_, _≤_, min}
 use native.Mathlib.Omega.{arith}
 use lib.ListN.{length, take}
-use Rattle.image_number.proofs.Choice.{by}
+use Rattle.logic.proofs.Choice.{by}
 use Rattle.text_verdict.proofs.Beginning.{beginning, beginning-blocks}
 use Rattle.text_verdict.specs.Input.{inputLength}
 use Rattle.walk.specs.Verdict.{verdictOf, acceptedBlocks}

@@ -1,4 +1,3 @@
-pub mod Every
 pub mod Rows
 pub mod Runs
 pub mod Steps

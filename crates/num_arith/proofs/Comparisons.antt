@@ -1,8 +1,7 @@
 -- A test of two patterns is the test of their numbers, at every width.
 use mathlib.Core.Path.{_≡_, refl, sym, ap, _∙_}
 use mathlib.Core.Bool.{Bool, true, false}
-use Prim.Native.Nat.{ℕ, zero, suc, _-_, _^_, _<_, _≤_, zero-le}
-use lib.Arith.{lt-of-le-ne}
+use Prim.Native.Nat.{ℕ, suc, _-_, _^_, _<_}
 use native.Mathlib.Omega.{arith}
 use borrow.Author.Tests.{eqb-true, eqb-false, ne-eqb, eq-eqb}
 use lib.Dec.{eqb}
@@ -31,13 +30,3 @@ module _ (v : Width) where
 
   pub no-zero : {z : ℤ} → SFits v z → (ofZ v z ≡ 0 → ⊥) → eqZ z (pos 0) ≡ false
   no-zero {z} f n = sym (same-bits z (pos 0) f (record { sfits = pow-pos (hbits v) })) ∙ ne-eqb (ofZ v z) 0 n
-
--- n is none of the numbers below k, as the default of a `match` on all of them has it
-abbrev pub NoneBelow : ℕ → ℕ → Type 0
-NoneBelow zero n = Unit {0}
-NoneBelow (suc k) n = NoneBelow k n × (n ≡ k → ⊥)
-
--- then it is k or more
-pub past : (k n : ℕ) → NoneBelow k n → k ≤ n
-past zero n h = zero-le
-past (suc k) n h = lt-of-le-ne (past k n (h .0)) (λ e. h .1 (sym e))

@@ -3,6 +3,7 @@ use mathlib.Core.Path.{_≡_, refl, ap, sym, _∙_}
 use mathlib.Core.Logic.{inl, inr}
 use mathlib.Core.List.{List, [], _∷_, map, tail}
 use lib.ListN.{getD}
+use Rattle.logic.specs.Each.{eachBelow}
 use Rattle.limits.specs.Limits.{marksLength}
 use Rattle.num_arith.specs.Wrap as wrap
 use Rattle.num_arith.specs.Ops as ops
@@ -65,7 +66,7 @@ unfolding table
     types.takes types.cycleOf
     homes.inputs homes.outputsWritten homes.homeIn homes.homeOf pins.onBoard pins.presence pins.pinOf
     number.numberBytes number.secondByte number.firstByte number.numberAt
-    header.checked header.firstSame header.sameHeader scan.standsAt scan.judged
+    eachBelow header.checked header.sameHeader scan.standsAt scan.judged
     scan.taken scan.more scan.scan scan.firstRefusal scan.lengthResult scan.readWith scan.closed scan.headerOf scan.blocksOf
     rows.rows rows.rowIn rows.rowOf
     operands.operands operands.allZero operands.unusedZero

@@ -2,6 +2,7 @@
 use mathlib.Core.Path.{_≡_, refl, sym, _∙_}
 use mathlib.Core.List.{List, map}
 use lib.ListN.{getD}
+use Rattle.logic.specs.Each.{eachBelow}
 use Rattle.limits.specs.Limits.{marksLength}
 use Rattle.drive.specs.Types as types
 use Rattle.image_number.specs.Number as number
@@ -50,7 +51,7 @@ computed : Computed
 unfolding
     types.takes types.cycleOf
     number.numberBytes number.secondByte number.firstByte number.numberAt
-    header.checked header.firstSame header.sameHeader scan.standsAt scan.judged
+    eachBelow header.checked header.sameHeader scan.standsAt scan.judged
     scan.taken scan.more scan.scan scan.firstRefusal scan.lengthResult scan.readWith scan.closed scan.headerOf scan.blocksOf
     rows.rows rows.rowIn rows.rowOf
     operands.operands operands.allZero operands.unusedZero

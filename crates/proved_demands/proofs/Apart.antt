@@ -9,7 +9,7 @@ use mathlib.Core.List.{List, _∷_}
 use lib.ListN.{getD}
 use Rattle.limits.specs.Limits.{taskCount, mostDepth}
 use Rattle.num_le.specs.LittleEndian.{Bytes}
-use Rattle.image_number.proofs.Choice.{clash}
+use Rattle.logic.proofs.Choice.{clash}
 use Rattle.image_header.specs.Scan.{blocksOf}
 use Rattle.walk_point.specs.declared.Point.{Point}
 use Rattle.walk_flow.specs.Terms.{termsOf}

@@ -11,7 +11,7 @@ use lib.ListN.{length, set}
 use borrow.Author.Tests.{lt-ltb, eq-eqb, ne-eqb, eqb-true, eqb-false}
 use Rattle.limits.specs.Limits.{taskCount, inputsLength}
 use Rattle.num_le.specs.LittleEndian.{Bytes}
-use Rattle.image_number.proofs.Choice.{clash, both}
+use Rattle.logic.proofs.Choice.{clash, both}
 use Rattle.image_header.specs.Scan.{blocksOf, headerOf}
 use Rattle.command_operands.specs.declared.Command.{Command}
 use Rattle.walk_point.specs.declared.Point.{Point}

@@ -16,7 +16,7 @@ use Rattle.image_result.specs.declared.ImageResult.the-variants.{Done, EndsEarl
 use Rattle.image_header.specs.Scan.{headerOf, blocksOf}
 use Rattle.image_header.specs.Longest.{longestImage}
 use Rattle.image_header.proofs.Longest.{longest-image}
-use Rattle.image_number.proofs.Choice.{clash, by}
+use Rattle.logic.proofs.Choice.{clash, by}
 use Rattle.walk_fault.specs.Fault.{isBad, faultNumber}
 use Rattle.walk_fault.specs.declared.Fault.{Fault}
 use Rattle.walk_fault.specs.declared.Fault.the-variants as fault

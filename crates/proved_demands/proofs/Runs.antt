@@ -8,7 +8,7 @@ use lib.Dec.{eqb, ltb}
 use lib.ListN.{length, getD}
 use Rattle.limits.specs.Limits.{taskCount, inputsLength}
 use Rattle.num_le.specs.LittleEndian.{Bytes}
-use Rattle.image_number.proofs.Choice.{clash, either}
+use Rattle.logic.proofs.Choice.{clash, either}
 use Rattle.image_header.specs.Scan.{headerOf, blocksOf}
 use Rattle.command_table.specs.Rows.{rowOf}
 use Rattle.walk_point.specs.declared.Point.{Point}

@@ -10,7 +10,7 @@ use lib.ListN.{length}
 use borrow.Author.Tests.{ltb-true}
 use Rattle.limits.specs.Limits.{marksLength, stateLength}
 use Rattle.num_le.specs.LittleEndian.{Bytes}
-use Rattle.image_number.proofs.Choice.{both}
+use Rattle.logic.proofs.Choice.{both}
 use Rattle.walk.specs.Verdict.{verdictOf, verdictNumber}
 use Rattle.bias_results.specs.Results.{numbered}
 use Rattle.bias.specs.Load.{Load, load}

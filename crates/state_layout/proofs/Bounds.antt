@@ -6,7 +6,7 @@ use lib.ListN.{length, getD}
 use Rattle.limits.specs.Limits.{mostDepth}
 use Rattle.image_header.specs.GoodHeader.{GoodHeader}
 use Rattle.image_header.specs.declared.Header.{Header}
-use Rattle.image_number.proofs.Choice.{by}
+use Rattle.logic.proofs.Choice.{by}
 use Rattle.state.specs.GoodState.{GoodTask}
 use Rattle.state.specs.declared.Task.{Task}
 use Rattle.state.proofs.Bounds.{wait-fits}

@@ -20,7 +20,8 @@ use Rattle.image_header.specs.declared.Header.{Header}
 use Rattle.num_le.specs.LittleEndian.{Bytes, leBytes}
 use Rattle.state_bytes.specs.Bytes.{leNumberAt, signedAt, signedBytes}
 use Rattle.state_bytes.proofs.Puts.{length-runs}
-use Rattle.state_bytes.proofs.Has.{Has, number, signed, each, run, number-below, of-number, of-signed}
+use Rattle.logic.proofs.Has.{Has}
+use Rattle.state_bytes.proofs.Numbers.{number, signed, each, run, number-below, of-number, of-signed}
 use Rattle.state_bytes.proofs.Tables.{table-is, length-table, getD-table}
 use Rattle.state_sections.specs.Records.{recordBytes, recordIn}
 use Rattle.state_sections.proofs.Sections.{lens, length-joined, section, moved, end, part, together, at-first}

@@ -8,7 +8,6 @@ use mathlib.Core.Logic.{_⊎_, inl, inr, ⊎-elim}
 use lib.Dec.{eqb, ltb, leb}
 use lib.IntN.{pos}
 use lib.ListN.{length, getD, List·getD-eq-default}
-use borrow.Author.Count.{below-more}
 use borrow.Author.Tests.{ltb-true, leb-true, eqb-true, not-true, lt-ltb, le-leb, eq-eqb}
 use mir.Syntax.{w32}
 use mir.Val.{SFits}
@@ -16,7 +15,8 @@ use Rattle.limits.specs.Limits.{bias, plc, mathematics, taskCount, mostDepth, c
 use Rattle.image_header.specs.Rows.{accepts}
 use Rattle.image_header.specs.declared.Header.{Header}
 use Rattle.image_header.proofs.Rows.{accepted-good, good-accepted}
-use Rattle.image_number.proofs.Choice.{by, both}
+use Rattle.logic.proofs.Choice.{by, both}
+use Rattle.logic.proofs.Each.{each-passes, all-pass}
 use Rattle.state.specs.GoodState.{GoodWait, GoodTask, InRange, GoodCells, GoodMotion, GoodValues, GoodState}
 use Rattle.state.specs.State.{halted, taskAt}
 use Rattle.state.specs.Wait.{due}
@@ -38,20 +38,6 @@ first a b e = rw e
 second : (a b : Bool) → b ≡ true → (a || b) ≡ true
 second true b e = refl
 second false b e = e
-
--- ---- a test of each of a list
-
-all-true : (test : ℕ → ℕ → Bool) (l : List ℕ) (n : ℕ) → allOf test l n ≡ true → (k : ℕ) → k < n → test k (getD l k 0) ≡ true
-unfolding allOf
-all-true test l zero e k lt = absurd (omega arith)
-all-true test l (suc n) e k lt =
-    let r = both (allOf test l n) (test n (getD l n 0)) e in
-    below-more (λ (j : ℕ). test j (getD l j 0) ≡ true) n (all-true test l n (r .0)) (r .1) k (omega arith)
-
-true-all : (test : ℕ → ℕ → Bool) (l : List ℕ) (n : ℕ) → ((k : ℕ) → k < n → test k (getD l k 0) ≡ true) → allOf test l n ≡ true
-unfolding allOf
-true-all test l zero h = refl
-true-all test l (suc n) h = rw (true-all test l n (λ k lt. h k (omega arith)), h n (omega arith))
 
 -- ---- waits
 
@@ -105,7 +91,7 @@ module _ (h : Header) (task : Task) where
       let r4 = both (leb (task .depth) mostDepth) _ (r3 .1) in
       let r5 = both (allOf (entryIs (h .count) (task .depth)) (task .stack) mostDepth) _ (r4 .1) in
       let d = leb-true (task .depth) mostDepth (r4 .0) in
-      let entry = all-true (entryIs (h .count) (task .depth)) (task .stack) mostDepth (r5 .0) in
+      let entry = each-passes (λ (i : ℕ). entryIs (h .count) (task .depth) i (getD (task .stack) i 0)) mostDepth (r5 .0) in
       record {
         status = leb-true (task .status) halted (r1 .0);
         block = ltb-true (task .block) (h .count) (r2 .0);
@@ -124,7 +110,7 @@ module _ (h : Header) (task : Task) where
         lt-ltb (task .block) (h .count) (g .block),
         lt-ltb (task .start) (h .count) (g .start),
         le-leb (task .depth) mostDepth (g .depth),
-        true-all (entryIs (h .count) (task .depth)) (task .stack) mostDepth (λ i lt. entry-judged g i),
+        all-pass (λ (i : ℕ). entryIs (h .count) (task .depth) i (getD (task .stack) i 0)) mostDepth (λ i lt. entry-judged g i),
         wait-judged (h .drive .model) (task .time) (task .turns) (g .wait),
       )
 
@@ -137,11 +123,11 @@ judged-range : (most n : ℕ) → upTo most n ≡ true → InRange most n
 judged-range most n e = let r = both (ltb 0 n) (leb n most) e in record { positive = ltb-true 0 n (r .0); bounded = leb-true n most (r .1) }
 
 levels-judged : (l : List ℕ) → ((i : ℕ) → getD l i 0 ≤ mostLevel) → allOf levelIs l cells ≡ true
-levels-judged l h = true-all levelIs l cells (λ k lt. le-leb (getD l k 0) mostLevel (h k))
+levels-judged l h = all-pass (λ (i : ℕ). levelIs i (getD l i 0)) cells (λ k lt. le-leb (getD l k 0) mostLevel (h k))
 
 judged-levels : (l : List ℕ) → length l ≡ cells → allOf levelIs l cells ≡ true → (i : ℕ) → getD l i 0 ≤ mostLevel
 judged-levels l long e i =
-    by i cells (λ c. leb-true (getD l i 0) mostLevel (all-true levelIs l cells e i c))
+    by i cells (λ c. leb-true (getD l i 0) mostLevel (each-passes (λ (k : ℕ). levelIs k (getD l k 0)) cells e i c))
     (λ c. let z = List·getD-eq-default l 0 {n = i} (omega arith) in omega arith)
 
 cells-judged : (c : Cells) → GoodCells c → cellsAre c ≡ true

@@ -12,11 +12,13 @@ use borrow.Author.Count.{below-more}
 use borrow.Author.Tests.{eqb-true, eq-eqb}
 use mir.Syntax.{w32}
 use mir.Val.{SFits}
+use Rattle.logic.proofs.Each.{each-passes, all-pass}
 use Rattle.limits.specs.Limits.{bias, plc, mathematics, taskCount, mostDepth, cells, stateLength}
 use Rattle.num_le.specs.LittleEndian.{Bytes}
-use Rattle.image_number.proofs.Choice.{by, both}
+use Rattle.logic.proofs.Choice.{by, both}
 use Rattle.state_bytes.specs.Bytes.{leNumberAt, signedAt}
-use Rattle.state_bytes.proofs.Has.{Has, signed-fits}
+use Rattle.logic.proofs.Has.{Has}
+use Rattle.state_bytes.proofs.Numbers.{signed-fits}
 use Rattle.state_bytes.proofs.Tables.{length-table, getD-table}
 use Rattle.state_sections.specs.Sections.{offset}
 use Rattle.state_sections.specs.Records.{recordBytes}
@@ -50,16 +52,10 @@ three (x ∷ y ∷ z ∷ w ∷ l) d e = absurd (omega arith)
 
 -- unused bytes that are 0, each, and the test of them all
 zeros-pass : (b : List ℕ) (n : ℕ) → ((k : ℕ) → k < n → getD b (unusedAt + k) 0 ≡ 0) → unusedBytesZero b n ≡ true
-unfolding unusedBytesZero
-zeros-pass b zero h = refl
-zeros-pass b (suc n) h = rw (zeros-pass b n (λ k lt. h k (omega arith)), eq-eqb (getD b (unusedAt + n) 0) 0 (h n (omega arith)))
+zeros-pass b n h = all-pass (λ (k : ℕ). eqb (getD b (unusedAt + k) 0) 0) n (λ k lt. eq-eqb (getD b (unusedAt + k) 0) 0 (h k lt))
 
 passed-zeros : (b : List ℕ) (n : ℕ) → unusedBytesZero b n ≡ true → (k : ℕ) → k < n → getD b (unusedAt + k) 0 ≡ 0
-unfolding unusedBytesZero
-passed-zeros b zero e k lt = absurd (omega arith)
-passed-zeros b (suc n) e k lt =
-    let r = both (unusedBytesZero b n) (eqb (getD b (unusedAt + n) 0) 0) e in
-    below-more (λ (j : ℕ). getD b (unusedAt + j) 0 ≡ 0) n (passed-zeros b n (r .0)) (eqb-true _ _ (r .1)) k (omega arith)
+passed-zeros b n e k lt = eqb-true _ _ (each-passes (λ (j : ℕ). eqb (getD b (unusedAt + j) 0) 0) n e k lt)
 
 module _ (s : State) (g : GoodState s) where
   fits : (t : ℕ) → t < taskCount → TaskFits (taskAt s t)

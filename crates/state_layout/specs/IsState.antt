@@ -1,10 +1,11 @@
 -- 16: which buffers are a state (docs/STATE.md). The tests are made of the state that the buffer is read as; only its length, its layout number and its
 -- unused bytes are the buffer's own.
-use Prim.Native.Nat.{ℕ, zero, suc, _+_}
-use mathlib.Core.Bool.{Bool, true, _&&_, _||_, not}
+use Prim.Native.Nat.{ℕ, _+_}
+use mathlib.Core.Bool.{Bool, _&&_, _||_, not}
 use mathlib.Core.List.{List}
 use lib.Dec.{eqb, ltb, leb}
 use lib.ListN.{length, getD}
+use Rattle.logic.specs.Each.{eachBelow}
 use Rattle.limits.specs.Limits.{bias, plc, mathematics, mostDepth, cells, mostLevel, mostSpeed, mostRamp, longestWait, stateLength, upTo}
 use Rattle.image_header.specs.Rows.{accepts}
 use Rattle.image_header.specs.declared.Header.{Header}
@@ -21,9 +22,8 @@ use Rattle.state_layout.specs.Codecs.{layoutNumber}
 use Rattle.state_layout.specs.Layout.{layoutAt, unusedAt, unusedLength, decoded}
 
 -- each of the first n of a list passes a test of its place and content
-unfoldable pub allOf : (ℕ → ℕ → Bool) → List ℕ → ℕ → Bool
-allOf test l zero = true
-allOf test l (suc n) = allOf test l n && test n (getD l n 0)
+abbrev pub allOf : (ℕ → ℕ → Bool) → List ℕ → ℕ → Bool
+allOf test l n = eachBelow (λ (k : ℕ). test k (getD l k 0)) n
 
 -- none, or from 1 ms up to the longest and not over
 abbrev pub waitIs : ℕ → ℕ → ℕ → Bool
@@ -59,9 +59,8 @@ stateIs s =
     accepts (s .header) && (valuesAre (s .values) && (taskIs (s .header) (taskAt s bias) && (taskIs (s .header) (taskAt s plc) && taskIs (s .header) (taskAt s mathematics))))
 
 -- the unused bytes are 0
-unfoldable pub unusedBytesZero : List ℕ → ℕ → Bool
-unusedBytesZero b zero = true
-unusedBytesZero b (suc n) = unusedBytesZero b n && eqb (getD b (unusedAt + n) 0) 0
+abbrev pub unusedBytesZero : List ℕ → ℕ → Bool
+unusedBytesZero b n = eachBelow (λ (k : ℕ). eqb (getD b (unusedAt + k) 0) 0) n
 
 -- its layout number is this release's
 abbrev pub layoutIs : List ℕ → Bool

@@ -7,7 +7,8 @@ use lib.ListN.{length}
 use Rattle.num_le.specs.LittleEndian.{Bytes, leBytes}
 use Rattle.num_le.proofs.LittleEndian.{bytes-length}
 use Rattle.state_bytes.specs.Bytes.{leNumberAt, puts}
-use Rattle.state_bytes.proofs.Has.{Has, left, right, nil, join, number, of-number}
+use Rattle.logic.proofs.Has.{Has, left, right, nil, join}
+use Rattle.state_bytes.proofs.Numbers.{number, of-number}
 use Rattle.state_sections.specs.Sections.{joined, total}
 use Rattle.state_sections.specs.Records.{packed, recordBytes, unpacked, recordIn}
 use Rattle.state_sections.proofs.Sections.{lens, length-joined, moved, at-first, Chain, chained-first}

@@ -7,7 +7,7 @@ use lib.ListN.{length, getD, replicate, length-append, length-replicate, getD-re
 use lib.Seq.{ext-getD}
 use Rattle.state_bytes.specs.Bytes.{puts}
 use Rattle.state_bytes.proofs.Puts.{next, into-zeros}
-use Rattle.state_bytes.proofs.Has.{Has, whole, left, right, nil, join}
+use Rattle.logic.proofs.Has.{Has, whole, left, right, nil, join}
 use Rattle.state_sections.specs.Sections.{joined, total, offset, filled}
 
 -- the lengths that sections have

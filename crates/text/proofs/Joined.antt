@@ -7,7 +7,7 @@ use lib.ListN.{length, take, drop, length-append, length-take, length-drop, drop
 use lib.Seq.{take-all, take-length, take-at, take-append-le, drop-append-add, drop-drop, length-take-le}
 use borrow.Rule.Slice.PartMut.{midOf, putMid}
 use Rattle.io.specs.Counts.{Counts}
-use Rattle.image_number.proofs.Choice.{by}
+use Rattle.logic.proofs.Choice.{by}
 use Rattle.text.specs.Put.{putAt, endAfter, Put}
 
 -- the buffer keeps its length

@@ -12,7 +12,7 @@ use mir.Syntax.{Width}
 use mir.Val.{SFits, bits, hbits}
 use mir.ValLaws.{pow-bits}
 use borrow.Author.Tests.{lt-ltb, le-ltb, ne-eqb}
-use Rattle.image_number.proofs.Choice.{by}
+use Rattle.logic.proofs.Choice.{by}
 use Rattle.io.specs.Digits.{digits, Fewest}
 use Rattle.num_arith.specs.Wrap.{word}
 use Rattle.num_arith.proofs.Cut.{word-same}

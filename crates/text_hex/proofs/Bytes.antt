@@ -6,7 +6,7 @@ use native.Mathlib.Numerals.{add-one}
 use native.Mathlib.Omega.{arith}
 use lib.ListN.{length, take, drop, set, getD, length-append, length-drop}
 use lib.Seq.{take-all, take-append-le, take-at, drop-append-add, drop-drop, set-split}
-use Rattle.image_number.proofs.Choice.{by}
+use Rattle.logic.proofs.Choice.{by}
 use Rattle.text_hex.specs.Hex.{hexByte, hexBytes}
 
 module _ (line : List ℕ) where

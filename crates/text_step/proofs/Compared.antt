@@ -8,9 +8,10 @@ use lib.ListN.{getD}
 use lib.Dec.{eqb, leb}
 use borrow.Author.Tests.{eq-eqb, eqb-true, leb-true}
 use Rattle.limits.specs.Limits.{bias, plc, mathematics, cells}
-use Rattle.image_number.proofs.Choice.{by, both}
+use Rattle.logic.proofs.Choice.{by, both}
 use Rattle.state_layout.specs.Codecs.{taskLength}
 use Rattle.state_layout.specs.Layout.{variablesAt, flagsAt, outputsAt, layoutAt, motionAt, notesAt, startsAt, tasksAt, taskPlace, unusedAt}
+use Rattle.logic.specs.Each.{eachBelow}
 use Rattle.text_step.specs.Changes.{same, sameCells, sameAxis, sameStarts, unchanged}
 
 pub and : {a b : Bool} → a ≡ true → b ≡ true → (a && b) ≡ true
@@ -28,7 +29,7 @@ module _ (a b : List ℕ) where
   part x y from to l h e i u v = e i (let w : x ≤ i = omega arith in w) (let w : i < y = omega arith in w)
 
   pub same-equal : (at n : ℕ) → same a b at n ≡ true → Equal at (at + n)
-  unfolding same
+  unfolding eachBelow
   same-equal at zero t i l h = absurd (omega arith)
   same-equal at (suc n) t i l h =
       let t = both (same a b at n) (eqb (getD a (at + n) 0) (getD b (at + n) 0)) t in
@@ -36,7 +37,7 @@ module _ (a b : List ℕ) where
       (λ u. let e : i ≡ at + n = omega arith in rw e (eqb-true (getD a (at + n) 0) (getD b (at + n) 0) (t .1)))
 
   pub equal-same : (at n : ℕ) → Equal at (at + n) → same a b at n ≡ true
-  unfolding same
+  unfolding eachBelow
   equal-same at zero e = refl
   equal-same at (suc n) e =
       let l : at + n < at + suc n = omega arith in
@@ -44,7 +45,7 @@ module _ (a b : List ℕ) where
       (eq-eqb (getD a (at + n) 0) (getD b (at + n) 0) (e (at + n) (omega arith) l))
 
   pub cells-equal : (at n k : ℕ) → sameCells a b at n k ≡ true → Equal at (at + n * k)
-  unfolding sameCells
+  unfolding eachBelow
   cells-equal at n zero t = λ i l h. absurd (omega arith)
   cells-equal at n (suc k) t =
       let t = both (sameCells a b at n k) (same a b (at + n * k) n) t in
@@ -53,7 +54,7 @@ module _ (a b : List ℕ) where
       (part (at + n * k) (at + n * k + n) (at + n * k) (at + n * suc k) (omega arith) e (same-equal (at + n * k) n (t .1)))
 
   pub equal-cells : (at n k : ℕ) → Equal at (at + n * k) → sameCells a b at n k ≡ true
-  unfolding sameCells
+  unfolding eachBelow
   equal-cells at n zero e = refl
   equal-cells at n (suc k) e =
       let l : at + n * k ≤ at + n * suc k = omega arith in

@@ -1,23 +1,22 @@
 -- What a trace shows as changed: the numbers of two state buffers that are not the same.
-use Prim.Native.Nat.{ℕ, zero, suc, _+_, _*_}
-use mathlib.Core.Bool.{Bool, true, _&&_, cond}
+use Prim.Native.Nat.{ℕ, _+_, _*_}
+use mathlib.Core.Bool.{Bool, _&&_, cond}
 use mathlib.Core.List.{List}
 use lib.Dec.{eqb}
 use lib.ListN.{getD}
+use Rattle.logic.specs.Each.{eachBelow}
 use Rattle.limits.specs.Limits.{bias, plc, mathematics, cells}
 use Rattle.state_bytes.specs.Bytes.{leNumberAt}
 use Rattle.state_layout.specs.Codecs.{taskLength}
 use Rattle.state_layout.specs.Layout.{variablesAt, flagsAt, outputsAt, motionAt, notesAt, startsAt, taskPlace}
 
 -- the n bytes from a place on are the same
-unfoldable pub same : List ℕ → List ℕ → ℕ → ℕ → Bool
-same a b at zero = true
-same a b at (suc n) = same a b at n && eqb (getD a (at + n) 0) (getD b (at + n) 0)
+abbrev pub same : List ℕ → List ℕ → ℕ → ℕ → Bool
+same a b at n = eachBelow (λ (k : ℕ). eqb (getD a (at + k) 0) (getD b (at + k) 0)) n
 
 -- so are k cells of n bytes each
-unfoldable pub sameCells : List ℕ → List ℕ → ℕ → ℕ → ℕ → Bool
-sameCells a b at n zero = true
-sameCells a b at n (suc k) = sameCells a b at n k && same a b (at + n * k) n
+abbrev pub sameCells : List ℕ → List ℕ → ℕ → ℕ → ℕ → Bool
+sameCells a b at n count = eachBelow (λ (k : ℕ). same a b (at + n * k) n) count
 
 -- position, speed, acceleration, deceleration, start mark, noted level
 unfoldable pub sameAxis : List ℕ → List ℕ → Bool

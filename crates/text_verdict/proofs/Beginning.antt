@@ -18,7 +18,7 @@ use Rattle.image_result.specs.declared.ImageResult.the-variants.{LeftOver}
 use Rattle.image_number.specs.declared.Number.{Number}
 use Rattle.image_number.specs.declared.Number.the-variants.{Value}
 use Rattle.image_header.specs.declared.reader.Scan.{Scan}
-use Rattle.image_number.proofs.Choice.{by, either}
+use Rattle.logic.proofs.Choice.{by, either}
 use Rattle.image_header.proofs.Accepted.{accepted-header}
 use Rattle.image_header.proofs.Scanning.{at-most, image-near}
 use Rattle.image_header.proofs.Read.{read-fine}

@@ -4,6 +4,7 @@ use mathlib.Core.List.{List, [], _∷_}
 use Prim.Native.Nat.{ℕ, _^_, _<_, _≤_}
 use native.Mathlib.Omega.{arith}
 use lib.ListN.{length, take, length-append}
+use Rattle.logic.specs.Each.{eachBelow}
 use Rattle.limits.specs.Limits.{marksLength}
 use Rattle.text.specs.Text.{digitsOf, decimalOf}
 use Rattle.text.proofs.Read.{few-digits}
@@ -55,7 +56,7 @@ computed : lineOf (verdictFast caseB marksLength) ≡ documented
 unfolding lineOf decimalOf digitsOf
     types.takes
     number.numberBytes number.secondByte number.firstByte number.numberAt
-    header.checked header.firstSame header.sameHeader scan.standsAt scan.judged
+    eachBelow header.checked header.sameHeader scan.standsAt scan.judged
     scan.taken scan.more scan.scan scan.firstRefusal scan.lengthResult scan.readWith scan.closed scan.headerOf scan.blocksOf
     rows.rows rows.rowIn rows.rowOf
     operands.operands operands.allZero operands.unusedZero

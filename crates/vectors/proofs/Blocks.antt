@@ -4,6 +4,7 @@ use mathlib.Core.Bool.{cond}
 use mathlib.Core.List.{List, [], _∷_, map}
 use Prim.Native.Nat.{ℕ}
 use lib.ListN.{length}
+use Rattle.logic.specs.Each.{eachBelow}
 use Rattle.limits.specs.Limits.{marksLength}
 use Rattle.drive.specs.Types as types
 use Rattle.drive_pins.specs.Homes as homes
@@ -25,7 +26,7 @@ use Rattle.walk.specs.Verdict as verdict
 use Rattle.walk.proofs.Verdicts.Fast.{closureFast, walksFast, blocksFast, readFast, verdictFast, fast-is}
 use Rattle.walk.specs.Verdict.{acceptedBlocks, isAccepted}
 use Rattle.walk.specs.declared.Verdict.{Verdict}
-use Rattle.vectors.proofs.Rows.{_◂_}
+use Rattle.logic.proofs.Lists.{_◂_}
 
 abbrev images : List (List ℕ)
 images =
@@ -55,7 +56,7 @@ quick-is (i ∷ is) = ap (λ (v : Verdict). length (by i v)) (sym (fast-is i mar
 computed : map quick images ≡ 8 ∷ 16 ∷ 0 ∷ 0 ∷ 0 ∷ 0 ∷ []
 unfolding types.takes homes.outputsWritten homes.homeIn homes.homeOf pins.onBoard pins.presence pins.pinOf
     number.numberBytes number.secondByte number.firstByte number.numberAt
-    header.checked header.firstSame header.sameHeader scan.standsAt scan.judged
+    eachBelow header.checked header.sameHeader scan.standsAt scan.judged
     scan.taken scan.more scan.scan scan.firstRefusal scan.lengthResult scan.readWith scan.closed scan.headerOf scan.blocksOf
     rows.rows rows.rowIn rows.rowOf
     operands.operands operands.allZero operands.unusedZero

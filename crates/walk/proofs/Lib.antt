@@ -1,4 +1,4 @@
-pub mod Choice
+pub mod Membership
 pub mod Graph
 pub mod Points
 pub mod Steps

@@ -6,7 +6,7 @@ use mathlib.Core.Bool.{Bool, true, not}
 use mathlib.Core.Logic.{⊎-elim, _↔_}
 use lib.Dec.{T, eqb}
 use borrow.Author.Tests.{eqb-true, eqb-false, eq-eqb, ne-eqb, not-true}
-use Rattle.image_number.proofs.Choice.{clash, both}
+use Rattle.logic.proofs.Choice.{clash, both}
 use Rattle.command_table.specs.Rows.{isEnding, noRow, rows, rowIn, rowOf}
 use Rattle.command_table.specs.declared.Row.{Row}
 use Rattle.command_table.proofs.EveryRow.{every, every-row, same, same-is}

@@ -11,6 +11,7 @@ use Rattle.walk_flow.specs.Flow.{flowOf}
 use Rattle.walk_flow.specs.declared.Flow.{Flow}
 use Rattle.walk_flow.specs.declared.Flow.the-variants.{Next, Wait, Jump, Branch, Call, Return, Start, Restart, End}
 use Rattle.command_operands.specs.declared.Command.{Command}
+use Rattle.walk_fault.proofs.NoFault.{no-fault}
 use Rattle.walk_fault.specs.Fault.{faultNumber}
 use Rattle.walk_fault.specs.declared.Fault.{Fault}
 use Rattle.walk_fault.specs.declared.Fault.the-variants.{Fine, Foreign, Forbidden, TooDeep, NoCall, PastEnd}
@@ -19,14 +20,6 @@ use Rattle.walk_point.specs.declared.Point.{Point}
 use Rattle.walk.specs.Index.{indexOf}
 use Rattle.walk.specs.Blocks.{commandAt, faultAt}
 use Rattle.walk.specs.Successors.{beyond, leadsTo, unless, flowAt, indices}
-
-no-fault : (f : Fault) → faultNumber f ≡ 0 → f ≡ Fine
-no-fault Fine e = refl
-no-fault Foreign e = absurd (omega arith)
-no-fault Forbidden e = absurd (omega arith)
-no-fault TooDeep e = absurd (omega arith)
-no-fault NoCall e = absurd (omega arith)
-no-fault PastEnd e = absurd (omega arith)
 
 faulty : (f : Fault) (g : Flow) → (faultNumber f ≡ 0 → ⊥) → unless f g ≡ End
 faulty Fine g n = absurd (n refl)

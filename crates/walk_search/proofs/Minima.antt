@@ -11,13 +11,13 @@ use borrow.Author.Tests.{ltb-true, ltb-false, lt-ltb, le-ltb}
 use borrow.Author.Count.{below-more}
 use Rattle.limits.specs.Limits.{mostBlocks, marksLength}
 use Rattle.walk_flow.specs.Terms.{Terms}
-use Rattle.image_number.proofs.Choice.{clash, by}
+use Rattle.logic.proofs.Choice.{clash, by, test}
 use Rattle.walk_point.specs.declared.Point.{Point}
 use Rattle.walk_fault.specs.declared.Fault.{Fault}
 use Rattle.walk.specs.Blocks.{faultAt}
 use Rattle.walk.specs.Index.{pointAt}
 use Rattle.walk.specs.Graph.{In, Reach, has, lesser, least}
-use Rattle.walk.proofs.Choice.{test, has-in, in-has}
+use Rattle.walk.proofs.Membership.{has-in, in-has}
 use Rattle.walk.specs.Successors.{nextOf}
 use Rattle.walk_fault.specs.Fault.{isForeign, isBad}
 use Rattle.walk.specs.Verdict.{rootOf, reached, leastForeign, leastBad}

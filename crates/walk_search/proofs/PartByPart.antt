@@ -14,10 +14,10 @@ use Rattle.image_header.specs.declared.reader.HeaderRead.{HeaderRead}
 use Rattle.image_header.proofs.HeaderGood.{header-good}
 use Rattle.walk_flow.specs.Terms.{termsIn}
 use Rattle.walk.specs.Verdict.{blocksVerdict, readVerdict, verdictOf, isAccepted, acceptedBlocks}
-use Rattle.image_number.proofs.Choice.{either}
+use Rattle.logic.proofs.Choice.{either}
 use Rattle.walk.specs.declared.Verdict.{Verdict}
 use Rattle.walk.specs.declared.Verdict.the-variants.{Image}
-use Rattle.walk.proofs.Verdicts.OfImage.{is-done}
+use Rattle.image_result.proofs.Done.{is-done}
 use Rattle.walk_search.specs.Search.{WalkBounds}
 
 module _ (image : List ℕ) where

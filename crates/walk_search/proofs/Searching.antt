@@ -14,7 +14,8 @@ use lib.Dec.{eqb}
 use borrow.Author.Count.{below-more}
 use borrow.Author.Tests.{eqb-true, eqb-false}
 use Rattle.limits.specs.Limits.{marksLength}
-use Rattle.image_number.proofs.Choice.{clash}
+use Rattle.logic.proofs.Choice.{clash}
+use Rattle.logic.proofs.Lists.{at-set}
 use Rattle.walk_flow.specs.Terms.{Terms}
 use Rattle.walk_point.specs.declared.Point.{Point}
 use Rattle.walk.specs.Index.{pointAt}
@@ -22,18 +23,10 @@ use Rattle.walk_flow.specs.declared.Flow.{Flow}
 use Rattle.walk.specs.Successors.{leadsTo, flowAt, successors, indices, nextOf}
 use Rattle.walk.specs.Graph.{In, Reach, has, lesser}
 use Rattle.walk.specs.Verdict.{rootOf, reached}
-use Rattle.walk.proofs.Choice.{has-in, in-has}
+use Rattle.walk.proofs.Membership.{has-in, in-has}
 use Rattle.walk.proofs.Graph.Least.{lesser-first, lesser-second}
 use Rattle.walk.proofs.Verdicts.OfWalks.{exact}
 use Rattle.walk_search.specs.Search.{pageLength, pageCount, Paged, Board, board, touched, touchedAll, doneAt, visited, Going, Searched, Swept, Fresh, WalkBounds}
-
--- what holds at every place of a list after a store
-at-set : (P : ℕ → ℕ → Type 0) (l : List ℕ) (q v : ℕ) → q < length l → P q v → ((p : ℕ) → (p ≡ q → ⊥) → P p (getD l p 0)) → (p : ℕ) → P p (getD (set l q v) p 0)
-at-set P l q v h same other p = go (ℕ-discrete p q)
-  where
-    go : Dec (p ≡ q) → P p (getD (set l q v) p 0)
-    go (yes e) = rw (e, getD-set-same l q v 0 h) same
-    go (no n) = rw (getD-set-other l q p v 0 n) (other p n)
 
 -- how many are not done
 unfoldable pub undone : List ℕ → ℕ
@@ -73,29 +66,29 @@ module _ (next : ℕ → List ℕ) (root : ℕ) (l : List ℕ) (cur : ℕ) (g : 
     paged-touch r a b =
         let g : q / pageLength < length d = omega (arith, k .pages, g .long) in
         record {
-          known = at-set (λ p v. v ≡ 1 → getD (set d (q / pageLength) 1) (p / pageLength) 0 ≡ 1) l q 1 h
+          known = at-set 0 (λ p v. v ≡ 1 → getD (set d (q / pageLength) 1) (p / pageLength) 0 ≡ 1) l q 1 h
               (λ _. getD-set-same d (q / pageLength) 1 0 g)
-              (λ p n e. at-set (λ j v. p / pageLength ≡ j → v ≡ 1) d (q / pageLength) 1 g (λ _. refl) (λ j m i. rw (← i) (k .known p e)) (p / pageLength) refl);
+              (λ p n e. at-set 0 (λ j v. p / pageLength ≡ j → v ≡ 1) d (q / pageLength) 1 g (λ _. refl) (λ j m i. rw (← i) (k .known p e)) (p / pageLength) refl);
           pages = length-set d (q / pageLength) 1 ∙ k .pages;
           clean = λ j i. getD-set-other d (q / pageLength) j 1 0 (λ e. omega arith) ∙ k .clean j (omega arith);
-          last = at-set (λ j v. j ≡ pageCount - 1 → v ≡ 1) d (q / pageLength) 1 g (λ _. refl) (λ j n i. rw i (k .last)) (pageCount - 1) refl;
+          last = at-set 0 (λ j v. j ≡ pageCount - 1 → v ≡ 1) d (q / pageLength) 1 g (λ _. refl) (λ j n i. rw i (k .last)) (pageCount - 1) refl;
         }
 
     fresh-grown : (r : ℕ) → getD l q 0 ≡ 0 → r ≤ cur → r ≤ q → Grown next root q (board l d cur) (board (set l q 1) (set d (q / pageLength) 1) r)
     fresh-grown r e a b = record {
       going = record {
         long = length-set l q 1 ∙ g .long;
-        kind = at-set (λ p v. v ≤ 2) l q 1 h (omega arith) (λ p n. g .kind p);
-        first = at-set (λ p v. p ≡ root → v ≡ 0 → ⊥) l q 1 h (λ i z. omega arith) (λ p n i z. g .first (rw i at z)) (root) refl;
-        sound = at-set (λ p v. (v ≡ 0 → ⊥) → Reach next root p) l q 1 h (λ m. w) (λ p n m. g .sound p m);
-        closed = λ p s. at-set (λ p v. (v ≡ 0 → ⊥) → (v ≡ 1 → ⊥) → In s (next p) → getD (set l q 1) s 0 ≡ 0 → ⊥) l q 1 h
+        kind = at-set 0 (λ p v. v ≤ 2) l q 1 h (omega arith) (λ p n. g .kind p);
+        first = at-set 0 (λ p v. p ≡ root → v ≡ 0 → ⊥) l q 1 h (λ i z. omega arith) (λ p n i z. g .first (rw i at z)) (root) refl;
+        sound = at-set 0 (λ p v. (v ≡ 0 → ⊥) → Reach next root p) l q 1 h (λ m. w) (λ p n m. g .sound p m);
+        closed = λ p s. at-set 0 (λ p v. (v ≡ 0 → ⊥) → (v ≡ 1 → ⊥) → In s (next p) → getD (set l q 1) s 0 ≡ 0 → ⊥) l q 1 h
             (λ m n. absurd (n refl))
-            (λ p n m k to. at-set (λ s v. In s (next p) → v ≡ 0 → ⊥) l q 1 h (λ t z. omega arith) (λ s n t z. g .closed p s m k t z) s to)
+            (λ p n m k to. at-set 0 (λ s v. In s (next p) → v ≡ 0 → ⊥) l q 1 h (λ t z. omega arith) (λ s n t z. g .closed p s m k t z) s to)
             p;
-        past = at-set (λ p v. p < r → v ≡ 1 → ⊥) l q 1 h (λ i z. omega arith) (λ p n i z. g .past p (omega arith) z);
+        past = at-set 0 (λ p v. p < r → v ≡ 1 → ⊥) l q 1 h (λ i z. omega arith) (λ p n i z. g .past p (omega arith) z);
       };
-      marked = at-set (λ p v. p ≡ q → v ≡ 0 → ⊥) l q 1 h (λ i z. omega arith) (λ p n i z. n i) q refl;
-      kept = at-set (λ p v. (getD l p 0 ≡ 0 → ⊥) → v ≡ getD l p 0) l q 1 h (λ m. absurd (m e)) (λ p n m. refl);
+      marked = at-set 0 (λ p v. p ≡ q → v ≡ 0 → ⊥) l q 1 h (λ i z. omega arith) (λ p n i z. n i) q refl;
+      kept = at-set 0 (λ p v. (getD l p 0 ≡ 0 → ⊥) → v ≡ getD l p 0) l q 1 h (λ m. absurd (m e)) (λ p n m. refl);
       same = undone-touch l q h e;
       low = a;
       paged = paged-touch r a b;
@@ -114,12 +107,12 @@ module _ (next : ℕ → List ℕ) (root : ℕ) (l : List ℕ) (cur : ℕ) (g : 
   pub done : (p : ℕ) → p < length l → (getD l p 0 ≡ 0 → ⊥) → ((q : ℕ) → In q (next p) → getD l q 0 ≡ 0 → ⊥) → Going next root (set l p 2) cur
   done o h m all = record {
     long = length-set l o 2 ∙ g .long;
-    kind = at-set (λ p v. v ≤ 2) l o 2 h (omega arith) (λ p n. g .kind p);
-    first = at-set (λ p v. p ≡ root → v ≡ 0 → ⊥) l o 2 h (λ i z. omega arith) (λ p n i z. g .first (rw i at z)) (root) refl;
-    sound = at-set (λ p v. (v ≡ 0 → ⊥) → Reach next root p) l o 2 h (λ k. g .sound o m) (λ p n k. g .sound p k);
-    closed = λ p s k j to. at-set (λ s v. (getD l s 0 ≡ 0 → ⊥) → v ≡ 0 → ⊥) l o 2 h (λ t z. omega arith) (λ s n t z. t z) s
-        (at-set (λ p v. (v ≡ 0 → ⊥) → (v ≡ 1 → ⊥) → In s (next p) → getD l s 0 ≡ 0 → ⊥) l o 2 h (λ k j to. all s to) (λ p n k j to. g .closed p s k j to) p k j to);
-    past = at-set (λ p v. p < cur → v ≡ 1 → ⊥) l o 2 h (λ i z. omega arith) (λ p n i z. g .past p i z);
+    kind = at-set 0 (λ p v. v ≤ 2) l o 2 h (omega arith) (λ p n. g .kind p);
+    first = at-set 0 (λ p v. p ≡ root → v ≡ 0 → ⊥) l o 2 h (λ i z. omega arith) (λ p n i z. g .first (rw i at z)) (root) refl;
+    sound = at-set 0 (λ p v. (v ≡ 0 → ⊥) → Reach next root p) l o 2 h (λ k. g .sound o m) (λ p n k. g .sound p k);
+    closed = λ p s k j to. at-set 0 (λ s v. (getD l s 0 ≡ 0 → ⊥) → v ≡ 0 → ⊥) l o 2 h (λ t z. omega arith) (λ s n t z. t z) s
+        (at-set 0 (λ p v. (v ≡ 0 → ⊥) → (v ≡ 1 → ⊥) → In s (next p) → getD l s 0 ≡ 0 → ⊥) l o 2 h (λ k j to. all s to) (λ p n k j to. g .closed p s k j to) p k j to);
+    past = at-set 0 (λ p v. p < cur → v ≡ 1 → ⊥) l o 2 h (λ i z. omega arith) (λ p n i z. g .past p i z);
   }
 
   pub onward : (getD l cur 0 ≡ 1 → ⊥) → Going next root l (cur + 1)
@@ -161,7 +154,7 @@ searched h bs r l g = record { long = g .long; mark = λ p. go p (has (reached h
 -- a point that is done is not pending
 paged-done : (l d : List ℕ) (o cur : ℕ) → o < length l → Paged l d cur → Paged (set l o 2) d cur
 paged-done l d o cur h k = record {
-  known = at-set (λ p v. v ≡ 1 → getD d (p / pageLength) 0 ≡ 1) l o 2 h (λ e. omega arith) (λ p n e. k .known p e);
+  known = at-set 0 (λ p v. v ≡ 1 → getD d (p / pageLength) 0 ≡ 1) l o 2 h (λ e. omega arith) (λ p n e. k .known p e);
   pages = k .pages;
   clean = k .clean;
   last = k .last;
@@ -254,7 +247,7 @@ passed next root l d cur g k e h =
     record {
       known = λ p z. getD-set-other d (cur / pageLength) (p / pageLength) 0 0 (λ s. g .past p (omega arith) z) ∙ k .known p z;
       pages = length-set d (cur / pageLength) 0 ∙ k .pages;
-      clean = at-set (λ j v. j * pageLength + pageLength ≤ cur + 1 → v ≡ 0) d (cur / pageLength) 0 i (λ _. refl) (λ j n o. k .clean j (omega arith));
+      clean = at-set 0 (λ j v. j * pageLength + pageLength ≤ cur + 1 → v ≡ 0) d (cur / pageLength) 0 i (λ _. refl) (λ j n o. k .clean j (omega arith));
       last = getD-set-other d (cur / pageLength) (pageCount - 1) 0 0 (λ s. omega arith) ∙ k .last;
     }
 

@@ -6,7 +6,7 @@ use mathlib.Core.List.{List}
 use native.Mathlib.Omega.{arith}
 use borrow.Author.Tests.{eq-eqb, ne-eqb}
 use Rattle.walk_flow.specs.Terms.{Terms}
-use Rattle.image_number.proofs.Choice.{by}
+use Rattle.logic.proofs.Choice.{by}
 use Rattle.walk.specs.Blocks.{blockFaultAt, blockNumber}
 use Rattle.walk.specs.Verdict.{walksVerdict, blocksVerdict}
 use Rattle.walk.specs.declared.Verdict.the-variants.{Block}

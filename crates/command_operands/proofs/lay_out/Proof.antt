@@ -1,6 +1,6 @@
 -- `lay_out` meets its contract, layout by layout.
 use borrow.Author.Needs.{needs}
-use Rattle.image_number.proofs.Choice.{arm}
+use Rattle.logic.proofs.Choice.{arm}
 use Rattle.command_table.specs.declared.Layout.{Layout}
 use Rattle.command_operands.specs.Operands.{laidOut}
 use Rattle.command_operands.proofs.lay_out.Statement.{statement}

@@ -1,7 +1,7 @@
 -- `put` meets its contract: past the third task nothing is put.
 use native.Mathlib.Omega.{arith}
 use borrow.Author.Needs.{needs}
-use Rattle.exec_tasks.proofs.Past.{set-past}
+use Rattle.logic.proofs.Lists.{set-past}
 use Rattle.exec_tasks.proofs.put.Statement.{statement}
 use Rattle.exec_tasks.proofs.put.Tie as tie
 

@@ -6,13 +6,13 @@ use mathlib.Core.Logic.{⊎-elim}
 use mathlib.Core.List.{List, [], _∷_}
 use lib.Dec.{T, eqb}
 use borrow.Author.Tests.{eqb-true}
-use Rattle.image_number.proofs.Choice.{clash}
+use Rattle.logic.proofs.Choice.{clash}
 use Rattle.command_table.specs.Rows.{rows, rowIn, rowOf, noRow}
 use Rattle.command_table.specs.declared.Row.{Row as Columns}
 use Rattle.command_table.proofs.EveryRow.{every, every-row}
 use Rattle.command_operands.specs.declared.Command.{Command}
 use Rattle.machine.specs.Effect.{CommandEffect, EffectRow, effectIn, effectRows}
-use Rattle.machine.proofs.Every.{All}
+use Rattle.logic.proofs.Lists.{All}
 
 abbrev has : List EffectRow → ℕ → Bool
 has [] code = false

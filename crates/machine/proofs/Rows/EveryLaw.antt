@@ -13,7 +13,7 @@ use Rattle.limits.specs.Limits.{bias, plc, mathematics, mostLevel, mostSpeed, m
 use Rattle.num_arith.specs.Wrap.{wrap}
 use Rattle.num_arith.specs.Ops.{holds, bitAt, eqZ}
 use Rattle.num_arith.proofs.Cut.{wrap-fits}
-use Rattle.image_number.proofs.Choice.{clash, both}
+use Rattle.logic.proofs.Choice.{clash, both}
 use Rattle.command_table.specs.Rows.{rows, rowIn, rowOf}
 use Rattle.command_operands.specs.declared.Command.{Command}
 use Rattle.command_judge.specs.BlockFault.{inRange}
@@ -28,7 +28,7 @@ use Rattle.machine.specs.StepRule.{Reason}
 use Rattle.machine.specs.Allows.{Allows}
 use Rattle.machine.specs.declared.Request.the-variants.{MoveTo, MoveBy, Forward, Backward}
 use Rattle.machine.specs.declared.Outcome.the-variants.{Jump, Call, Return, Start, Restart, End}
-use Rattle.machine.proofs.Every.{All, end, _&_}
+use Rattle.logic.proofs.Lists.{All, end, _&_}
 use Rattle.machine.proofs.Rows.EachRow.{Of, effect-of}
 use Rattle.machine.proofs.Rows.InRange.{bit-level, level-level, up-to, small-fits}
 use Rattle.machine.proofs.Rows.Waits.{rounded}

@@ -15,8 +15,7 @@ use Rattle.num_arith.specs.Wrap.{wrap}
 use Rattle.num_arith.specs.Ops.{quotient, eqZ}
 use Rattle.num_arith.proofs.Cut.{wrap-fits}
 use Rattle.num_arith.specs.declared.Quotient.the-variants.{Value, ByZero}
-use Rattle.image_number.proofs.Choice.{clash}
-use Rattle.walk.proofs.Choice.{neither}
+use Rattle.logic.proofs.Choice.{clash, neither}
 use Rattle.command_table.specs.Rows.{rowOf}
 use Rattle.command_operands.specs.declared.Command.{Command}
 use Rattle.command_judge.specs.BlockFault.{inRange}

@@ -8,7 +8,7 @@ use lib.Dec.{ltb}
 use borrow.Author.Tests.{leb-false, ltb-false, ltb-true, ne-eqb}
 use Rattle.limits.specs.Limits.{longestWait}
 use Rattle.drive.specs.Types.{type637Plus, cycleOf}
-use Rattle.image_number.proofs.Choice.{clash}
+use Rattle.logic.proofs.Choice.{clash}
 use Rattle.state.specs.Wait.{due}
 use Rattle.state.specs.GoodState.{GoodWait}
 use Rattle.state.proofs.Wait.{due-exactly}

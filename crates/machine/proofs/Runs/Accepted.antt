@@ -7,7 +7,7 @@ use Rattle.limits.specs.Limits.{mostBlocks}
 use Rattle.image_result.specs.ImageResult.{done}
 use Rattle.image_header.specs.Scan.{headerOf, blocksOf}
 use Rattle.walk_flow.specs.Terms.{Terms, termsOf}
-use Rattle.image_number.proofs.Choice.{clash}
+use Rattle.logic.proofs.Choice.{clash}
 use Rattle.image_header.proofs.HeaderGood.{header-good}
 use Rattle.walk_fault.specs.Fault.{isForeign, isBad}
 use Rattle.walk_flow.specs.Flow.{flowOf}
@@ -22,7 +22,8 @@ use Rattle.walk.specs.Verdict.{verdictOf, isAccepted}
 use Rattle.walk.specs.IsVerdict.{IsWalksVerdict, IsVerdict}
 use Rattle.walk.specs.declared.Verdict.{Verdict}
 use Rattle.walk.specs.declared.Verdict.the-variants as verdict
-use Rattle.walk.proofs.Verdicts.OfImage.{verdict-judges, is-done}
+use Rattle.walk.proofs.Verdicts.OfImage.{verdict-judges}
+use Rattle.image_result.proofs.Done.{is-done}
 use Rattle.walk.proofs.Points.Within.{Within, Passes, passes}
 use Rattle.walk.proofs.Steps.AsMoves.{follow-step}
 use Rattle.walk.proofs.Steps.History.{reached-within}

@@ -12,7 +12,7 @@ use borrow.Author.Tests.{eqb-true, eq-eqb}
 use Rattle.limits.specs.Limits.{taskCount, mostDepth}
 use Rattle.walk_flow.specs.Terms.{termsOf}
 use Rattle.image_header.specs.Scan.{headerOf, blocksOf}
-use Rattle.image_number.proofs.Choice.{clash}
+use Rattle.logic.proofs.Choice.{clash}
 use Rattle.walk_fault.specs.Fault.{faultNumber}
 use Rattle.walk_fault.specs.declared.Fault.{Fault}
 use Rattle.walk.specs.Walk.{starts}

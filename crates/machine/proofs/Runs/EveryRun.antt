@@ -22,7 +22,7 @@ use Rattle.machine.proofs.Steps.Reached.{Sound, never-sound}
 use Rattle.machine.proofs.Steps.Cases.{Agree}
 use Rattle.machine.proofs.Steps.Agrees.{step-same}
 use Rattle.image_header.proofs.HeaderGood.{header-good}
-use Rattle.walk.proofs.Verdicts.OfImage.{is-done}
+use Rattle.image_result.proofs.Done.{is-done}
 use Rattle.state.specs.GoodState.{GoodState}
 use Rattle.state.proofs.Fresh.{fresh-good}
 use Rattle.machine.proofs.Steps.KeepsGood.{keeps-good}

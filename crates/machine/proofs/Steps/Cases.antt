@@ -11,7 +11,7 @@ use borrow.Author.Tests.{eqb-true, eqb-false, ltb-true, ltb-false, lt-ltb, le-lt
 use Rattle.limits.specs.Limits.{taskCount, inputsLength}
 use Rattle.image_header.specs.Scan.{headerOf, blocksOf}
 use Rattle.walk_flow.specs.Terms.{Terms}
-use Rattle.image_number.proofs.Choice.{clash}
+use Rattle.logic.proofs.Choice.{clash}
 use Rattle.command_table.specs.Rows.{rows, rowIn, rowOf, noRow}
 use Rattle.command_table.specs.declared.Row.{Row as Columns}
 use Rattle.command_table.specs.declared.FlowKind.the-variants.{Nothing}

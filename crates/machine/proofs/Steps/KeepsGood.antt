@@ -9,14 +9,16 @@ use lib.Dec.{eqb, ltb}
 use lib.ListN.{length, getD, set, drop, length-set}
 use lib.Seq.{getD-set-same, getD-set-other, getD-drop}
 use borrow.Author.Tests.{eqb-true, eqb-false, leb-false, ltb-true}
+use Rattle.logic.proofs.Lists.{at-set}
 use Rattle.limits.specs.Limits.{bias, taskCount, mostDepth, inputsLength}
 use Rattle.num_le.specs.LittleEndian.{Bytes}
 use Rattle.image_result.specs.ImageResult.{done}
 use Rattle.image_header.specs.Scan.{headerOf, blocksOf}
 use Rattle.image_header.specs.declared.Header.{Header}
-use Rattle.image_number.proofs.Choice.{both}
+use Rattle.logic.proofs.Choice.{both}
 use Rattle.command_operands.specs.declared.Command.{Command}
 use Rattle.walk_flow.specs.Flow.{flowOf}
+use Rattle.walk_fault.proofs.NoFault.{no-fault}
 use Rattle.walk_fault.specs.Fault.{faultNumber}
 use Rattle.walk_point.specs.declared.Point.{Point}
 use Rattle.walk_fault.specs.declared.Fault.{Fault}
@@ -50,7 +52,7 @@ use Rattle.machine.proofs.Rows.Forms.{Law, Staying, Fit}
 use Rattle.machine.proofs.Rows.EveryLaw.{every-law}
 use Rattle.machine.proofs.Rows.Operands.{BlockBytes, fit}
 use Rattle.machine.proofs.Rows.Outcomes.{on-in, jump-in, call-in, behind-in, call-deep, return-deep, start-in, start-on}
-use Rattle.machine.proofs.Steps.TasksAfter.{at-set, set-set}
+use Rattle.machine.proofs.Steps.TasksAfter.{set-set}
 use Rattle.machine.proofs.Steps.Notes.{noted-alike, refused-alike}
 use Rattle.machine.proofs.Steps.Cases.{used-carried}
 
@@ -166,8 +168,8 @@ module _ (h : Header) where
       let n = g .three in
       record {
         three = length-set l t own ∙ g .three;
-        task = at-set l noTask t own (λ u q. u < taskCount → GoodTask h q) (omega arith) (λ _. d) (λ u _ j. g .task u j);
-        first = at-set l noTask t own (λ u q. u ≡ bias → q .start ≡ h .start) (omega arith) f (λ u _ e. rw e (g .first)) bias refl;
+        task = at-set noTask (λ u q. u < taskCount → GoodTask h q) l t own (omega arith) (λ _. d) (λ u _ j. g .task u j);
+        first = at-set noTask (λ u q. u ≡ bias → q .start ≡ h .start) l t own (omega arith) f (λ u _ e. rw e (g .first)) bias refl;
       }
 
 -- ---- bytes
@@ -193,14 +195,6 @@ module _ (image : List ℕ) (bytes : Bytes image) where
   bytes-at b (suc (suc (suc (suc (suc (suc (suc (suc k)))))))) = omega arith
 
 -- ---- a command that 17 lets pass
-
-pub no-fault : (f : Fault) → faultNumber f ≡ 0 → f ≡ Fine
-no-fault Fine e = refl
-no-fault Foreign e = absurd (omega arith)
-no-fault Forbidden e = absurd (omega arith)
-no-fault TooDeep e = absurd (omega arith)
-no-fault NoCall e = absurd (omega arith)
-no-fault PastEnd e = absurd (omega arith)
 
 module _ (image : List ℕ) (bytes : Bytes image) (s : State) (g : GoodState s) (x : Inputs) (l : x .task < taskCount)
     (r : taskAt s (x .task) .status ≡ runs) (pass : fits image (termsHeld s) (x .task) (taskAt s (x .task)) ≡ true) where

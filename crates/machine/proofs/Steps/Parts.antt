@@ -10,8 +10,9 @@ use lib.Dec.{eqb}
 use lib.ListN.{length, getD, set, length-set}
 use lib.Seq.{getD-set-same, getD-set-other}
 use borrow.Author.Tests.{eqb-false, eq-eqb, ne-eqb}
+use Rattle.logic.proofs.Lists.{at-set}
 use Rattle.limits.specs.Limits.{taskCount}
-use Rattle.image_number.proofs.Choice.{clash}
+use Rattle.logic.proofs.Choice.{clash}
 use Rattle.command_table.specs.Rows.{rowOf}
 use Rattle.command_operands.specs.declared.Command.{Command}
 use Rattle.walk_flow.specs.Flow.{flowOf}
@@ -39,7 +40,6 @@ use Rattle.machine.proofs.Rows.Operands.{in-ranges}
 use Rattle.state.proofs.Setters.{kept-set}
 use Rattle.machine.proofs.Runs.Accepted.{Accepted, hd, body, within}
 use Rattle.machine.proofs.Steps.Alike.{returns-return}
-use Rattle.machine.proofs.Steps.TasksAfter.{at-set}
 use Rattle.machine.proofs.Rows.Codes.{countF, counts-flow, return-flow, start-code, end-code}
 use Rattle.machine.proofs.Steps.Cases.{Agree, Ran, Case, effectHere, threadOf, step-case}
 
@@ -81,7 +81,7 @@ empty-count calls l t q n e u = go (ℕ-discrete u t)
 
 -- a task whose returns stay
 same-count : (calls : Calls) (l : List Thread) (t : ℕ) (q : Thread) → t < length l → Counts calls l → q .returns ≡ getD l t idle .returns → Counts calls (set l t q)
-same-count calls l t q i n e = at-set l idle t q (λ u k. behinds (calls u) ≡ k .returns) i (n t ∙ sym e) (λ u _. n u)
+same-count calls l t q i n e = at-set idle (λ u k. behinds (calls u) ≡ k .returns) l t q i (n t ∙ sym e) (λ u _. n u)
 
 back-count : (c : List ℕ) (p : Thread) → behinds c ≡ p .returns → behinds (withoutLatest c) ≡ back p (p .returns) .returns
 back-count c p e = subst (λ (r : List ℕ). behinds (withoutLatest c) ≡ back p r .returns) e (go c e)

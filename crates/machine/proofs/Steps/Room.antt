@@ -7,7 +7,7 @@ use native.Mathlib.Omega.{arith}
 use lib.Dec.{eqb}
 use borrow.Author.Tests.{eqb-true, eqb-false, leb-false}
 use Rattle.limits.specs.Limits.{mostDepth}
-use Rattle.image_number.proofs.Choice.{both}
+use Rattle.logic.proofs.Choice.{both}
 use Rattle.walk_flow.specs.Terms.{Terms}
 use Rattle.command_operands.specs.declared.Command.{Command}
 use Rattle.walk_flow.specs.Flow.{flowOf}
@@ -26,7 +26,7 @@ use Rattle.machine.specs.declared.Outcome.the-variants.{GoOn, Stay, Jump
 use Rattle.machine.proofs.Rows.EveryLaw.{every-law}
 use Rattle.machine.proofs.Rows.Outcomes.{call-deep, return-deep}
 use Rattle.machine.proofs.Steps.Cases.{used-carried}
-use Rattle.machine.proofs.Steps.KeepsGood.{no-fault}
+use Rattle.walk_fault.proofs.NoFault.{no-fault}
 
 module _ (bs : List ℕ) (h : Terms) (t : ℕ) (task : Task) (pass : blockFits h bs t task ≡ true) where
   abbrev c : Command

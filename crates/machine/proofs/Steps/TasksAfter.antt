@@ -8,6 +8,7 @@ use native.Mathlib.Decide.{ℕ-discrete}
 use lib.ListN.{length, getD, set, length-set}
 use lib.Seq.{getD-set-same, getD-set-other}
 use borrow.Author.Tests.{eqb-false, leb-false}
+use Rattle.logic.proofs.Lists.{at-set}
 use Rattle.limits.specs.Limits.{taskCount, mostDepth}
 use Rattle.walk_flow.specs.Terms.{Terms}
 use Rattle.walk_flow.specs.Flow.{flowOf}
@@ -31,15 +32,6 @@ use Rattle.machine.proofs.Rows.Outcomes.{on-in, jump-in, call-in, behin
 use Rattle.machine.proofs.Steps.Reached.{Sound, go-sound, stay-sound, call-sound, return-sound, restart-sound, stop-sound, start-sound}
 use Rattle.machine.proofs.Steps.Alike.{go-same, stay-same, call-same, return-same, restart-same, stop-same, start-same}
 use Rattle.machine.proofs.Rows.Forms.{timeless}
-
--- what holds after a store holds of what was stored, and of the other places as before
-pub at-set : {A : Type 0} (l : List A) (d : A) (t : ℕ) (x : A) (P : ℕ → A → Type 0) → t < length l → P t x → ((u : ℕ) → (u ≡ t → ⊥) → P u (getD l u d))
-    → (u : ℕ) → P u (getD (set l t x) u d)
-at-set l d t x P h px other u = go (ℕ-discrete u t)
-  where
-    go : Dec (u ≡ t) → P u (getD (set l t x) u d)
-    go (yes e) = rw (e, getD-set-same l t x d h) px
-    go (no n) = rw (getD-set-other l t u x d n) (other u n)
 
 -- of two stores to a place the second counts
 pub set-set : {A : Type 0} (l : List A) (t : ℕ) (x y : A) → set (set l t x) t y ≡ set l t y
@@ -74,9 +66,9 @@ module _ (image : List ℕ) where
       record {
         three = length-set ts t task ∙ b .three;
         also = length-set ps t p ∙ b .also;
-        sound = at-set ts noTask t task (λ u x. u < taskCount → Sound h bs u x) (omega arith) (λ _. s) (λ u _ i. b .sound u i);
+        sound = at-set noTask (λ u x. u < taskCount → Sound h bs u x) ts t task (omega arith) (λ _. s) (λ u _ i. b .sound u i);
         same = λ u i. pair u i (ℕ-discrete u t);
-        first = at-set ps idle t p (λ u x. u ≡ 0 → x .start ≡ h .header .start) (omega arith) f (λ u _ e. rw e (b .first)) 0 refl;
+        first = at-set idle (λ u x. u ≡ 0 → x .start ≡ h .header .start) ps t p (omega arith) f (λ u _ e. rw e (b .first)) 0 refl;
       }
     where
       pair : (u : ℕ) → u < taskCount → Dec (u ≡ t) → SameTask (getD (set ts t task) u noTask) (getD (set ps t p) u idle)

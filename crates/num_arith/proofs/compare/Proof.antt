@@ -8,7 +8,8 @@ use mir.Syntax.{w32}
 use mir.Facts.{toZ-ofZ}
 use Rattle.num_arith.specs.Ops.{holds, conditions}
 use Rattle.num_arith.proofs.Range.{got}
-use Rattle.num_arith.proofs.Comparisons.{same-bits, past}
+use Rattle.num_arith.proofs.Comparisons.{same-bits}
+use Rattle.logic.proofs.Each.{past}
 use Rattle.num_arith.proofs.compare.Statement.{statement}
 use Rattle.num_arith.proofs.compare.Tie as tie
 

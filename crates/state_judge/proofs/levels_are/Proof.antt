@@ -4,6 +4,7 @@ use native.Mathlib.Omega.{arith}
 use native.Mathlib.Numerals.{add-one}
 use mathlib.Core.Path.{_≡_, refl, ap, _∙_}
 use Rattle.limits.specs.Limits.{cells}
+use Rattle.logic.specs.Each.{eachBelow}
 use Rattle.state_layout.specs.IsState.{allOf, levelIs}
 use borrow.Author.Needs.{needs}
 use Rattle.state_judge.proofs.levels_are.Statement.{statement}
@@ -22,7 +23,7 @@ returns c =
     l .inv .1 ∙ ap (allOf levelIs (c .before .before .args .levels .now)) e
 
 pub levels-are-spec : {M : Type 1} → statement M
-unfolding allOf
+unfolding eachBelow
 levels-are-spec =
     tie.close
     (tie.spec

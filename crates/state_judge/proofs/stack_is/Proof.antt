@@ -4,6 +4,7 @@ use native.Mathlib.Omega.{arith}
 use native.Mathlib.Numerals.{add-one}
 use mathlib.Core.Path.{_≡_, refl, ap, _∙_}
 use Rattle.limits.specs.Limits.{mostDepth}
+use Rattle.logic.specs.Each.{eachBelow}
 use Rattle.state_layout.specs.IsState.{allOf, entryIs}
 use borrow.Author.Needs.{needs}
 use Rattle.state_judge.proofs.stack_is.Statement.{statement}
@@ -23,7 +24,7 @@ returns c =
     l .inv .1 ∙ ap (allOf (entryIs (a .count) (a .depth)) (a .stack .now)) e
 
 pub stack-is-spec : {M : Type 1} → statement M
-unfolding allOf
+unfolding eachBelow
 stack-is-spec =
     tie.close
     (tie.spec

@@ -3,6 +3,7 @@ use Prim.Native.Nat.{_-_, _≤_}
 use native.Mathlib.Omega.{arith}
 use native.Mathlib.Numerals.{add-one}
 use mathlib.Core.Path.{_≡_, refl, ap, _∙_}
+use Rattle.logic.specs.Each.{eachBelow}
 use Rattle.state_layout.specs.Layout.{unusedLength}
 use Rattle.state_layout.specs.IsState.{unusedBytesZero}
 use borrow.Author.Needs.{needs}
@@ -22,7 +23,7 @@ returns c =
     l .inv .1 ∙ ap (unusedBytesZero (c .before .before .args .b .now)) e
 
 pub unused-zero-spec : {M : Type 1} → statement M
-unfolding unusedBytesZero
+unfolding eachBelow
 unused-zero-spec =
     tie.close
     (tie.spec

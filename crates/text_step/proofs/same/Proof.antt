@@ -1,6 +1,7 @@
 -- `same` meets its contract: after k turns the first k bytes are compared.
 use borrow.Author.Needs.{needs}
-use Rattle.state_bytes.proofs.Has.{one-byte}
+use Rattle.state_bytes.proofs.Numbers.{one-byte}
+use Rattle.logic.specs.Each.{eachBelow}
 use Rattle.text_step.specs.Changes.{same}
 use mathlib.Core.Path.{_≡_, refl, ap, _∙_}
 use native.Mathlib.Numerals.{add-one}
@@ -17,7 +18,7 @@ abbrev μ-loop : tie.MeasureT-loop
 μ-loop a b at width pass₀ k₀ pass k = width - k
 
 loop-again : tie.Need-loop-again Inv-loop μ-loop
-unfolding same
+unfolding eachBelow
 loop-again c =
     let l = c .before .before .before .loop in
     let st = c .before .before .before .before .args in
@@ -33,7 +34,7 @@ returns c =
     l .inv .1 ∙ ap (same (a .a .now) (a .b .now) (a .at)) e
 
 pub same-spec : {M : Type 1} → statement M
-unfolding same
+unfolding eachBelow
 same-spec =
     tie.close
     (tie.spec

@@ -1,6 +1,7 @@
 -- `show_cells` meets its contract: after k turns the first k cells are compared.
 use borrow.Author.Needs.{needs}
 use Rattle.limits.specs.Limits.{cells}
+use Rattle.logic.specs.Each.{eachBelow}
 use Rattle.text_step.proofs.Shown.{is-same, then, within}
 use Rattle.text_step.specs.Changes.{same, sameCells}
 use mathlib.Core.Bool.{true, _&&_}
@@ -27,7 +28,7 @@ show-cell-requires : tie.Need-show-cell-requires Inv-loop μ-loop
 show-cell-requires c κs = let w = within (c .before .before .before .args .width) (c .before .loop .k) cells (let h : c .before .loop .k < cells = omega arith in h) in omega arith
 
 loop-again : tie.Need-loop-again Inv-loop μ-loop
-unfolding sameCells
+unfolding eachBelow
 loop-again c =
     let a = c .before .before .before .before .args in
     let l = c .before .before .loop in
@@ -41,7 +42,7 @@ returns c =
     l .inv .1 ∙ ap (λ (k : ℕ). a .nothing && sameCells (a .a .now) (a .b .now) (a .at) (a .width) k) e
 
 pub show-cells-spec : {M : Type 1} → statement M
-unfolding sameCells
+unfolding eachBelow
 show-cells-spec =
     tie.close
     (tie.spec

@@ -1,6 +1,6 @@
 -- `vectors::block_rows` meets its contract: the verdict is computed of each image.
 use mathlib.Core.Path.{refl, _∙_}
-use Rattle.vectors.proofs.Rows.{_◂_}
+use Rattle.logic.proofs.Lists.{_◂_}
 use Rattle.vectors.proofs.Blocks.{known}
 use borrow.Author.Needs.{needs}
 use Rattle.vectors.proofs.block_rows.Statement.{statement}

@@ -5,7 +5,7 @@ use Rattle.drive.specs.Types.{takes}
 use Rattle.image_number.specs.Number.{numberAt, firstByte, secondByte, numberBytes}
 use Rattle.image_header.specs.Rows.{checked}
 use Rattle.image_header.specs.Scan.{headerOf, closed, readWith, firstRefusal, lengthResult, scan, more, taken, judged, standsAt}
-use Rattle.vectors.proofs.Rows.{_◂_}
+use Rattle.logic.proofs.Lists.{_◂_}
 use Rattle.vectors.proofs.range_rows.Statement.{statement}
 use Rattle.vectors.proofs.range_rows.Tie as tie
 

@@ -11,7 +11,7 @@ use lib.ListN.{length, length-append}
 use lib.Dec.{eqb}
 use borrow.Author.Tests.{eqb-true, eqb-false}
 use Rattle.walk.specs.Graph.{In, has, Reach, closure}
-use Rattle.walk.proofs.Choice.{has-in, in-left, in-right, in-either}
+use Rattle.walk.proofs.Membership.{has-in, in-left, in-right, in-either}
 
 weight : Bool → ℕ
 weight b = cond b 0 1

@@ -7,7 +7,7 @@ use mathlib.Core.List.{List, [], _∷_}
 use native.Mathlib.Omega.{arith}
 use lib.Dec.{ltb}
 use borrow.Author.Tests.{ltb-true, ltb-false}
-use Rattle.image_number.proofs.Choice.{clash}
+use Rattle.logic.proofs.Choice.{clash}
 use Rattle.walk.specs.Graph.{In, lesser, least}
 
 pub lesser-first : (a b : ℕ) → lesser a b ≤ a

@@ -7,8 +7,7 @@ use native.Mathlib.Omega.{arith}
 use lib.Dec.{eqb, ltb}
 use borrow.Author.Tests.{ltb-true, ltb-false, eqb-true, eqb-false}
 use Rattle.walk_point.specs.declared.Point.{Point}
-use Rattle.image_number.proofs.Choice.{by, both}
-use Rattle.walk.proofs.Choice.{or-is, neither, not-both}
+use Rattle.logic.proofs.Choice.{by, both, or-is, neither, not-both}
 use Rattle.walk.specs.Index.{byNumber, before}
 
 -- by a number and the rest: the number decides, or it is the same and the rest does

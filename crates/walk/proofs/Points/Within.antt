@@ -11,7 +11,7 @@ use lib.Dec.{eqb, leb}
 use borrow.Author.Tests.{leb-false}
 use Rattle.limits.specs.Limits.{taskCount, mostDepth}
 use Rattle.walk_flow.specs.Terms.{Terms}
-use Rattle.image_number.proofs.Choice.{clash}
+use Rattle.logic.proofs.Choice.{clash, neither}
 use Rattle.command_table.specs.Rows.{rowOf}
 use Rattle.command_table.specs.declared.FlowKind.{FlowKind}
 use Rattle.command_table.specs.declared.FlowKind.the-variants as flowKind
@@ -27,7 +27,6 @@ use Rattle.walk_fault.specs.declared.Fault.the-variants.{Fine, Foreign, Forbidd
 use Rattle.walk.specs.Blocks.{commandAt, faultAt}
 use Rattle.walk.specs.Graph.{In}
 use Rattle.walk.specs.Successors.{leadsTo, unless, flowAt, successors}
-use Rattle.walk.proofs.Choice.{neither}
 
 -- whether a fault is none
 kind : Fault → Bool

@@ -8,7 +8,7 @@ use mathlib.Core.List.{List, [], _∷_}
 use lib.Dec.{eqb, leb}
 use borrow.Author.Tests.{leb-true, le-leb}
 use Rattle.walk_flow.specs.Terms.{Terms}
-use Rattle.image_number.proofs.Choice.{clash}
+use Rattle.logic.proofs.Choice.{clash, or-is}
 use Rattle.command_operands.specs.declared.Command.{Command}
 use Rattle.walk_flow.specs.Flow.{flowOf, continues}
 use Rattle.walk_flow.specs.Permission.{permitted}
@@ -19,7 +19,6 @@ use Rattle.walk_flow.specs.declared.Flow.the-variants.{Next, Wait, Jump, Branch
 use Rattle.walk.specs.Graph.{In}
 use Rattle.walk.specs.Walk.{WalkStep}
 use Rattle.walk.specs.Successors.{leadsTo}
-use Rattle.walk.proofs.Choice.{or-is}
 use Rattle.walk.proofs.Steps.Moves.{waitF}
 use Rattle.walk.proofs.Steps.AsMoves.{Special, step-follows, follow-step, may-stay}
 

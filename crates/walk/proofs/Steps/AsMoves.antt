@@ -17,7 +17,7 @@ use Rattle.walk.specs.Graph.{In}
 use Rattle.walk.specs.Walk.{Named, starts, goesOn, startOf, WalkStep}
 use Rattle.walk.specs.Walk.{stays as waits}
 use Rattle.walk.specs.Successors.{leadsTo}
-use Rattle.walk.proofs.Choice.{test}
+use Rattle.logic.proofs.Choice.{test}
 use Rattle.walk.proofs.Steps.Moves.{Flows, carried, onBy, startsBy, callF, waitF, Flowing, flowing, Move, moved, moves}
 
 -- where a step leads that is no move

@@ -9,7 +9,7 @@ use lib.ListN.{getD}
 use lib.Dec.{T, eqb}
 use borrow.Author.Tests.{eqb-true, eqb-false, eq-eqb, ne-eqb, not-true}
 use Rattle.limits.specs.Limits.{bias, plc, mathematics}
-use Rattle.image_number.proofs.Choice.{clash, both}
+use Rattle.logic.proofs.Choice.{clash, both}
 use Rattle.command_table.specs.Rows.{noRow, rows, rowIn, rowOf}
 use Rattle.command_table.specs.declared.FlowKind.{FlowKind}
 use Rattle.command_table.specs.declared.FlowKind.the-variants as kind

@@ -14,7 +14,7 @@ use Rattle.image_result.specs.ImageResult.{done}
 use Rattle.image_header.specs.Scan.{headerOf, blocksOf}
 use Rattle.walk_flow.specs.Terms.{Terms, termsIn}
 use Rattle.image_header.specs.declared.reader.HeaderRead.{HeaderRead}
-use Rattle.image_number.proofs.Choice.{clash}
+use Rattle.logic.proofs.Choice.{clash}
 use Rattle.walk.specs.Graph.{has, closure}
 use Rattle.walk.specs.Successors.{nextOf}
 use Rattle.walk.specs.Blocks.{blockFaultAt, blockNumber}

@@ -10,12 +10,13 @@ use lib.Dec.{eqb, ltb}
 use borrow.Author.Tests.{ltb-true, ltb-false, eqb-true, eqb-false}
 use borrow.Author.Count.{below-more}
 use Rattle.limits.specs.Limits.{mostBlocks, marksLength}
+use Rattle.image_result.proofs.Done.{is-done}
 use Rattle.image_result.specs.ImageResult.{done}
 use Rattle.image_header.specs.Scan.{headerOf, blocksOf}
 use Rattle.walk_flow.specs.Terms.{Terms, termsOf}
 use Rattle.image_result.specs.declared.ImageResult.{ImageResult}
 use Rattle.image_result.specs.declared.ImageResult.the-variants.{Done, EndsEarly, NotShortest, OutOfRange, LeftOver, NoRoom}
-use Rattle.image_number.proofs.Choice.{clash, by}
+use Rattle.logic.proofs.Choice.{clash, by}
 use Rattle.image_header.proofs.HeaderGood.{header-good}
 use Rattle.walk.specs.Blocks.{blockFaultAt, blockNumber}
 use Rattle.walk.specs.Verdict.{walksVerdict, blocksVerdict, readVerdict, verdictOf}
@@ -23,14 +24,6 @@ use Rattle.walk.specs.IsVerdict.{BlockPasses, IsVerdict}
 use Rattle.walk.specs.declared.Verdict.{Verdict}
 use Rattle.walk.specs.declared.Verdict.the-variants as verdict
 use Rattle.walk.proofs.Verdicts.OfWalks.{verdict-says, one-verdict}
-
-pub is-done : (o : ImageResult) → done o ≡ true → o ≡ Done
-is-done Done e = refl
-is-done (EndsEarly p) e = clash (sym e)
-is-done (NotShortest p) e = clash (sym e)
-is-done (OutOfRange p) e = clash (sym e)
-is-done (LeftOver p) e = clash (sym e)
-is-done (NoRoom p) e = clash (sym e)
 
 module _ (image : List ℕ) (n : ℕ) where
   abbrev h : Terms

@@ -1,7 +1,7 @@
 -- `flow_by` meets its contract, kind by kind.
 use borrow.Author.Needs.{needs}
 use mathlib.Core.Path.{refl}
-use Rattle.image_number.proofs.Choice.{arm}
+use Rattle.logic.proofs.Choice.{arm}
 use Rattle.command_table.specs.declared.FlowKind.{FlowKind}
 use Rattle.walk_flow.specs.Flow.{flowBy}
 use Rattle.walk_flow.proofs.flow_by.Statement.{statement}

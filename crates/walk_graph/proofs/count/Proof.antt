@@ -3,7 +3,7 @@ use borrow.Author.Needs.{needs}
 use mathlib.Core.Path.{refl, _∙_}
 use lib.Dec.{eqb}
 use lib.ListN.{length}
-use Rattle.image_number.proofs.Choice.{arm}
+use Rattle.logic.proofs.Choice.{arm}
 use Rattle.walk_flow.specs.declared.Flow.{Flow}
 use Rattle.walk_point.specs.PointFault.{point}
 use Rattle.walk.specs.Successors.{beyond, leadsTo}

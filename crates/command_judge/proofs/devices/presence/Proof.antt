@@ -1,7 +1,7 @@
 -- `presence` meets its contract, device by device.
 use borrow.Author.Needs.{needs}
 use mathlib.Core.Path.{refl}
-use Rattle.image_number.proofs.Choice.{arm}
+use Rattle.logic.proofs.Choice.{arm}
 use Rattle.command_table.specs.declared.Device.{Device}
 use Rattle.command_judge.specs.BlockFault.{devicePresence}
 use Rattle.command_judge.proofs.devices.presence.Statement.{statement}

@@ -11,7 +11,7 @@ use mir.Syntax.{w32}
 use mir.Val.{hbits, ofZ}
 use Rattle.num_arith.specs.Ops.{eqZ}
 use Rattle.num_arith.proofs.Comparisons.{same-bits}
-use Rattle.image_number.proofs.Choice.{arm}
+use Rattle.logic.proofs.Choice.{arm}
 use Rattle.command_table.specs.declared.Ranges.{Ranges}
 use Rattle.command_judge.specs.BlockFault.{inRange}
 use Rattle.command_judge.proofs.ranges.in_range.Statement.{statement}

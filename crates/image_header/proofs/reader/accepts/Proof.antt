@@ -5,6 +5,7 @@ use Prim.Native.Nat.{ℕ, _-_, _≤_}
 use mathlib.Core.List.{List}
 use native.Mathlib.Omega.{arith}
 use native.Mathlib.Numerals.{add-one}
+use Rattle.logic.specs.Each.{eachBelow}
 use Rattle.image_header.specs.Numbers.{headerFrom}
 use Rattle.image_header.specs.Rows.{rowCount, firstPass, accepts}
 use Rattle.image_header.proofs.reader.accepts.Statement.{statement}
@@ -17,7 +18,7 @@ abbrev μ-loop : tie.MeasureT-loop
 μ-loop numbers pass₀ row₀ pass row = rowCount - row
 
 loop-again : tie.Need-loop-again Inv-loop μ-loop
-unfolding firstPass
+unfolding eachBelow
 loop-again c = (search needs, rw (add-one, c .passed .ensures, c .before .check-row .ensures, ← c .before .before .before .loop .inv .1))
 
 returns : tie.Need-returns Inv-loop μ-loop
@@ -29,7 +30,7 @@ returns c =
     ∙ ap (λ (ns : List ℕ). firstPass rowCount (headerFrom ns)) (c .before .before .numbers-of .ensures)
 
 pub accepts-spec : {M : Type 1} → statement M
-unfolding firstPass
+unfolding eachBelow
 accepts-spec =
     tie.close
     (tie.spec

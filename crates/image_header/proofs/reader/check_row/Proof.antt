@@ -4,7 +4,7 @@ use mathlib.Core.Path.{sym, ap, _∙_}
 use mathlib.Core.Bool.{Bool, cond}
 use mathlib.Core.List.{List, []}
 use lib.ListN.{List·getD-eq-default}
-use Rattle.num_arith.proofs.Comparisons.{past}
+use Rattle.logic.proofs.Each.{past}
 use Rattle.image_header.specs.Numbers.{headerFrom}
 use Rattle.image_header.specs.Rows.{Test, headerRows, check, checked}
 use Rattle.image_header.specs.declared.reader.Check.the-variants.{Passes, Fails}

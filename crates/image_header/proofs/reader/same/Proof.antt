@@ -5,6 +5,8 @@ use mathlib.Core.List.{List}
 use Prim.Native.Nat.{ℕ, _-_, _≤_}
 use native.Mathlib.Omega.{arith}
 use native.Mathlib.Numerals.{add-one}
+use Rattle.logic.specs.Each.{eachBelow}
+use Rattle.image_header.specs.Numbers.{numbersOf}
 use Rattle.image_header.specs.Rows.{rowCount, firstSame, sameHeader}
 use Rattle.image_header.proofs.reader.same.Statement.{statement}
 use Rattle.image_header.proofs.reader.same.Tie as tie
@@ -20,13 +22,13 @@ unfolding sameHeader
 returns c =
     let l = c .before .loop in
     let e : l .row ≡ rowCount = omega arith in
-    l .inv .1
-    ∙ ap (λ (k : ℕ). firstSame k (c .before .before .before .numbers-of .result) (c .before .before .numbers-of2 .result)) e
-    ∙ ap (λ (ns : List ℕ). firstSame rowCount ns (c .before .before .numbers-of2 .result)) (c .before .before .before .numbers-of .ensures)
-    ∙ ap (firstSame rowCount _) (c .before .before .numbers-of2 .ensures)
+    let p = c .before .before .before .numbers-of in
+    let q = c .before .before .numbers-of2 in
+    l .inv .1 ∙ ap (λ (k : ℕ). firstSame k (p .result) (q .result)) e ∙ ap (λ (ns : List ℕ). firstSame rowCount ns (q .result)) (p .ensures)
+    ∙ ap (λ (ns : List ℕ). firstSame rowCount (numbersOf (c .before .before .before .before .args .a)) ns) (q .ensures)
 
 pub same-spec : {M : Type 1} → statement M
-unfolding firstSame
+unfolding eachBelow
 same-spec =
     tie.close
     (tie.spec

@@ -6,7 +6,7 @@ use mathlib.Core.Logic.{⊎-elim}
 use native.Mathlib.Omega.{arith}
 use denote.Ref.{now}
 use Rattle.limits.specs.Limits.{marksLength}
-use Rattle.image_number.proofs.Choice.{clash}
+use Rattle.logic.proofs.Choice.{clash}
 use Rattle.walk_search.proofs.Minima.{LeastSo, self, badAt, least-begun, least-kept, bad-is}
 use borrow.Author.Needs.{needs}
 use Rattle.walk_search.proofs.Minima.{first-bad, fault-bad}

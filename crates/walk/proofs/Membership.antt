@@ -1,42 +1,13 @@
--- Tests that are true or false, and memberships.
+-- Membership of a list, as a test and as a fact.
 use Prim.Native.Nat.{ℕ}
-use mathlib.Core.Path.{_≡_, refl, sym}
-use mathlib.Core.Bool.{Bool, true, false, _&&_, _||_}
+use mathlib.Core.Path.{_≡_, sym}
+use mathlib.Core.Bool.{true}
 use mathlib.Core.Logic.{_⊎_, inl, inr, ⊎-elim}
 use mathlib.Core.List.{List, [], _∷_, _++_}
 use borrow.Author.Tests.{eqb-true, eq-eqb}
 use lib.Dec.{eqb}
-use Rattle.image_number.proofs.Choice.{clash}
+use Rattle.logic.proofs.Choice.{clash, or-is, or-right}
 use Rattle.walk.specs.Graph.{In, has}
-
--- one of two
-pub or-is : (a b : Bool) → (a || b) ≡ true → (a ≡ true) ⊎ (b ≡ true)
-or-is true b e = inl refl
-or-is false b e = inr e
-
-pub or-right : (a : Bool) → (a || true) ≡ true
-or-right true = refl
-or-right false = refl
-
--- none of two
-pub neither : (a b : Bool) → (a || b) ≡ false → (a ≡ false) × (b ≡ false)
-neither true b e = clash e
-neither false b e = (refl, e)
-
--- not both of two
-pub not-both : (a b : Bool) → (a && b) ≡ false → (a ≡ false) ⊎ (b ≡ false)
-not-both true b e = inr e
-not-both false b e = inl refl
-
--- a test that is not true is false
-pub not-is : (a : Bool) → (a ≡ true → ⊥) → a ≡ false
-not-is true n = absurd (n refl)
-not-is false n = refl
-
--- by cases on a test
-pub test : {P : Type 0} (a : Bool) → (a ≡ true → P) → (a ≡ false → P) → P
-test true f g = f refl
-test false f g = g refl
 
 pub has-in : (xs : List ℕ) (q : ℕ) → has xs q ≡ true → In q xs
 has-in [] q e = clash (sym e)

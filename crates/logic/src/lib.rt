@@ -1,0 +1,1 @@
+// Tests, choices and lists, and laws about them that are of no paper. No code.
