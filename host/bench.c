@@ -287,6 +287,13 @@ static uint32_t next_random(void)
     return seed >> 8;
 }
 
+/* One block: what a load costs whatever the length of the program. */
+static void make_one(void)
+{
+    count = 0;
+    put_jump(count++, 0x55, 0);
+}
+
 static void make_straight(void)
 {
     for (count = 0; count < BIAS_MOST_BLOCKS - 1; count++)
@@ -416,7 +423,8 @@ static void bench_load(const char *name, void (*make)(void))
 
 static void bench_all_loads(void)
 {
-    print_head("a load of 1,500 blocks", "us");
+    print_head("a load of 1,500 blocks, the first of one", "us");
+    bench_load("one block", make_one);
     bench_load("straight code", make_straight);
     bench_load("branches everywhere", make_branches);
     bench_load("calls at all depths in three tasks", make_calls);

@@ -21,18 +21,19 @@
  *     the program that was judged: 17 is no checksum.
  *   - Nobody but the library writes a state buffer. 16 refuses what is no state; it is no checksum either. A copy of the
  *     buffer, byte for byte, is the same state.
- *   - A state buffer has the layout of the release that loaded it. Its byte at 1536 is the layout number, which is
- *     raised by each release that moves a byte or gives one another meaning (a rule for releases, not proved). A state
- *     with another number is refused by 16: load anew, which begins the program from its start. So is a state of a
- *     release that had no such number yet: it has 1 there. A program that an earlier release loaded may be refused.
+ *   - A state buffer has the layout of the release that loaded it. Its byte at BIAS_STATE_LAYOUT_AT is the layout
+ *     number, which is raised by each release that moves a byte or gives one another meaning (a rule for releases, not
+ *     proved). A state with another number is refused by 16: load anew, which begins the program from its start. So is
+ *     a state of a release that had no such number yet: it has 1 there. A program that an earlier release loaded may
+ *     be refused.
  *
  * WHAT YOU LEND
- *   image   the program's bytes; only read. One of more than 12,008 bytes is always refused
- *   marks   BIAS_MARKS_LENGTH (27,000) bytes or more, during bias_load only; its content needs no clearing, and is
- *           anything afterwards; the library leaves bytes behind the first 27,000 alone
- *   state   BIAS_STATE_LENGTH (2,048) bytes exactly, one buffer for each program that runs
- *   inputs  BIAS_INPUTS_LENGTH (256) bytes exactly, during bias_step only; only read
- * Besides, a step uses about 8 KiB of stack and a load or a write under 1 KiB, as measured on x86-64 (docs/BENCH.md).
+ *   image   the program's bytes; only read. One of more than BIAS_MOST_IMAGE_LENGTH bytes is always refused
+ *   marks   BIAS_MARKS_LENGTH bytes or more, during bias_load only; its content needs no clearing, and is anything
+ *           afterwards; the library leaves bytes behind the first BIAS_MARKS_LENGTH alone
+ *   state   BIAS_STATE_LENGTH bytes exactly, one buffer for each program that runs
+ *   inputs  BIAS_INPUTS_LENGTH bytes exactly, during bias_step only; only read
+ * Besides, a step uses under 8 KiB of stack and a load or a write under 1 KiB, as measured on x86-64 (docs/BENCH.md).
  *
  * IN EACH CYCLE
  *   1. Read the input pins into inputs, and the start input (which is a pin as well: lend it in both places).
@@ -63,10 +64,11 @@ extern "C" {
 #define BIAS_BLOCK_LENGTH 8u        /* a command code and seven operand bytes */
 #define BIAS_MOST_BLOCKS 1500u
 #define BIAS_MOST_DEPTH 5u          /* calls (52) that a task may be inside of */
-#define BIAS_MOST_IMAGE_LENGTH 12008u /* header of 4 + 2 + 2 bytes, 1500 blocks; room enough for any bias_write */
+#define BIAS_MOST_IMAGE_LENGTH 12008u /* header of 4 + 2 + 2 bytes, the most blocks; room enough for any bias_write */
 #define BIAS_FORMAT 1u
 
-/* What firmware may read in a state buffer: bytes 0 to 1535. The bytes behind them may move with any release. */
+/* What firmware may read in a state buffer: the bytes before BIAS_STATE_LAYOUT_AT. Those behind may move with any
+ * release. */
 #define BIAS_STATE_VARIABLES 0u     /* 256 variables, four bytes each, low byte first, signed */
 #define BIAS_STATE_FLAGS 1024u      /* 256 flags, a byte each, 0 or 1 */
 #define BIAS_STATE_OUTPUTS 1280u    /* 256 output levels, a byte for each pin number, 0 or 1 */
@@ -124,16 +126,17 @@ enum {
     BIAS_BAD_OPERAND = 7,             /* another operand out of range, or a 51 that would end another task: block */
     BIAS_UNUSED_NOT_ZERO = 8,         /* a byte that the command does not use is not 0: block */
     BIAS_FORBIDDEN = 9,               /* a command not allowed in the task that can reach it: block, task, depth */
-    BIAS_TOO_DEEP = 10,               /* a call at depth 5: block, task, depth */
+    BIAS_TOO_DEEP = 10,               /* a call at depth BIAS_MOST_DEPTH: block, task, depth */
     BIAS_NO_CALL = 11,                /* a return that some way reaches without a call: block, task, depth */
     BIAS_PAST_END = 12,               /* the program can run past its end: block, task, depth */
     /* lent lengths */
-    BIAS_MARKS_SHORT = 13,            /* bias_load: marks under 27,000 bytes: their length */
+    BIAS_MARKS_SHORT = 13,            /* bias_load: marks under BIAS_MARKS_LENGTH bytes: their length */
     BIAS_ROOM_SHORT = 14,             /* bias_write: no room for the image: the length needed */
-    BIAS_BAD_INPUTS = 15,             /* bias_step: no such task: its number; or not 256 inputs: their length */
-    BIAS_NO_STATE = 16,               /* the state has another length than 2,048, or, in bias_step, is no state or has
-                                         another layout number than BIAS_STATE_LAYOUT (a release with another layout
-                                         saved it: load anew): none */
+    BIAS_BAD_INPUTS = 15,             /* bias_step: no such task: its number; or not BIAS_INPUTS_LENGTH inputs: their
+                                         length */
+    BIAS_NO_STATE = 16,               /* the state has another length than BIAS_STATE_LENGTH, or, in bias_step, is no
+                                         state or has another layout number than BIAS_STATE_LAYOUT (a release with
+                                         another layout saved it: load anew): none */
     /* steps */
     BIAS_OTHER_IMAGE = 17,            /* header or length not the loaded image's, or the current block breaks 5 to 12 or
                                          23, or a wait is pending there and it is no wait: block, task, depth */
@@ -182,7 +185,7 @@ bias_verdict bias_load(const uint8_t *image, size_t image_len,
  *   image, image_len    the image that was loaded
  *   state, state_len    what bias_load left and the steps since have changed
  *   task                BIAS_TASK_...; call once for each task and cycle, or in any order you like
- *   inputs, inputs_len  256 levels, inputs[n] for pin n; anything but 0 is high
+ *   inputs, inputs_len  BIAS_INPUTS_LENGTH levels, inputs[n] for pin n; anything but 0 is high
  *   start_input         the start input's level; anything but 0 is high; looked at in BIAS steps. A move without a start
  *                       mark waits for it to be high in a BIAS step and low in the BIAS step before it (a refused step
  *                       does not count); as load leaves it, it counts as high before
@@ -203,8 +206,8 @@ bias_answer bias_step(const uint8_t *image, size_t image_len,
  *   format              BIAS_FORMAT
  *   type, slot_b, slot_c  BIAS_TYPE_..., BIAS_SLOT_B_..., BIAS_SLOT_C_...
  *   start               the block where BIAS begins, below count
- *   count               blocks, 1 to 1500
- *   blocks, blocks_len  8 bytes for each block
+ *   count               blocks, 1 to BIAS_MOST_BLOCKS
+ *   blocks, blocks_len  BIAS_BLOCK_LENGTH bytes for each block
  *   out, out_len        room for the image; bytes behind it stay as they are
  *
  * Refusals, in this order: 3 (place: the byte where that number would stand), 1 or 4 for blocks that are too short or too

@@ -64,7 +64,8 @@ module _ (image b : List ℕ) (x : Inputs) where
   unfolding stepped
   no-task h = rw (le-ltb (x .task) taskCount h)
 
-  pub bad-inputs : x .task < taskCount → (length (x .levels) ≡ inputsLength → ⊥) → stepped image b x ≡ refuseStep (answerFor None (BadInputs (length (x .levels)))) b
+  pub bad-inputs : x .task < taskCount → (length (x .levels) ≡ inputsLength → ⊥)
+      → stepped image b x ≡ refuseStep (answerFor None (BadInputs (length (x .levels)))) b
   unfolding stepped
   bad-inputs h d = rw (lt-ltb (x .task) taskCount h, ne-eqb (length (x .levels)) inputsLength d)
 
@@ -81,7 +82,8 @@ module _ (image b : List ℕ) (x : Inputs) where
   of-state e = rw e
 
   -- by cases: no such task, inputs of another length, or both given
-  pub asked : {P : Type 0} → (taskCount ≤ x .task → P) → (x .task < taskCount → (length (x .levels) ≡ inputsLength → ⊥) → P) → (x .task < taskCount → length (x .levels) ≡ inputsLength → P) → P
+  pub asked : {P : Type 0} → (taskCount ≤ x .task → P) → (x .task < taskCount → (length (x .levels) ≡ inputsLength → ⊥) → P)
+      → (x .task < taskCount → length (x .levels) ≡ inputsLength → P) → P
   asked {P} no-such wrong right = by (x .task) taskCount (λ l. go l (eqb (length (x .levels)) inputsLength) refl) no-such
     where
       go : x .task < taskCount → (t : Bool) → eqb (length (x .levels)) inputsLength ≡ t → P

@@ -48,7 +48,8 @@ pub extern "C" fn bias_load(image: &[u8], marks: &mut [u8], state: &mut [u8]) ->
 fn load_image(image: &[u8], marks: &mut [u8], state: &mut [u8]) -> BiasVerdict
     requires { ⌜ length (now state) ≡ stateLength ⌝ }
     ensures { λ r. ⌜ r ≡ judgedLoad (now (image .entry)) (verdictOf (now (image .entry)) (length (now (marks .entry)))) (now (state .entry)) .verdict ⌝ }
-    ensures { λ _. ⌜ now (state .exit) ≡ judgedLoad (now (image .entry)) (verdictOf (now (image .entry)) (length (now (marks .entry)))) (now (state .entry)) .buffer ⌝ }
+    ensures { λ _. ⌜ now (state .exit)
+        ≡ judgedLoad (now (image .entry)) (verdictOf (now (image .entry)) (length (now (marks .entry)))) (now (state .entry)) .buffer ⌝ }
     ensures { λ _. ⌜ After marksLength (now (marks .entry)) (now (marks .exit)) ⌝ }
 {
     let verdict = walk_search::judge(image, marks);

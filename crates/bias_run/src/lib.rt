@@ -22,7 +22,8 @@ pub fn bias_run(image: &[u8], marks: &mut [u8], state: &mut [u8], steps: &[u8]) 
     ensures { λ r. ⌜ r ≡ load (now (image .entry)) (length (now (marks .entry))) (now (state .entry)) .verdict ⌝ }
     ensures { λ _. ⌜ now (state .exit) ≡ afterRun (now (image .entry)) (length (now (marks .entry))) (now (state .entry)) (now (steps .entry)) ⌝ }
     ensures { λ _. ⌜ After marksLength (now (marks .entry)) (now (marks .exit)) ⌝ }
-    ensures { λ r. ⌜ (r .number ≡ 0 → Run (now (image .entry)) (load (now (image .entry)) (length (now (marks .entry))) (now (state .entry)) .buffer) (stepsOf (now (steps .entry)))) ⌝ }
+    ensures { λ r. ⌜ (r .number ≡ 0
+        → Run (now (image .entry)) (load (now (image .entry)) (length (now (marks .entry))) (now (state .entry)) .buffer) (stepsOf (now (steps .entry)))) ⌝ }
 {
     let verdict = bias::bias_load(image, marks, state);
     if verdict.number != 0 {

@@ -27,7 +27,8 @@ use Rattle.command_table.specs.declared.Device.{Device}
 use Rattle.command_table.specs.declared.Device.the-variants.{NoDevice, InputX, InputY, OutputReadX, OutputReadY, OutputWrittenX, Not637Plus}
 use Rattle.command_operands.specs.Operands.{byteAt, laidOut, unusedZero}
 use Rattle.command_operands.specs.declared.Command.{Command}
-use Rattle.command_judge.specs.BlockFault.{notOn637Plus, devicePresence, operandFault, ifPresent, commandFault, rowFault, blockFault, blockFaultNumber, inRange}
+use Rattle.command_judge.specs.BlockFault.{notOn637Plus, devicePresence, operandFault, ifPresent, commandFault, rowFault, blockFault, blockFaultNumber}
+use Rattle.command_judge.specs.BlockFault.{inRange}
 use Rattle.command_judge.specs.Boards.{OnDrive, Buyable, OtherDrive}
 use Rattle.command_judge.specs.declared.BlockFault.{BlockFault}
 use Rattle.command_judge.specs.declared.BlockFault.the-variants.{Fine, NotCarried, NotOnDrive, BoardMissing, OutOfRange, NotZero}
@@ -89,7 +90,8 @@ apart f g n e = absurd (n (ap blockFaultNumber e))
 
 module _ (r : Row) (count : ℕ) (b : List ℕ) (c : Command) where
   -- 7 and 8 are neither
-  operands-apart : (f : BlockFault) → (blockFaultNumber f ≡ 0 → ⊥) → (blockFaultNumber f ≡ 7 → ⊥) → (blockFaultNumber f ≡ 8 → ⊥) → operandFault r count b c ≡ f → ⊥
+  operands-apart : (f : BlockFault) → (blockFaultNumber f ≡ 0 → ⊥) → (blockFaultNumber f ≡ 7 → ⊥) → (blockFaultNumber f ≡ 8 → ⊥) → operandFault r count b c ≡ f
+      → ⊥
   unfolding operandFault
   operands-apart f n m k e = go (inRange (r .ranges) count c) (unusedZero (r .layout) b) e
     where

@@ -3,7 +3,8 @@ use command_table::Layout;
 use limits::BLOCK_LENGTH;
 ghost use mathlib.Core.Path.{_≡_};
 ghost use Rattle.command_operands.specs.Operands.{laidOut, operands, usedBytes, unusedZero};
-ghost use Rattle.command_operands.specs.Operands.{byteOf, wordOf, pairOf, tripleOf, tripleWordOf, byteWordOf, valueOf, byteValueOf, pairValueOf, valueJumpOf, bareOf};
+ghost use Rattle.command_operands.specs.Operands.{byteOf, wordOf, pairOf, tripleOf, tripleWordOf, byteWordOf, valueOf, byteValueOf, pairValueOf};
+ghost use Rattle.command_operands.specs.Operands.{valueJumpOf, bareOf};
 
 // A command: its code and its operands. An operand that the code's layout does not have is 0.
 pub struct Command {

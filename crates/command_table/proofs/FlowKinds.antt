@@ -7,7 +7,8 @@ use lib.Dec.{eqb}
 use lib.ListN.{getD}
 use borrow.Author.Tests.{eqb-true}
 use Rattle.command_table.specs.declared.FlowKind.{FlowKind}
-use Rattle.command_table.specs.declared.FlowKind.the-variants.{Nothing, Next, Wait, Jump, Branch, Call, Return, StartBias, StartPlc, StartMathematics, Ending}
+use Rattle.command_table.specs.declared.FlowKind.the-variants.{Nothing, Next, Wait, Jump, Branch, Call, Return, StartBias, StartPlc, StartMathematics}
+use Rattle.command_table.specs.declared.FlowKind.the-variants.{Ending}
 
 abbrev kinds : List FlowKind
 kinds = Nothing ∷ Next ∷ Wait ∷ Jump ∷ Branch ∷ Call ∷ Return ∷ StartBias ∷ StartPlc ∷ StartMathematics ∷ Ending ∷ []

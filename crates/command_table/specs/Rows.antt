@@ -15,7 +15,8 @@ use Rattle.command_table.specs.declared.Ranges.{Ranges}
 use Rattle.command_table.specs.declared.Ranges.the-variants.{Any, Address, Mode, Level, LevelJump, BitJump, ConditionJump, Divisor, FlagRun}
 use Rattle.command_table.specs.declared.Ranges.the-variants.{AxisTarget, ModeAxis, ModeRamp, Speed, Ramp}
 use Rattle.command_table.specs.declared.FlowKind.{FlowKind}
-use Rattle.command_table.specs.declared.FlowKind.the-variants.{Nothing, Next, Wait, Jump, Branch, Call, Return, StartBias, StartPlc, StartMathematics, Ending}
+use Rattle.command_table.specs.declared.FlowKind.the-variants.{Nothing, Next, Wait, Jump, Branch, Call, Return, StartBias, StartPlc, StartMathematics}
+use Rattle.command_table.specs.declared.FlowKind.the-variants.{Ending}
 
 -- ---- tasks: 1 for BIAS, 2 for the PLC, 4 for mathematics, added
 

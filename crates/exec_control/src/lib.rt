@@ -9,12 +9,12 @@ use machine::Outcome;
 use state::Values;
 ghost use mathlib.Core.Path.{_≡_};
 ghost use mathlib.Core.Bool.{cond};
-ghost use mathlib.Core.List.{[]};
 ghost use Prim.Native.Nat.{_*_, _<_};
 ghost use lib.Dec.{eqb};
 ghost use Rattle.limits.specs.Limits.{bias, plc, mathematics, mostTime};
 ghost use Rattle.state.specs.Wait.{due};
-ghost use Rattle.machine.specs.Effect.{sets, flows, halts, variable, within, natural, isSet, waits, waitsVariable, timeOf, controlRows, mathematicsRows, effectIn};
+ghost use Rattle.machine.specs.Effect.{flows, within, natural, isSet, waits, waitsVariable, timeOf, controlRows, mathematicsRows};
+ghost use Rattle.machine.specs.Effect.{effectIn};
 ghost use Rattle.machine.specs.declared.Outcome.the-variants.{GoOn, Stay, Jump, Call, Return, Start, Restart, End};
 
 // What a command of this group does; any other leaves its task where it is. The turns of a pending wait can be counted on.

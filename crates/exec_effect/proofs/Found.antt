@@ -12,7 +12,9 @@ use Rattle.machine.specs.declared.Effect.{Effect}
 pub found : (rs : List EffectRow) (g : Context) (c : Command) (v : Values) {k n : ℕ} {e : Effect} → n ≡ k → e ≡ effectIn rs k g c v → e ≡ effectIn rs n g c v
 found rs g c v {k} {n} i h = h ∙ ap (λ (m : ℕ). effectIn rs m g c v) (sym i)
 
-pub missed : (rs : List EffectRow) (g : Context) (c : Command) (v : Values) (n : ℕ) {e : Effect} → NoRow (λ (r : EffectRow). r .code) (Unit {0}) rs n → e ≡ nothing g c v → e ≡ effectIn rs n g c v
+pub missed : (rs : List EffectRow) (g : Context) (c : Command) (v : Values) (n : ℕ) {e : Effect} → NoRow (λ (r : EffectRow). r .code) (Unit {0}) rs n
+    → e ≡ nothing g c v → e ≡ effectIn rs n g c v
 unfolding effectIn
 missed rs g c v n m h =
-    h ∙ ap (λ (d : CommandEffect). d g c v) (sym (looked-past (λ (r : EffectRow). r .code) (λ r. r .effect) nothing effectIn (λ n. refl) (λ r rs n. refl) rs n m))
+    h ∙ ap (λ (d : CommandEffect). d g c v)
+    (sym (looked-past (λ (r : EffectRow). r .code) (λ r. r .effect) nothing effectIn (λ n. refl) (λ r rs n. refl) rs n m))

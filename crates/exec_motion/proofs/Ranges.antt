@@ -25,7 +25,8 @@ is-natural most (pos n) e = refl
 is-natural most (negsuc n) e = clash (sym e)
 
 -- what the cast to a parameter asks, and gives
-pub asked : (most : ℕ) (z : ℤ) → Fits w16 most → SFits w32 z → within 1 most z ≡ true → T (nonNeg (toZ w32 (ofZ w32 z))) × Fits w16 (natAbs (toZ w32 (ofZ w32 z)))
+pub asked : (most : ℕ) (z : ℤ) → Fits w16 most → SFits w32 z → within 1 most z ≡ true
+    → T (nonNeg (toZ w32 (ofZ w32 z))) × Fits w16 (natAbs (toZ w32 (ofZ w32 z)))
 asked most z g f e = rw (toZ-ofZ f) (cast most z g e)
 
 pub got-natural : (most : ℕ) (z : ℤ) → SFits w32 z → within 1 most z ≡ true → natAbs (toZ w32 (ofZ w32 z)) ≡ natural z

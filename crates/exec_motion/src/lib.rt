@@ -12,7 +12,6 @@ use state::FIRST_AXIS;
 use state::Values;
 ghost use mathlib.Core.Path.{_≡_};
 ghost use mathlib.Core.Bool.{true, cond};
-ghost use mathlib.Core.List.{[]};
 ghost use lib.IntN.{pos};
 ghost use Rattle.limits.specs.Limits.{mostSpeed, mostRamp};
 ghost use Rattle.state.specs.State.{firstAxis, axisOf, withAxis, withMark, withPosition, withSpeed, withAcceleration, withDeceleration};

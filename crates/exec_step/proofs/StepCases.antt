@@ -19,7 +19,8 @@ use Rattle.machine.specs.Effect.{effectOf}
 use Rattle.logic.proofs.Choice.{both}
 use Rattle.image_header.specs.Scan.{headerOf, blocksOf}
 use Rattle.image_header.specs.declared.reader.HeaderRead.{HeaderRead}
-use Rattle.machine.specs.Engine.{noted, tasksAfter, answerTo, pointOf, performed, refuse, fits, contextOf, carriedOut, taskStep, step, isLoaded, blockFits, waitFits, fitsAs, termsHeld}
+use Rattle.machine.specs.Engine.{noted, tasksAfter, answerTo, pointOf, performed, refuse, fits, contextOf, carriedOut, taskStep, step, isLoaded, blockFits}
+use Rattle.machine.specs.Engine.{waitFits, fitsAs, termsHeld}
 use Rattle.machine.specs.declared.Answer.the-variants.{NoTask, Inputs as BadInputs, NotRunning, Differs}
 use Rattle.machine.specs.declared.Answer.{Answer}
 use Rattle.machine.specs.declared.Effect.{Effect}
@@ -32,7 +33,8 @@ not-not false = refl
 -- the parts of what a command comes to
 pub together : (s : State) (t start : ℕ) (task : Task) (e : Effect) (v : Values) (ts : List Task) (a : Answer)
     → v ≡ noted t start (e .values) → ts ≡ tasksAfter (s .header .start) t task (e .outcome) (s .tasks) → a ≡ answerTo (e .outcome) (pointOf t task)
-    → _≡_ {A = StepOut} (record { state = record { values = v; header = s .header; tasks = ts }; request = e .request; answer = a }) (performed s (inputsOf t [] start 0) task e)
+    → _≡_ {A = StepOut} (record { state = record { values = v; header = s .header; tasks = ts }; request = e .request; answer = a })
+    (performed s (inputsOf t [] start 0) task e)
 unfolding performed
 together s t start task e v ts a i j l = rw (i, j, l) refl
 
@@ -72,11 +74,13 @@ module _ (image : List ℕ) (s : State) (x : Inputs) where
     carried e f = rw (eq-eqb (task .status) runs e, f) refl
 
   -- what 17 asks of an image, of what was read of it; the block at the pointer passes
-  pub fits-of : (r : HeaderRead) (bs : List ℕ) (task : Task) → r ≡ headerOf image → bs ≡ blocksOf image → fitsAs r bs (termsHeld s) (x .task) task ≡ fits image (termsHeld s) (x .task) task
+  pub fits-of : (r : HeaderRead) (bs : List ℕ) (task : Task) → r ≡ headerOf image → bs ≡ blocksOf image
+      → fitsAs r bs (termsHeld s) (x .task) task ≡ fits image (termsHeld s) (x .task) task
   unfolding fits
   fits-of r bs task e b = rw (e, b) refl
 
-  pub block-passes : (r : HeaderRead) (bs : List ℕ) (task : Task) → fitsAs r bs (termsHeld s) (x .task) task ≡ true → blockFits (termsHeld s) bs (x .task) task ≡ true
+  pub block-passes : (r : HeaderRead) (bs : List ℕ) (task : Task) → fitsAs r bs (termsHeld s) (x .task) task ≡ true
+      → blockFits (termsHeld s) bs (x .task) task ≡ true
   block-passes r bs task e = both (blockFits (termsHeld s) bs (x .task) task) (waitFits bs task) (both (isLoaded r (s .header)) _ e .1) .0
 
   pub no-task : taskCount ≤ x .task → refuse s (NoTask (x .task)) ≡ step image s x

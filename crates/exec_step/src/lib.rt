@@ -25,7 +25,8 @@ ghost use Rattle.state.specs.GoodState.{GoodState};
 ghost use Rattle.walk_flow.specs.Terms.{under};
 ghost use Rattle.machine.specs.Inputs.{inputsOf};
 ghost use Rattle.machine.specs.DepthAllows.{DepthAllows};
-ghost use Rattle.machine.specs.Engine.{refuse, isWait, isLoaded, blockFits, waitFits, fitsAs, noted, answerTo, pointOf, performed, carriedOut, taskStep, step, termsHeld};
+ghost use Rattle.machine.specs.Engine.{refuse, isWait, isLoaded, blockFits, waitFits, fitsAs, noted, answerTo, pointOf, performed, carriedOut, taskStep, step};
+ghost use Rattle.machine.specs.Engine.{termsHeld};
 
 // A step that is refused: nothing changes, and no motion is asked for.
 fn refuse(state: State, answer: Answer) -> StepOut

@@ -39,7 +39,8 @@ module _ (w : Width) (flags : List ℕ) (first count : ℕ) where
       rw (e, k, a) (cut-before (2 ^ bits w) (getD flags (first + (left - 1)) 0) (flagNumber flags (first + left) (count - left)))
 
   -- all of them
-  pub all : (left number : ℕ) → left ≡ 0 → number ≡ word w (pos (flagNumber flags (first + left) (count - left))) → number ≡ word w (pos (flagNumber flags first count))
+  pub all : (left number : ℕ) → left ≡ 0 → number ≡ word w (pos (flagNumber flags (first + left) (count - left)))
+      → number ≡ word w (pos (flagNumber flags first count))
   all left number z e =
       let a : first + left ≡ first = omega arith in
       let k : count - left ≡ count = omega arith in

@@ -58,7 +58,8 @@ module _ (n : ℕ) (source : Source) where
   kept k v next Passes q e h = (refl, e)
   kept k v next (Fails j) q e h = clash (sym h ∙ ap (λ (s : Scan). done (s .result)) e)
 
-  took-by : (k : ℕ) (t : Bool) → done (scan n source k .result) ≡ t → (x : Number) → source k (place k) ≡ x → done (scan n source (suc k) .result) ≡ true → Took k
+  took-by : (k : ℕ) (t : Bool) → done (scan n source k .result) ≡ t → (x : Number) → source k (place k) ≡ x → done (scan n source (suc k) .result) ≡ true
+      → Took k
   unfolding scan taken judged
   took-by k false e x g h = clash (sym h ∙ ap (λ (s : Scan). done (s .result)) (stays n source k (scan n source k) e) ∙ e)
   took-by k true e (number.Number.Value v next) g h =
@@ -136,7 +137,8 @@ module _ (n : ℕ) (source : Source) where
     unfolding accepts
     accepted-header =
         record {
-          good = accepted-good (scannedHeader (scan n source rowCount)) (all-pass (λ (row : ℕ). passed (checked row (scannedHeader (scan n source rowCount)))) rowCount row-passes);
+          good = accepted-good (scannedHeader (scan n source rowCount))
+              (all-pass (λ (row : ℕ). passed (checked row (scannedHeader (scan n source rowCount)))) rowCount row-passes);
           is = is;
           numbers = λ k l. went rowCount h k l .stood;
           fine = λ k l. went rowCount h k l .before;

@@ -6,7 +6,6 @@ use mathlib.Core.List.{List}
 use mathlib.Core.Bool.{true}
 use lib.ListN.{getD}
 use lib.Dec.{eqb}
-use borrow.Author.Count.{below-more}
 use borrow.Author.Tests.{eqb-true, eq-eqb}
 use Rattle.logic.proofs.Each.{each-passes, all-pass}
 use Rattle.image_header.specs.Numbers.{numbersOf, headerFrom}
@@ -43,7 +42,8 @@ same-numbers ns ms e =
 
 pub same-is : (a b : Header) → sameHeader a b ≡ true → a ≡ b
 unfolding sameHeader
-same-is a b e = same-numbers (numbersOf a) (numbersOf b) (λ k l. eqb-true _ _ (each-passes (λ (j : ℕ). eqb (getD (numbersOf a) j 0) (getD (numbersOf b) j 0)) rowCount e k l))
+same-is a b e = same-numbers (numbersOf a) (numbersOf b)
+    (λ k l. eqb-true _ _ (each-passes (λ (j : ℕ). eqb (getD (numbersOf a) j 0) (getD (numbersOf b) j 0)) rowCount e k l))
 
 pub is-same : (a : Header) → sameHeader a a ≡ true
 unfolding sameHeader

@@ -9,11 +9,10 @@ use lib.Seq.{take-all}
 use lib.Dec.{ltb}
 use borrow.Author.Tests.{ltb-false, le-ltb}
 use Rattle.limits.specs.Limits.{blockLength}
-use Rattle.image_result.proofs.Done.{is-done}
 use Rattle.image_result.specs.ImageResult.{done}
 use Rattle.image_header.specs.Rows.{rowCount}
 use Rattle.image_header.specs.Scan.{fromImage, scan, scannedHeader, firstRefusal, lengthResult, readWith, closed, headerOf, blocksOf}
-use Rattle.image_result.specs.declared.ImageResult.the-variants.{Done, EndsEarly, NotShortest, OutOfRange, LeftOver, NoRoom}
+use Rattle.image_result.specs.declared.ImageResult.the-variants.{Done}
 use Rattle.image_result.specs.declared.ImageResult.{ImageResult}
 use Rattle.image_header.specs.declared.reader.Scan.{Scan}
 use Rattle.image_header.specs.declared.reader.HeaderRead.{HeaderRead}
@@ -51,7 +50,8 @@ pub record Closed (s : Scan) (n : ℕ) : Type 0 where
   pub long : n ≡ s .at + blockLength * scannedHeader s .count
   pub is : closed s n ≡ record { result = Done; header = scannedHeader s; at = s .at }
 
-pub closed-is : (s : Scan) (n : ℕ) → done (s .result) ≡ true → n ≡ s .at + blockLength * scannedHeader s .count → closed s n ≡ record { result = Done; header = scannedHeader s; at = s .at }
+pub closed-is : (s : Scan) (n : ℕ) → done (s .result) ≡ true → n ≡ s .at + blockLength * scannedHeader s .count
+    → closed s n ≡ record { result = Done; header = scannedHeader s; at = s .at }
 unfolding closed readWith
 closed-is s n d e = rw (both-pass (s .result) (lengthResult (s .at) (scannedHeader s .count) n) d, length-passes (s .at) (scannedHeader s .count) n e)
 

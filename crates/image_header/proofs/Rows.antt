@@ -1,12 +1,11 @@
 -- A header that load accepts is one whose numbers are each in its range, and a row looks at no number behind its own.
-use Prim.Native.Nat.{ℕ, zero, suc, _<_, _≤_}
+use Prim.Native.Nat.{ℕ, zero, suc, _≤_}
 use native.Mathlib.Omega.{arith}
 use mathlib.Core.Path.{_≡_, refl, sym, ap}
 use mathlib.Core.Bool.{Bool, true, false, cond}
 use mathlib.Core.List.{List, [], _∷_}
 use lib.ListN.{getD}
 use lib.Dec.{ltb, leb}
-use borrow.Author.Count.{below-more}
 use borrow.Author.Tests.{eqb-true, ltb-true, leb-true, eq-eqb, lt-ltb, le-leb}
 use Rattle.logic.specs.Each.{eachBelow}
 use Rattle.logic.proofs.Each.{each-passes}
@@ -15,7 +14,8 @@ use Rattle.drive.specs.Types.{types}
 use Rattle.logic.proofs.Choice.{both, clash}
 use Rattle.image_header.specs.Numbers.{headerFrom}
 use Rattle.image_header.specs.GoodHeader.{GoodHeader}
-use Rattle.image_header.specs.Rows.{format1, formatFits, typeFits, slotBFits, slotCFits, countFits, startFits, Test, test, rowCount, check, checked, passed, firstPass, accepts}
+use Rattle.image_header.specs.Rows.{format1, formatFits, typeFits, slotBFits, slotCFits, countFits, startFits, Test, test, rowCount, check, checked}
+use Rattle.image_header.specs.Rows.{passed, accepts}
 use Rattle.image_header.specs.declared.Header.{Header}
 use Rattle.image_header.specs.declared.reader.Check.{Check}
 use Rattle.image_header.specs.declared.reader.Check.the-variants.{Passes, Fails}

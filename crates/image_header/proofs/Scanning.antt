@@ -50,13 +50,15 @@ unless-near (Fails k) s m h = omega arith
 
 taken-near : (n row : ℕ) (s : Scan) (x : Number) (m : ℕ) → Near (s .at) x → s .at + 2 ≤ m → taken n row s x .at ≤ m
 unfolding taken judged
-taken-near n row s (number.Number.Value v next) m h k = unless-near (checked row (headerFrom (withNumber row s v next .numbers))) (withNumber row s v next) m (omega arith)
+taken-near n row s (number.Number.Value v next) m h k =
+    unless-near (checked row (headerFrom (withNumber row s v next .numbers))) (withNumber row s v next) m (omega arith)
 taken-near n row s number.Number.EndsEarly m h k = omega arith
 taken-near n row s number.Number.NotShortest m h k = omega arith
 
 more-near : (n : ℕ) (source : Source) (row : ℕ) (s : Scan) (m : ℕ) → ((row at : ℕ) → Near at (source row at)) → s .at + 2 ≤ m → more n source row s .at ≤ m
 unfolding more
-more-near n source row s m near h = either (λ (x : Scan). x .at ≤ m) (done (s .result)) (taken-near n row s (source row (s .at)) m (near row (s .at)) h) (omega arith)
+more-near n source row s m near h = either (λ (x : Scan). x .at ≤ m) (done (s .result)) (taken-near n row s (source row (s .at)) m (near row (s .at)) h)
+    (omega arith)
 
 pub at-most : (n : ℕ) (source : Source) → ((row at : ℕ) → Near at (source row at)) → (k : ℕ) → scan n source k .at ≤ 2 * k
 unfolding scan

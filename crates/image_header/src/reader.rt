@@ -12,7 +12,8 @@ ghost use Rattle.limits.specs.Limits.{mostBlocks, upTo};
 ghost use Rattle.image_header.specs.Numbers.{numbersOf, headerFrom, Narrow};
 ghost use Rattle.image_header.specs.Rows.{rowCount, checked, passed, accepts, sameHeader};
 ghost use Rattle.image_header.specs.declared.reader.Check.the-variants.{Passes, Fails};
-ghost use Rattle.image_header.specs.Scan.{scanBegun, scanStopped, standsAt, judged, taken, more, fromImage, scan, mostHeaderBytes, firstRefusal, lengthResult, refusedRead, closed, headerOf, blocksOf};
+ghost use Rattle.image_header.specs.Scan.{scanBegun, scanStopped, standsAt, judged, taken, more, fromImage, scan, mostHeaderBytes, firstRefusal};
+ghost use Rattle.image_header.specs.Scan.{lengthResult, refusedRead, closed, headerOf, blocksOf};
 
 // The numbers of a header, in the order in which they stand.
 pub const FORMAT: usize = 0;

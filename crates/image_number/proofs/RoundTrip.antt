@@ -74,7 +74,8 @@ module _ (s : List ℕ) (at v n : ℕ) (byte : getD s at 0 < 256) (read : number
       (λ l. by (at + 1) (length s)
       (λ k. let m = more s at (getD s at 0) refl (getD s (at + 1) 0) refl l k in
       by 0 (getD s (at + 1) 0)
-      (λ z. by (getD s (at + 1) 0) 128 (there-two k l (λ e. omega arith)) (λ g. clash-long (numberAt s at) read (sym (big-high at (getD s at 0) (getD s (at + 1) 0) g ∙ m))))
+      (λ z. by (getD s (at + 1) 0) 128 (there-two k l (λ e. omega arith))
+      (λ g. clash-long (numberAt s at) read (sym (big-high at (getD s at 0) (getD s (at + 1) 0) g ∙ m))))
       (λ z. clash-long (numberAt s at) read (sym (zero-high at (getD s at 0) (getD s (at + 1) 0) (omega arith) ∙ m))))
       (λ k. clash (numberAt s at) read (sym (cut s at (getD s at 0) refl h l k)))))
       (λ h. clash (numberAt s at) read (sym (numbers.none s at h)))

@@ -54,7 +54,8 @@ module _ (numbers : List ℕ) where
       → length (imageOf numbers blocks) ≤ length out → sets l at blocks ≡ overlaid (imageOf numbers blocks) out
   unfolding imageOf overlaid
   whole out l blocks at a e h =
-      ap (λ (x : List ℕ). sets x at blocks) e ∙ next-run out (firstNumbers numbers rowCount) blocks at a ∙ from-front out (firstNumbers numbers rowCount ++ blocks) h
+      ap (λ (x : List ℕ). sets x at blocks) e ∙ next-run out (firstNumbers numbers rowCount) blocks at a
+      ∙ from-front out (firstNumbers numbers rowCount ++ blocks) h
 
   pub image-length : (blocks : List ℕ) → length (imageOf numbers blocks) ≡ length (firstNumbers numbers rowCount) + length blocks
   unfolding imageOf

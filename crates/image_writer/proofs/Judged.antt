@@ -14,7 +14,6 @@ use Rattle.image_header.specs.Scan.{scan, scannedHeader, firstRefusal}
 use Rattle.image_writer.specs.Writer.{givenNumbers, HaveForms, firstNumbers, imageOf, overlaid, roomResult, writtenWith, judgedWrite, written, outAfter}
 use Rattle.image_result.specs.declared.ImageResult.the-variants.{Done}
 use Rattle.image_result.specs.declared.ImageResult.{ImageResult}
-use Rattle.image_number.specs.declared.Number.{Number}
 use Rattle.image_number.specs.declared.Number as number
 use Rattle.image_header.specs.declared.reader.Scan.{Scan}
 use Rattle.image_writer.specs.declared.Written.{Written}
@@ -69,7 +68,8 @@ room-passes : (at count b room : ℕ) → b ≡ blockLength * count → at + b �
 unfolding roomResult
 room-passes at count b room e h = rw (le-ltb b (blockLength * count) (omega arith), le-ltb (blockLength * count) b (omega arith), le-ltb room (at + b) h)
 
-pub fitted-is : (s : Scan) (b room : ℕ) → done (s .result) ≡ true → b ≡ blockLength * scannedHeader s .count → s .at + b ≤ room → judgedWrite s b room ≡ record { result = Done; length = s .at + b }
+pub fitted-is : (s : Scan) (b room : ℕ) → done (s .result) ≡ true → b ≡ blockLength * scannedHeader s .count → s .at + b ≤ room
+    → judgedWrite s b room ≡ record { result = Done; length = s .at + b }
 unfolding judgedWrite writtenWith
 fitted-is s b room d e h =
     rw (both-pass (s .result) (roomResult (s .at) (scannedHeader s .count) b room) d, room-passes (s .at) (scannedHeader s .count) b room e h)

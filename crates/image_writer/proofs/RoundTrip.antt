@@ -46,7 +46,8 @@ module _ (n m : ℕ) (source other : Source) (a : Accepted n source)
       ∙ sym (takes n source k s (a .fine k l) _ (a .numbers k l))
 
 -- a list that has the numbers at its front has each at its place
-each-number : (s numbers : List ℕ) (m : ℕ) → Has s 0 (firstNumbers numbers m) → (k : ℕ) → k < m → Has s (length (firstNumbers numbers k)) (numberBytes (getD numbers k 0))
+each-number : (s numbers : List ℕ) (m : ℕ) → Has s 0 (firstNumbers numbers m) → (k : ℕ) → k < m
+    → Has s (length (firstNumbers numbers k)) (numberBytes (getD numbers k 0))
 unfolding firstNumbers
 each-number s numbers zero h k lt = absurd (omega arith)
 each-number s numbers (suc m) h k lt =
@@ -70,7 +71,8 @@ module _ (numbers blocks : List ℕ) (space : ℕ) (ok : done (written numbers (
   fits = written-fine numbers blocks space ok .judged
 
   -- each number stands in the image where the writer judged it
-  stands : (k : ℕ) → k < rowCount → numberAt (imageOf numbers blocks) (place 0 (givenNumbers numbers) k) ≡ Number.Value (value 0 (givenNumbers numbers) k) (place 0 (givenNumbers numbers) (suc k))
+  stands : (k : ℕ) → k < rowCount → numberAt (imageOf numbers blocks) (place 0 (givenNumbers numbers) k)
+      ≡ Number.Value (value 0 (givenNumbers numbers) k) (place 0 (givenNumbers numbers) (suc k))
   unfolding imageOf
   stands k lt =
       let s = imageOf numbers blocks in
@@ -86,9 +88,11 @@ module _ (numbers blocks : List ℕ) (space : ℕ) (ok : done (written numbers (
       ∙ ap (Number.Value (getD numbers k 0)) e
 
   read-scan : scanOf (imageOf numbers blocks) ≡ scan 0 (givenNumbers numbers) rowCount
-  read-scan = same-scan 0 (length (imageOf numbers blocks)) (givenNumbers numbers) (fromImage (imageOf numbers blocks)) (judged-numbers numbers fits) stands rowCount (omega arith)
+  read-scan = same-scan 0 (length (imageOf numbers blocks)) (givenNumbers numbers) (fromImage (imageOf numbers blocks)) (judged-numbers numbers fits) stands
+      rowCount (omega arith)
 
-  read-header : headerOf (imageOf numbers blocks) ≡ record { result = Done; header = scannedHeader (scan 0 (givenNumbers numbers) rowCount); at = scan 0 (givenNumbers numbers) rowCount .at }
+  read-header : headerOf (imageOf numbers blocks)
+      ≡ record { result = Done; header = scannedHeader (scan 0 (givenNumbers numbers) rowCount); at = scan 0 (givenNumbers numbers) rowCount .at }
   unfolding headerOf
   read-header =
       let l = image-length numbers blocks in
@@ -107,13 +111,15 @@ module _ (numbers blocks : List ℕ) (space : ℕ) (ok : done (written numbers (
             ∙ same-numbers (scan 0 (givenNumbers numbers) rowCount .numbers) numbers (judged-numbers numbers fits .is);
         body =
             rw (read-header)
-            (ap (λ (k : ℕ). drop k (firstNumbers numbers rowCount ++ blocks)) (placed numbers fits rowCount (omega arith)) ∙ drop-append-seam (firstNumbers numbers rowCount) blocks);
+            (ap (λ (k : ℕ). drop k (firstNumbers numbers rowCount ++ blocks)) (placed numbers fits rowCount (omega arith))
+            ∙ drop-append-seam (firstNumbers numbers rowCount) blocks);
       }
 
 -- what the writer left at the front of the buffer is read as the numbers and blocks that it was given, and the rest of the buffer is as it was
 pub record WrittenBack (numbers blocks out : List ℕ) : Type 0 where
   pub read : ReadBack numbers blocks (take (written numbers (length blocks) (length out) .length) (outAfter numbers blocks out))
-  pub behind : drop (written numbers (length blocks) (length out) .length) (outAfter numbers blocks out) ≡ drop (written numbers (length blocks) (length out) .length) out
+  pub behind : drop (written numbers (length blocks) (length out) .length) (outAfter numbers blocks out)
+      ≡ drop (written numbers (length blocks) (length out) .length) out
 
 pub read-what-was-written : (numbers blocks out : List ℕ) → written numbers (length blocks) (length out) .result ≡ Done → WrittenBack numbers blocks out
 unfolding written overlaid
@@ -122,7 +128,8 @@ read-what-was-written numbers blocks out h =
     let f = written-fine numbers blocks (length out) ok in
     let p = placed numbers (f .judged) rowCount (omega arith) in
     let l = image-length numbers blocks in
-    let w : written numbers (length blocks) (length out) .length ≡ scan 0 (givenNumbers numbers) rowCount .at + length blocks = ap (λ (r : Written). r .length) (f .is) in
+    let w : written numbers (length blocks) (length out) .length ≡ scan 0 (givenNumbers numbers) rowCount .at + length blocks =
+    ap (λ (r : Written). r .length) (f .is) in
     let e : written numbers (length blocks) (length out) .length ≡ length (imageOf numbers blocks) = omega arith in
     let o = put-there numbers blocks out ok in
     record {
@@ -222,5 +229,6 @@ module _ (numbers blocks out : List ℕ) (ok : written numbers (length blocks) (
   pub blocks-back : blocksOf image ≡ blocks
   blocks-back = read-what-was-written numbers blocks out ok .read .body
 
-  pub rest-stays : drop (written numbers (length blocks) (length out) .length) (outAfter numbers blocks out) ≡ drop (written numbers (length blocks) (length out) .length) out
+  pub rest-stays : drop (written numbers (length blocks) (length out) .length) (outAfter numbers blocks out)
+      ≡ drop (written numbers (length blocks) (length out) .length) out
   rest-stays = read-what-was-written numbers blocks out ok .behind

@@ -12,7 +12,8 @@ ghost use Rattle.image_number.specs.Number.{numberLimit, numberBytes};
 ghost use Rattle.image_header.specs.Numbers.{Narrow};
 ghost use Rattle.image_header.specs.Rows.{rowCount};
 ghost use Rattle.image_header.specs.Scan.{more, scan, mostHeaderBytes};
-ghost use Rattle.image_writer.specs.Writer.{standing, givenNumbers, HaveForms, roomResult, notWritten, judgedWrite, written, firstNumbers, imageOf, overlaid, outAfter};
+ghost use Rattle.image_writer.specs.Writer.{standing, givenNumbers, HaveForms, roomResult, notWritten, judgedWrite, written, firstNumbers, imageOf};
+ghost use Rattle.image_writer.specs.Writer.{overlaid, outAfter};
 
 // What writing came to: the result, and the length of the image, 0 when refused.
 pub struct Written {
@@ -20,7 +21,8 @@ pub struct Written {
     pub length: usize,
 }
 
-// Writes the image of these header numbers, in the order in which they stand, and blocks to the front of out, and leaves what stands behind it. A refusal leaves out as it is.
+// Writes the image of these header numbers, in the order in which they stand, and blocks to the front of out, and leaves what stands behind it. A refusal
+// leaves out as it is.
 pub fn write(numbers: [u32; ROWS], blocks: &[u8], out: &mut [u8]) -> Written
     ensures { λ r. ⌜ r ≡ written numbers (length (now (blocks .entry))) (length (now (out .entry))) ⌝ }
     ensures { λ _. ⌜ now (out .exit) ≡ outAfter numbers (now (blocks .entry)) (now (out .entry)) ⌝ }

@@ -22,7 +22,8 @@ module _ {A : Type 0} (f : List ℕ → A) (begins : (image : List ℕ) (n : ℕ
       (λ l. let q : n ≡ length line / 2 = omega arith in rw q)
 
 -- they have the verdict of all
-pub enough : (line : List ℕ) (room n marks : ℕ) → n ≡ min (length line / 2) room → inputLength ≤ room → verdictOf (hexBytes line n) marks ≡ verdictOf (allBytes line) marks
+pub enough : (line : List ℕ) (room n marks : ℕ) → n ≡ min (length line / 2) room → inputLength ≤ room
+    → verdictOf (hexBytes line n) marks ≡ verdictOf (allBytes line) marks
 enough line room n marks = fitting (λ s. verdictOf s marks) (λ image k. beginning image k marks) line room n
 
 -- and the blocks of all

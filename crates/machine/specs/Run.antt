@@ -35,7 +35,8 @@ machineAfter image m (x ∷ xs) = machineAfter image (referenceStep image m x .m
 -- part 1: answers and motion requests are the same, step by step
 pub data SameHanded : List StepOut → List ReferenceOut → Type 0 where
   none : SameHanded [] []
-  more : {o : StepOut} {d : ReferenceOut} {os : List StepOut} {ds : List ReferenceOut} → o .answer ≡ d .answer → o .request ≡ d .request → SameHanded os ds → SameHanded (o ∷ os) (d ∷ ds)
+  more : {o : StepOut} {d : ReferenceOut} {os : List StepOut} {ds : List ReferenceOut} → o .answer ≡ d .answer → o .request ≡ d .request → SameHanded os ds
+      → SameHanded (o ∷ os) (d ∷ ds)
 
 -- part 3: a task that runs is at a block of the image that is permitted to it on that drive, at its depth, which is at most the limit
 pub record Permitted (image : List ℕ) (t : ℕ) (task : Task) : Type 0 where

@@ -101,7 +101,8 @@ pub data Stopped (image : List ℕ) (s : State) (x : Inputs) : Type 0 where
 
 pub record StepRule (image : List ℕ) (calls : Calls) (s : State) (x : Inputs) : Type 0 where
   -- part 4
-  pub returns : executed (step image s x .answer) ≡ true → commandOf image s x .code ≡ 0x53 → Behind (calls (x .task)) (taskAt (step image s x .state) (x .task) .block)
+  pub returns : executed (step image s x .answer) ≡ true → commandOf image s x .code ≡ 0x53
+      → Behind (calls (x .task)) (taskAt (step image s x .state) (x .task) .block)
   -- part 5
   pub stops : (t : ℕ) → t < taskCount → taskAt s t .status ≡ runs → (taskAt (step image s x .state) t .status ≡ runs → ⊥) → (t ≡ x .task) × Stopped image s x
   -- part 6: status, block, start, call stack and wait of another task stay, or 54, 57 or 90 names it

@@ -30,7 +30,8 @@ pub record ValueRun (image : List ℕ) (xs : List Inputs) : Type 0 where
   -- 2. afterwards the two states are alike in each thing that document 01 compares
   pub alike : Alike (stateAfter image (loaded image) xs) (machineAfter image (referenceLoaded image) xs)
   -- 3. afterwards each task that runs is at a block of the image that is permitted to it, at its depth, which is at most the limit
-  pub permitted : (t : ℕ) → t < taskCount → taskAt (stateAfter image (loaded image) xs) t .status ≡ runs → Permitted image t (taskAt (stateAfter image (loaded image) xs) t)
+  pub permitted : (t : ℕ) → t < taskCount → taskAt (stateAfter image (loaded image) xs) t .status ≡ runs
+      → Permitted image t (taskAt (stateAfter image (loaded image) xs) t)
   -- 4, 5, 6. at every step: a return goes behind its task's latest open call; a task stops by its own step alone, and for a reason; other tasks stay
   pub steps : EachStep image noCalls (loaded image) xs
   -- and the state afterwards is a good one, where the image's bytes are bytes

@@ -25,7 +25,8 @@ module _ (image steps : List ℕ) where
   run-is n b e = ap (λ (m : ℕ). afterLoad image steps (load image m b)) (sym e)
 
 -- the front of a buffer into which digits were decoded
-pub decoded-front : (digits out space : List ℕ) (room n : ℕ) → room ≡ length space → n ≡ min (length digits / 2) (length space) → out ≡ hexBytes digits n ++ drop n space
+pub decoded-front : (digits out space : List ℕ) (room n : ℕ) → room ≡ length space → n ≡ min (length digits / 2) (length space)
+    → out ≡ hexBytes digits n ++ drop n space
     → take n out ≡ fitting room digits
 unfolding fitting
 decoded-front digits out space room n r e o =

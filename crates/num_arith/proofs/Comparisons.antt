@@ -22,7 +22,8 @@ module _ (v : Width) where
   same-bits (pos a) (pos b) f g = refl
   same-bits (pos a) (negsuc b) f g = ne-eqb a (2 ^ bits v - suc b) (let p = pow-bits v in let h = f .sfits in let k = g .sfits in λ q. omega arith)
   same-bits (negsuc a) (pos b) f g = ne-eqb (2 ^ bits v - suc a) b (let p = pow-bits v in let h = f .sfits in let k = g .sfits in λ q. omega arith)
-  same-bits (negsuc a) (negsuc b) f g = let p = pow-bits v in let h = f .sfits in let k = g .sfits in down (2 ^ bits v) a b (eqb a b) refl (omega arith) (omega arith)
+  same-bits (negsuc a) (negsuc b) f g = let p = pow-bits v in let h = f .sfits in let k = g .sfits in
+      down (2 ^ bits v) a b (eqb a b) refl (omega arith) (omega arith)
 
   -- zero, as the code tests for it
   pub is-zero : {z : ℤ} → SFits v z → ofZ v z ≡ 0 → eqZ z (pos 0) ≡ true

@@ -84,7 +84,8 @@ module _ (v w : Width) (t : T (leb (bits v) (hbits w))) where
       let b = bits-suc w in
       let e : bits w ≡ bits w - bits v + bits v = omega arith in
       let p : 2 ^ bits w ≡ 2 ^ (bits w - bits v) * 2 ^ bits v = ap (λ (n : ℕ). 2 ^ n) e ∙ pow-add 2 (bits w - bits v) (bits v) in
-      ap (λ (n : ℕ). (n - suc k) % 2 ^ bits v) p ∙ below (2 ^ bits v) (2 ^ (bits w - bits v)) k (pow-pos (bits v)) (subst (λ (n : ℕ). k < n) p (half-full w (f .sfits)))
+      ap (λ (n : ℕ). (n - suc k) % 2 ^ bits v) p
+      ∙ below (2 ^ bits v) (2 ^ (bits w - bits v)) k (pow-pos (bits v)) (subst (λ (n : ℕ). k < n) p (half-full w (f .sfits)))
 
   -- as `&` takes them out
   pub masked : {z : ℤ} → SFits w z → toZ w (bitAnd (ofZ w z) (2 ^ bits v - 1)) ≡ pos (word v z)

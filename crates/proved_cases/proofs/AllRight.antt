@@ -1,4 +1,5 @@
--- Asking every question of the table gives its answer: one computation over the whole table, by the verdict's fast twin (crates/walk/proofs/Verdicts/Fast.antt).
+-- Asking every question of the table gives its answer: one computation over the whole table, by the verdict's fast twin
+-- (crates/walk/proofs/Verdicts/Fast.antt).
 use mathlib.Core.Path.{_≡_, refl, ap, sym, _∙_}
 use mathlib.Core.Logic.{inl, inr}
 use mathlib.Core.List.{List, [], _∷_, map, tail}

@@ -6,7 +6,8 @@ use Rattle.state.specs.State.{startAxis}
 use Rattle.machine.specs.declared.Request.the-variants.{None, MoveTo}
 use Rattle.proved_cases.specs.Images.{block}
 use Rattle.proved_cases.specs.Table.{Name, Reply, Entry, stand, accepted, table}
-use Rattle.proved_cases.specs.Table.Name.{A, B, C, D, E, F, G, H, I, J, K, L, chainOf, marksOf, blockBeforeTask, taskBeforeDepth, onDrive, outputInstead, heldStart, startMark}
+use Rattle.proved_cases.specs.Table.Name.{A, B, C, D, E, F, G, H, I, J, K, L, chainOf, marksOf, blockBeforeTask, taskBeforeDepth, onDrive, outputInstead}
+use Rattle.proved_cases.specs.Table.Name.{heldStart, startMark}
 use Rattle.proved_cases.specs.Table.Reply.{refusal, value, noNumber, standing, whole, motions}
 
 record Told : Type 0 where

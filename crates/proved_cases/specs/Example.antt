@@ -44,7 +44,8 @@ steps = map stepOf order
 -- what is answered: mathematics halts by 19, its next step is refused by 18, that of task 3 by 15
 abbrev pub exampleAnswers : List Answer
 exampleAnswers =
-    Done ∷ Done ∷ Done ∷ Done ∷ Done ∷ Done ∷ Done ∷ Done ∷ Halted ZeroDivisor (point 2 12 0) ∷ Done ∷ Done ∷ Done ∷ Done ∷ NotRunning ∷ NoTask 3 ∷ Done ∷ Done ∷ Done ∷ []
+    Done ∷ Done ∷ Done ∷ Done ∷ Done ∷ Done ∷ Done ∷ Done ∷ Halted ZeroDivisor (point 2 12 0) ∷ Done ∷ Done ∷ Done ∷ Done ∷ NotRunning ∷ NoTask 3 ∷ Done ∷ Done
+    ∷ Done ∷ []
 
 -- what is left of a task
 pub record Place : Type 0 where

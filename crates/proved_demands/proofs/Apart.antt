@@ -1,5 +1,5 @@
--- What `Demand` and `EveryStep` give when they are taken apart, in the numbers and buffers that C sees: one way more, or one thing less, in specs/Theorem.antt and
--- specs/Every.antt is noticed here, or in Loads.antt and Every.antt, where theorems go both ways.
+-- What `Demand` and `EveryStep` give when they are taken apart, in the numbers and buffers that C sees: one way more, or one thing less, in specs/Theorem.antt
+-- and specs/Every.antt is noticed here, or in Loads.antt and Every.antt, where theorems go both ways.
 use Prim.Native.Nat.{ℕ, _<_, _≤_}
 use native.Mathlib.Omega.{arith}
 use mathlib.Core.Path.{_≡_, refl, sym, ap, _∙_}
@@ -176,7 +176,8 @@ module _ (d : Demand) (image : List ℕ) (n : ℕ) (b : List ℕ) where
   answer-some = d .loads image n b .answer (load image n b .verdict) .1 refl
 
   -- a load that is refused leaves the buffer, and one that is not leaves the fresh state
-  pub load-leaves : ((load image n b .verdict .number ≡ 0 → ⊥) → load image n b .buffer ≡ b) × (load image n b .verdict .number ≡ 0 → load image n b .buffer ≡ encoded (loaded image))
+  pub load-leaves : ((load image n b .verdict .number ≡ 0 → ⊥) → load image n b .buffer ≡ b)
+      × (load image n b .verdict .number ≡ 0 → load image n b .buffer ≡ encoded (loaded image))
   load-leaves = (d .loads image n b .refused, d .loads image n b .accepted)
 
   pub refused-for : WellFormed image n b

@@ -1,5 +1,5 @@
--- Every step of bytes goes one of the ways of specs/Every.antt, by the tests that lead there, and what it answers and leaves is that way's: a command halts exactly
--- for its reason, and where it halts no wait was pending.
+-- Every step of bytes goes one of the ways of specs/Every.antt, by the tests that lead there, and what it answers and leaves is that way's: a command halts
+-- exactly for its reason, and where it halts no wait was pending.
 use Prim.Native.Nat.{ℕ}
 use native.Mathlib.Omega.{arith}
 use mathlib.Core.Path.{_≡_, refl, sym, ap, _∙_, subst}
@@ -25,7 +25,8 @@ use Rattle.state_layout.specs.IsState.{isState}
 use Rattle.state_layout.proofs.RoundTrip.{state-good, encode-decode, good-state}
 use Rattle.machine.specs.Inputs.{Inputs}
 use Rattle.machine.specs.Effect.{effectOf, isSet}
-use Rattle.machine.specs.Engine.{contextOf, isWait, isLoaded, blockFits, waitFits, fits, pointOf, answerTo, noted, stopped, tasksAfter, performed, carriedOut, taskStep, step, termsHeld}
+use Rattle.machine.specs.Engine.{contextOf, isWait, isLoaded, blockFits, waitFits, fits, pointOf, answerTo, noted, stopped, tasksAfter, performed, carriedOut}
+use Rattle.machine.specs.Engine.{taskStep, step, termsHeld}
 use Rattle.machine.specs.Engine as engine
 use Rattle.machine.specs.StepRule.{commandOf, Reason}
 use Rattle.machine.specs.declared.Cause.{Cause}
@@ -40,7 +41,7 @@ use Rattle.machine.proofs.Rows.Halts.{halts-for}
 use Rattle.machine.proofs.Steps.KeepsGood.{keeps-good, law, fit-here}
 use Rattle.bias_results.specs.Results.{answerFor}
 use Rattle.bias_results.specs.declared.BiasAnswer.{BiasAnswer}
-use Rattle.bias.specs.Step.{Stepped, refuseStep, handed, stepped}
+use Rattle.bias.specs.Step.{Stepped, handed, stepped}
 use Rattle.proved_demands.specs.Every.{withStatus, haltedState, Asked, Held, Running, Ready, ReasonHere, Way, EveryStep}
 use Rattle.bias.proofs.ByTest.{no-task, bad-inputs, of-buffer, no-state, of-state, asked}
 
@@ -127,7 +128,8 @@ module _ (image b : List ℕ) (x : Inputs) where
       performs = to-task (r .runs .held) ∙ ap handed (rw (eq-eqb (k .status) runs (r .runs .running), r .fits))
 
       -- the command's number is 0 where it does not halt its task
-      carried : answerTo (e .outcome) (pointOf (x .task) k) ≡ Done → Gives (answerFor (carriedOut (blocksOf image) s x k .request) Done) (encoded (carriedOut (blocksOf image) s x k .state))
+      carried : answerTo (e .outcome) (pointOf (x .task) k) ≡ Done
+          → Gives (answerFor (carriedOut (blocksOf image) s x k .request) Done) (encoded (carriedOut (blocksOf image) s x k .state))
       unfolding handed performed
       carried z = given-by _ _ (performs ∙ (λ ι. record { answer = answerFor (e .request) (z ι); buffer = encoded (carriedOut (blocksOf image) s x k .state) }))
 
@@ -146,7 +148,8 @@ module _ (image b : List ℕ) (x : Inputs) where
       wait-here : isSet (k .time) ≡ true → isWait (commandOf image s x .code) ≡ true
       unfolding fits
       wait-here t =
-          let here = both (isLoaded (headerOf image) (s .header)) (blockFits (termsHeld s) (blocksOf image) (x .task) k && waitFits (blocksOf image) k) (r .fits) in
+          let here = both (isLoaded (headerOf image) (s .header)) (blockFits (termsHeld s) (blocksOf image) (x .task) k && waitFits (blocksOf image) k)
+          (r .fits) in
           let waiting = both (blockFits (termsHeld s) (blocksOf image) (x .task) k) (waitFits (blocksOf image) k) (here .1) .1 in
           sym (ap (λ (u : Bool). not u || isWait (commandOf image s x .code)) t) ∙ waiting
 
@@ -159,15 +162,26 @@ module _ (image b : List ℕ) (x : Inputs) where
           given-by _ _ (performs
           ∙ (λ ι. record {
             answer = answerFor (still .1 ι) (answerTo (i ι) (pointOf (x .task) k));
-            buffer = encoded (record { values = noted (x .task) (x .start) (still .0 ι); header = s .header; tasks = tasksAfter (s .header .start) (x .task) k (i ι) (s .tasks) });
+            buffer = encoded (record {
+              values = noted (x .task) (x .start) (still .0 ι);
+              header = s .header;
+              tasks =
+                  tasksAfter (s .header .start) (x .task) k (i ι) (s .tasks);
+            });
           })
           ∙ (λ ι. record {
             answer = answerFor None (Halted q (pointOf (x .task) k));
-            buffer = encoded (record { values = noted (x .task) (x .start) (s .values); header = s .header; tasks = set (s .tasks) (x .task) (status-alone k time turns ι) });
+            buffer = encoded (record {
+              values = noted (x .task) (x .start) (s .values);
+              header = s .header;
+              tasks =
+                  set (s .tasks) (x .task) (status-alone k time turns ι);
+            });
           }))
 
       -- a command without a reason does not halt
-      going : ((q : Cause) → ReasonHere image b x q → ⊥) → Gives (answerFor (carriedOut (blocksOf image) s x k .request) Done) (encoded (carriedOut (blocksOf image) s x k .state))
+      going : ((q : Cause) → ReasonHere image b x q → ⊥)
+          → Gives (answerFor (carriedOut (blocksOf image) s x k .request) Done) (encoded (carriedOut (blocksOf image) s x k .state))
       going n = ⊎-elim (λ h. absurd (n (h .0) (reason-of (h .0) (h .1)))) (λ h. carried (h .0)) (halt-or-done (e .outcome) (pointOf (x .task) k))
 
     -- ---- what a way says is what the step gives
@@ -185,7 +199,8 @@ module _ (image b : List ℕ) (x : Inputs) where
     -- ---- a step goes some way
 
     goes : {a : BiasAnswer} {after : List ℕ} → Way image b x a after → Way image b x (stepped image b x .answer) (stepped image b x .buffer)
-    goes {a} {after} w = let g = gives a after w in subst (λ (l : List ℕ). Way image b x (stepped image b x .answer) l) (g .buffer) (subst (λ (r : BiasAnswer). Way image b x r after) (g .answer) w)
+    goes {a} {after} w = let g = gives a after w in
+        subst (λ (l : List ℕ). Way image b x (stepped image b x .answer) l) (g .buffer) (subst (λ (r : BiasAnswer). Way image b x r after) (g .answer) w)
 
     abbrev Some : Type 0
     Some = Way image b x (stepped image b x .answer) (stepped image b x .buffer)
@@ -224,7 +239,8 @@ module _ (image b : List ℕ) (x : Inputs) where
         asked image b x
         (λ l. ap (λ (m : Stepped). isState (m .buffer)) (no-task image b x l) ∙ is)
         (λ l n. ap (λ (m : Stepped). isState (m .buffer)) (bad-inputs image b x l n) ∙ is)
-        (λ l g. ap (λ (m : Stepped). isState (m .buffer)) (of-buffer image b x l g ∙ of-state image b x is) ∙ good-state (step image s x .state) (keeps-good image bytes s (good is) x))
+        (λ l g. ap (λ (m : Stepped). isState (m .buffer)) (of-buffer image b x l g ∙ of-state image b x is)
+        ∙ good-state (step image s x .state) (keeps-good image bytes s (good is) x))
 
 pub every-step : EveryStep
 every-step image b bytes own x = record {

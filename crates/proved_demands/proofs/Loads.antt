@@ -167,8 +167,11 @@ module _ (image : List ℕ) (n : ℕ) (b : List ℕ) where
 
     -- where no walk reaches such a 51
     refused-by-place : NoForeign (termsOf image) (blocksOf image) → (load image n b .verdict .number ≡ 0 → ⊥) ↔ SomeBad image
-    refused-by-place own =
-        (λ r. ⊎-elim (λ (a : SomeBad image). a) (λ (a : SomeForeign image). absurd (own (a .place) (a .foreign))) (refused-by-form .0 r), λ s. refused-by-form .1 (inl s))
+    refused-by-place own = (
+      λ r. ⊎-elim (λ (a : SomeBad image). a) (λ (a : SomeForeign image). absurd (own (a .place) (a .foreign))) (refused-by-form .0 r),
+      λ s.
+          refused-by-form .1 (inl s),
+    )
 
 pub refused-exactly : RefusedExactly
 refused-exactly = record { byForm = refused-by-form; byPlace = refused-by-place }

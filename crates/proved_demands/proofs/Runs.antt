@@ -54,7 +54,8 @@ module _ (image : List ℕ) (s : State) (g : GoodState s) (x : Inputs) where
       asked image (encoded s) x
       (λ l. no-task image (encoded s) x l ∙ ap handed (engine.no-task image s x l))
       (λ l n. bad-inputs image (encoded s) x l n ∙ ap handed (engine.bad-inputs image s x l n))
-      (λ l e. of-buffer image (encoded s) x l e ∙ of-state image (encoded s) x (good-state s g) ∙ ap (λ (r : State). handed (step image r x)) (decode-encode s g))
+      (λ l e. of-buffer image (encoded s) x l e ∙ of-state image (encoded s) x (good-state s g)
+      ∙ ap (λ (r : State). handed (step image r x)) (decode-encode s g))
 
   buffer-is : stepped image (encoded s) x .buffer ≡ encoded (step image s x .state)
   unfolding handed
@@ -83,7 +84,8 @@ refused-stays image s x =
     either Stays (ltb (x .task) taskCount)
     (either Stays (eqb (length (x .levels)) inputsLength)
     (either Stays (eqb (taskAt s (x .task) .status) runs)
-    (either Stays (fits image (termsHeld s) (x .task) (taskAt s (x .task))) (λ r. clash (sym r ∙ not-refused (effect .outcome) (pointOf (x .task) (taskAt s (x .task))))) (λ r. refl))
+    (either Stays (fits image (termsHeld s) (x .task) (taskAt s (x .task)))
+    (λ r. clash (sym r ∙ not-refused (effect .outcome) (pointOf (x .task) (taskAt s (x .task))))) (λ r. refl))
     (λ r. refl))
     (λ r. refl))
     (λ r. refl)
@@ -149,34 +151,40 @@ module _ (image : List ℕ) (bytes : Bytes image) where
   after-is s g [] = refl
   after-is s g (x ∷ xs) = ap (λ (b : List ℕ). bufferAfter image b xs) (buffer-is image s g x) ∙ after-is (step image s x .state) (next-good s g x) xs
 
-  answers-are : (s : State) → GoodState s → (m : Machine) (xs : List Inputs) → SameHanded (outs image s xs) (referenceOuts image m xs) → answers image (encoded s) xs ≡ referenceAnswers image m xs
+  answers-are : (s : State) → GoodState s → (m : Machine) (xs : List Inputs) → SameHanded (outs image s xs) (referenceOuts image m xs)
+      → answers image (encoded s) xs ≡ referenceAnswers image m xs
   unfolding answers referenceAnswers outs referenceOuts
   answers-are s g m [] h = refl
   answers-are s g m (x ∷ xs) (SameHanded.more a o h) =
       let e = answer-is image s g x ∙ (λ ι. answerFor (o ι) (a ι)) in
-      let f = ap (λ (b : List ℕ). answers image b xs) (buffer-is image s g x) ∙ answers-are (step image s x .state) (next-good s g x) (referenceStep image m x .machine) xs h in
+      let f = ap (λ (b : List ℕ). answers image b xs) (buffer-is image s g x)
+      ∙ answers-are (step image s x .state) (next-good s g x) (referenceStep image m x .machine) xs h in
       λ ι. e ι ∷ f ι
 
-  step-on : (s : State) → GoodState s → (calls : Calls) (x : Inputs) → StepRule image calls s x → differs (step image s x .answer) ≡ false → StepOn image calls (encoded s) x
+  step-on : (s : State) → GoodState s → (calls : Calls) (x : Inputs) → StepRule image calls s x → differs (step image s x .answer) ≡ false
+      → StepOn image calls (encoded s) x
   step-on s g calls x p same =
       let d = decode-encode s g in
       record {
         held = good-state s g;
         parts = subst (λ (r : State). StepRule image calls r x) (sym d) p;
         answer = answer-is image s g x ∙ ap (λ (r : State). answerFor (step image r x .request) (step image r x .answer)) (sym d);
-        state = ap decoded (buffer-is image s g x) ∙ decode-encode (step image s x .state) (next-good s g x) ∙ ap (λ (r : State). step image r x .state) (sym d);
+        state = ap decoded (buffer-is image s g x) ∙ decode-encode (step image s x .state) (next-good s g x)
+            ∙ ap (λ (r : State). step image r x .state) (sym d);
         same = ap (λ (r : State). differs (step image r x .answer)) d ∙ same;
         stays = λ r. buffer-is image s g x ∙ ap encoded (refused-stays image s x (sym (ap (λ (r : State). refused (step image r x .answer)) d) ∙ r));
       }
 
-  each-on : (s : State) → GoodState s → (m : Machine) (calls : Calls) (xs : List Inputs) → EachStep image calls s xs → SameHanded (outs image s xs) (referenceOuts image m xs)
+  each-on : (s : State) → GoodState s → (m : Machine) (calls : Calls) (xs : List Inputs) → EachStep image calls s xs
+      → SameHanded (outs image s xs) (referenceOuts image m xs)
       → EveryStepOn image calls (encoded s) xs
   unfolding outs referenceOuts
   each-on s g m calls [] h i = EveryStepOn.none
   each-on s g m calls (x ∷ xs) (EachStep.more p h) (SameHanded.more a o i) =
       let later = each-on (step image s x .state) (next-good s g x) (referenceStep image m x .machine) (callsAfter image s x calls) xs h i in
       let first = subst (λ (b : List ℕ). EveryStepOn image (callsAfter image s x calls) b xs) (sym (buffer-is image s g x)) later in
-      EveryStepOn.more (step-on s g calls x p (ap differs a ∙ turn-same image m x)) (subst (λ (r : State). EveryStepOn image (callsAfter image r x calls) (stepped image (encoded s) x .buffer) xs) (sym (decode-encode s g)) first)
+      EveryStepOn.more (step-on s g calls x p (ap differs a ∙ turn-same image m x))
+      (subst (λ (r : State). EveryStepOn image (callsAfter image r x calls) (stepped image (encoded s) x .buffer) xs) (sym (decode-encode s g)) first)
 
 -- ---- from a load that answers 0
 

@@ -20,4 +20,5 @@ bufferAfter image b (x ∷ xs) = bufferAfter image (stepped image b x .buffer) x
 -- what the reference machine answers, as C would be handed it
 unfoldable pub referenceAnswers : List ℕ → Machine → List Inputs → List BiasAnswer
 referenceAnswers image m [] = []
-referenceAnswers image m (x ∷ xs) = answerFor (referenceStep image m x .request) (referenceStep image m x .answer) ∷ referenceAnswers image (referenceStep image m x .machine) xs
+referenceAnswers image m (x ∷ xs) = answerFor (referenceStep image m x .request) (referenceStep image m x .answer)
+    ∷ referenceAnswers image (referenceStep image m x .machine) xs

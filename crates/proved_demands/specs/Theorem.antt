@@ -1,5 +1,5 @@
--- Demand 3, of the functions that C calls (docs/PROMISES.md numbers its parts), as one claim, `Demand`: parts 1 to 6 are `EveryRun`, part 7 is `EveryLoad`, with
--- the user's own sentence beside it. Proved as `demand` in proofs/Demand.antt.
+-- Demand 3, of the functions that C calls (docs/PROMISES.md numbers its parts), as one claim, `Demand`: parts 1 to 6 are `EveryRun`, part 7 is `EveryLoad`,
+-- with the user's own sentence beside it. Proved as `demand` in proofs/Demand.antt.
 use Prim.Native.Nat.{ℕ, _<_, _≤_}
 use mathlib.Core.Path.{_≡_}
 use mathlib.Core.Bool.{Bool, true, false}
@@ -81,7 +81,8 @@ pub record Run (image b : List ℕ) (xs : List Inputs) : Type 0 where
   -- 2. afterwards the two states are alike in each thing that document 01 compares
   pub alike : Alike (decoded (bufferAfter image b xs)) (machineAfter image (referenceLoaded image) xs)
   -- 3. afterwards each task that runs is at a block of the image that is permitted to it, at its depth, which is at most the limit
-  pub permitted : (t : ℕ) → t < taskCount → taskAt (decoded (bufferAfter image b xs)) t .status ≡ runs → Permitted image t (taskAt (decoded (bufferAfter image b xs)) t)
+  pub permitted : (t : ℕ) → t < taskCount → taskAt (decoded (bufferAfter image b xs)) t .status ≡ runs
+      → Permitted image t (taskAt (decoded (bufferAfter image b xs)) t)
   -- 4, 5, 6. at every step
   pub steps : EveryStepOn image noCalls b xs
   -- and the buffer afterwards is a state
@@ -89,7 +90,8 @@ pub record Run (image b : List ℕ) (xs : List Inputs) : Type 0 where
 
 -- every image, marks of any length and every buffer with which load answers 0, and every list of steps: any task numbers, any input levels
 abbrev pub EveryRun : Type 0
-EveryRun = (image : List ℕ) (n : ℕ) (b : List ℕ) → Bytes image → load image n b .verdict .number ≡ 0 → (xs : List Inputs) → Run image (load image n b .buffer) xs
+EveryRun = (image : List ℕ) (n : ℕ) (b : List ℕ) → Bytes image → load image n b .verdict .number ≡ 0 → (xs : List Inputs)
+    → Run image (load image n b .buffer) xs
 
 -- ---- part 7: loads
 

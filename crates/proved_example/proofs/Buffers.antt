@@ -1,5 +1,5 @@
--- The theorem on buffers is not empty: the program of proved_cases/specs/Example.antt is loaded with 0 into every buffer of the length asked for, so it holds of the
--- steps there. Beside it 13 and 16, which no image brings about.
+-- The theorem on buffers is not empty: the program of proved_cases/specs/Example.antt is loaded with 0 into every buffer of the length asked for, so it holds
+-- of the steps there. Beside it 13 and 16, which no image brings about.
 use Prim.Native.Nat.{ℕ, zero, suc, _-_}
 use native.Mathlib.Omega.{arith}
 use mathlib.Core.Path.{_≡_, refl, ap, _∙_}

@@ -1,17 +1,12 @@
 -- Numbers are read where their bytes are; and the other way, a list has the bytes of the numbers that are read from it.
-use mathlib.Core.Path.{_≡_, refl, sym, ap, _∙_, subst}
-use mathlib.Core.Logic.{_⊎_, inl, inr, ⊎-elim}
-use mathlib.Core.Bool.{Bool, true, false}
-use Prim.Native.Nat.{ℕ, zero, suc, _+_, _*_, _/_, _^_, _<_, _≤_, _-_}
+use mathlib.Core.Path.{_≡_, sym, ap, _∙_, subst}
+use Prim.Native.Nat.{ℕ, zero, suc, _+_, _*_, _/_, _^_, _<_, _-_}
 use native.Mathlib.Omega.{arith}
-use native.Mathlib.Nat.{add-zero, pow-suc}
-use mathlib.Core.List.{List, [], _∷_, _++_}
-use lib.Dec.{ltb}
+use native.Mathlib.Nat.{pow-suc}
+use mathlib.Core.List.{List}
 use lib.IntN.{ℤ}
-use lib.ListN.{length, getD, length-append, List·getD-append}
-use lib.Seq.{getD-append-add}
+use lib.ListN.{length, getD}
 use borrow.Author.Count.{below-more}
-use borrow.Author.Tests.{ltb-true, ltb-false}
 use mir.Syntax.{w32}
 use mir.Val.{SFits, Fits, toZ}
 use mir.ValLaws.{toZ-fits}
@@ -41,7 +36,8 @@ unfolding wrap
 signed v f h = ap (toZ w32) (number 4 (word w32 v) (word-fits w32 v .fits) h) ∙ wrap-same w32 v f
 
 -- each of a run of lists
-pub each : (f : ℕ → List ℕ) (m : ℕ) → ((k : ℕ) → length (f k) ≡ m) → (n : ℕ) {s : List ℕ} {at : ℕ} → Has s at (concatenated n f) → (k : ℕ) → k < n → Has s (at + m * k) (f k)
+pub each : (f : ℕ → List ℕ) (m : ℕ) → ((k : ℕ) → length (f k) ≡ m) → (n : ℕ) {s : List ℕ} {at : ℕ} → Has s at (concatenated n f) → (k : ℕ) → k < n
+    → Has s (at + m * k) (f k)
 unfolding concatenated
 each f m long zero h k lt = absurd (omega arith)
 each f m long (suc n) {s} {at} h k lt =
@@ -70,7 +66,8 @@ of-signed s at b =
     subst (λ (v : ℕ). Has s at (leBytes 4 v)) (sym (word-same w32 (signedAt s at) (signed-fits s at b) ∙ ofZ-toZ f)) (of-number 4 s at b)
 
 -- a run of lists, from each
-pub run : (f : ℕ → List ℕ) (m : ℕ) → ((k : ℕ) → length (f k) ≡ m) → (n : ℕ) (s : List ℕ) (at : ℕ) → ((k : ℕ) → k < n → Has s (at + m * k) (f k)) → Has s at (concatenated n f)
+pub run : (f : ℕ → List ℕ) (m : ℕ) → ((k : ℕ) → length (f k) ≡ m) → (n : ℕ) (s : List ℕ) (at : ℕ) → ((k : ℕ) → k < n → Has s (at + m * k) (f k))
+    → Has s at (concatenated n f)
 unfolding concatenated
 run f m long zero s at h = nil
 run f m long (suc n) s at h =

@@ -14,7 +14,8 @@ ghost use lib.ListN.{length};
 ghost use Rattle.limits.specs.Limits.{mostDepth, stateLength};
 ghost use Rattle.state_bytes.specs.Bytes.{puts};
 ghost use Rattle.state_sections.specs.Records.{recordBytes};
-ghost use Rattle.state_layout.specs.Codecs.{variablesLength, variableBytes, layoutBytes, headerBytes, motionBytes, notesBytes, startWidths, stackBytes, taskLength, taskBytes};
+ghost use Rattle.state_layout.specs.Codecs.{variablesLength, variableBytes, layoutBytes, headerBytes, motionBytes, notesBytes, startWidths, stackBytes};
+ghost use Rattle.state_layout.specs.Codecs.{taskLength, taskBytes};
 ghost use Rattle.state_layout.specs.Layout.{layoutAt, headerAt, motionAt, notesAt, startsAt, encoded};
 
 // The bytes of a state.

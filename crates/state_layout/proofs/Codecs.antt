@@ -1,5 +1,5 @@
 -- The laws of each codec, at any place: how many bytes it has; what is read where they stand; and that a buffer has the bytes of what is read there.
-use Prim.Native.Nat.{ℕ, _+_, _*_, _<_, _≤_}
+use Prim.Native.Nat.{ℕ, _+_, _*_, _<_}
 use native.Mathlib.Omega.{arith}
 use mathlib.Core.Path.{_≡_, refl, sym, ap, _∙_, subst}
 use mathlib.Core.List.{List, [], _∷_}
@@ -9,7 +9,7 @@ use mir.Syntax.{w32}
 use mir.Val.{Fits, SFits, toZ}
 use mir.ValLaws.{toZ-fits}
 use mir.Facts.{ofZ-toZ}
-use Rattle.limits.specs.Limits.{plc, mathematics, mostDepth, cells, mostLevel}
+use Rattle.limits.specs.Limits.{plc, mathematics, mostDepth, cells}
 use Rattle.num_arith.specs.Wrap.{word, wrap}
 use Rattle.num_arith.proofs.Cut.{word-fits, word-same, wrap-same}
 use Rattle.drive.specs.Types.{slotB, slotC}
@@ -33,7 +33,8 @@ use Rattle.state.specs.declared.Task.{Task}
 use Rattle.state.specs.declared.Motion.{Motion}
 use Rattle.state.specs.declared.Notes.{Notes}
 use Rattle.state_layout.specs.Codecs.{variablesLength, variableBytes, variablesIn, levelsLength, levelsIn, headerWidths, headerBytes, headerIn}
-use Rattle.state_layout.specs.Codecs.{motionWidths, motionRecord, motionBytes, motionFrom, motionIn, notesWidths, notesBytes, notesIn, startWidths, startBytes, startsIn}
+use Rattle.state_layout.specs.Codecs.{motionWidths, motionRecord, motionBytes, motionFrom, motionIn, notesWidths, notesBytes, notesIn, startWidths}
+use Rattle.state_layout.specs.Codecs.{startBytes, startsIn}
 use Rattle.state_layout.specs.Codecs.{stackBytes, stackIn, taskLengths, taskLength, taskPart, taskParts, taskBytes, taskIn}
 use Rattle.state_layout.proofs.Bounds.{TaskFits}
 
@@ -43,7 +44,8 @@ pub variables-long : (v : List ℤ) → length (variableBytes v) ≡ variablesLe
 unfolding variableBytes
 variables-long v = length-runs (λ (k : ℕ). signedBytes (getD v k (pos 0))) 4 (λ k. refl) cells
 
-pub variables-back : (l : List ℕ) (at : ℕ) (v : List ℤ) → length v ≡ cells → ((i : ℕ) → SFits w32 (getD v i (pos 0))) → Has l at (variableBytes v) → variablesIn l at ≡ v
+pub variables-back : (l : List ℕ) (at : ℕ) (v : List ℤ) → length v ≡ cells → ((i : ℕ) → SFits w32 (getD v i (pos 0))) → Has l at (variableBytes v)
+    → variablesIn l at ≡ v
 unfolding variablesIn variableBytes
 variables-back l at v e f h =
     table-is cells (λ (k : ℕ). signedAt l (at + 4 * k)) v (pos 0) e
@@ -106,7 +108,13 @@ motion-back l at m g x =
     ap motionFrom (record-back motionWidths (motionRecord m) l at (motion-fits m g) x)
     ∙ λ ι.
     record {
-      axis = record { position = wrap-same w32 (a .position) (g .axis .position) ι; speed = a .speed; acceleration = a .acceleration; deceleration = a .deceleration };
+      axis = record {
+        position = wrap-same w32 (a .position) (g .axis .position) ι;
+        speed = a .speed;
+        acceleration = a .acceleration;
+        deceleration =
+            a .deceleration;
+      };
       mark = m .mark;
     }
 
@@ -141,7 +149,8 @@ pub stack-long : (l : List ℕ) → length (stackBytes l) ≡ 2 * mostDepth
 unfolding stackBytes
 stack-long l = length-runs (λ (i : ℕ). leBytes 2 (getD l i 0)) 2 (λ i. refl) mostDepth
 
-stack-back : (l : List ℕ) (at : ℕ) (v : List ℕ) → length v ≡ mostDepth → ((i : ℕ) → i < mostDepth → getD v i 0 < 65536) → Has l at (stackBytes v) → stackIn l at ≡ v
+stack-back : (l : List ℕ) (at : ℕ) (v : List ℕ) → length v ≡ mostDepth → ((i : ℕ) → i < mostDepth → getD v i 0 < 65536) → Has l at (stackBytes v)
+    → stackIn l at ≡ v
 unfolding stackIn stackBytes
 stack-back l at v e f h =
     table-is mostDepth (λ (i : ℕ). leNumberAt 2 l (at + 2 * i)) v 0 e

@@ -64,7 +64,8 @@ module _ (h : Header) (task : Task) where
   entry-judged g i =
       let x : ℕ = getD (task .stack) i 0 in
       by i (task .depth)
-      (λ c. first (ltb i (task .depth) && ltb x (h .count)) (leb (task .depth) i && eqb x 0) (rw (lt-ltb i (task .depth) c, lt-ltb x (h .count) (g .under i c))))
+      (λ c. first (ltb i (task .depth) && ltb x (h .count)) (leb (task .depth) i && eqb x 0)
+      (rw (lt-ltb i (task .depth) c, lt-ltb x (h .count) (g .under i c))))
       (λ c. second (ltb i (task .depth) && ltb x (h .count)) (leb (task .depth) i && eqb x 0) (rw (le-leb (task .depth) i c, eq-eqb x 0 (g .above i c))))
 
   module _ (i : ℕ) (e : entryIs (h .count) (task .depth) i (getD (task .stack) i 0) ≡ true) where

@@ -8,7 +8,6 @@ use mathlib.Core.List.{List, [], _∷_}
 use lib.Dec.{eqb}
 use lib.IntN.{pos}
 use lib.ListN.{length, getD, List·getD-eq-default}
-use borrow.Author.Count.{below-more}
 use borrow.Author.Tests.{eqb-true, eq-eqb}
 use mir.Syntax.{w32}
 use mir.Val.{SFits}
@@ -27,8 +26,10 @@ use Rattle.state_sections.proofs.Records.{record-back, record-has}
 use Rattle.state.specs.GoodState.{GoodState}
 use Rattle.state.specs.State.{noTask, taskAt}
 use Rattle.state.specs.declared.State.{State}
-use Rattle.state_layout.specs.Codecs.{layoutNumber, layoutWidths, layoutBytes, headerWidths, notesWidths, startWidths, variablesIn, headerIn, startsIn, stackIn, taskPart}
-use Rattle.state_layout.specs.Layout.{lengths, sections, variablesAt, flagsAt, outputsAt, layoutAt, headerAt, motionAt, notesAt, startsAt, taskPlace, unusedAt, unusedLength}
+use Rattle.state_layout.specs.Codecs.{layoutNumber, layoutWidths, layoutBytes, headerWidths, notesWidths, startWidths, variablesIn, headerIn, startsIn}
+use Rattle.state_layout.specs.Codecs.{stackIn, taskPart}
+use Rattle.state_layout.specs.Layout.{lengths, sections, variablesAt, flagsAt, outputsAt, layoutAt, headerAt, motionAt, notesAt, startsAt, taskPlace}
+use Rattle.state_layout.specs.Layout.{unusedAt, unusedLength}
 use Rattle.state_layout.specs.Layout.{encoded, decoded}
 use Rattle.state_layout.specs.IsState.{stateIs, layoutIs, unusedBytesZero, frameIs, isState}
 use Rattle.state_layout.proofs.Bounds.{TaskFits, task-fits}
@@ -84,10 +85,13 @@ module _ (s : State) (g : GoodState s) where
       let motion = motion-back l motionAt (v .motion) (g .values .motion) (section-at 5 (omega arith)) in
       let notes = notes-back l notesAt (v .notes) (g .values .notes) (section-at 6 (omega arith)) in
       let starts = starts-back l startsAt s (fits plc (omega arith) .start) (fits mathematics (omega arith) .start) (section-at 7 (omega arith)) in
-      let first : (k : ℕ) → getD (startsIn l startsAt) k 0 ≡ getD (taskAt s plc .start ∷ taskAt s mathematics .start ∷ []) k 0 = λ k. ap (λ (ns : List ℕ). getD ns k 0) starts in
-      let t0 = task-back l (taskPlace bias) (taskAt s bias) (headerIn l headerAt .start) (ap (λ h. h .start) header ∙ sym (g .first)) (fits bias (omega arith)) (section-at 8 (omega arith)) in
+      let first : (k : ℕ) → getD (startsIn l startsAt) k 0 ≡ getD (taskAt s plc .start ∷ taskAt s mathematics .start ∷ []) k 0 =
+      λ k. ap (λ (ns : List ℕ). getD ns k 0) starts in
+      let t0 = task-back l (taskPlace bias) (taskAt s bias) (headerIn l headerAt .start) (ap (λ h. h .start) header ∙ sym (g .first)) (fits bias (omega arith))
+      (section-at 8 (omega arith)) in
       let t1 = task-back l (taskPlace plc) (taskAt s plc) (getD (startsIn l startsAt) 0 0) (first 0) (fits plc (omega arith)) (section-at 9 (omega arith)) in
-      let t2 = task-back l (taskPlace mathematics) (taskAt s mathematics) (getD (startsIn l startsAt) 1 0) (first 1) (fits mathematics (omega arith)) (section-at 10 (omega arith)) in
+      let t2 = task-back l (taskPlace mathematics) (taskAt s mathematics) (getD (startsIn l startsAt) 1 0) (first 1) (fits mathematics (omega arith))
+      (section-at 10 (omega arith)) in
       let tasks = (λ ι. t0 ι ∷ t1 ι ∷ t2 ι ∷ []) ∙ sym (three (s .tasks) noTask (g .three)) in
       λ ι.
       record {
@@ -161,7 +165,8 @@ module _ (b : List ℕ) (bytes : Bytes b) where
   -- the layout number, where it is this release's
   layout-has : layoutIs b ≡ true → Has b layoutAt layoutBytes
   layout-has e =
-      subst (λ (n : ℕ). Has b layoutAt (recordBytes layoutWidths (n ∷ []))) (eqb-true (leNumberAt 1 b layoutAt) layoutNumber e) (record-has layoutWidths b layoutAt bytes)
+      subst (λ (n : ℕ). Has b layoutAt (recordBytes layoutWidths (n ∷ []))) (eqb-true (leNumberAt 1 b layoutAt) layoutNumber e)
+      (record-has layoutWidths b layoutAt bytes)
 
   module _ (e : isState b ≡ true) where
     -- what 16 tests of the buffer itself, and of what it is read as

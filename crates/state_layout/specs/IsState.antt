@@ -56,7 +56,8 @@ valuesAre v = cellsAre (v .cells) && (motionIs (v .motion) && notesAre (v .notes
 
 unfoldable pub stateIs : State → Bool
 stateIs s =
-    accepts (s .header) && (valuesAre (s .values) && (taskIs (s .header) (taskAt s bias) && (taskIs (s .header) (taskAt s plc) && taskIs (s .header) (taskAt s mathematics))))
+    accepts (s .header) && (valuesAre (s .values)
+    && (taskIs (s .header) (taskAt s bias) && (taskIs (s .header) (taskAt s plc) && taskIs (s .header) (taskAt s mathematics))))
 
 -- the unused bytes are 0
 abbrev pub unusedBytesZero : List ℕ → ℕ → Bool

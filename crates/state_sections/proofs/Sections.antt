@@ -74,9 +74,11 @@ chained {at = at} (put {off} {n} {ns} {x} {xs} {l} {l′} {l″} h c) e =
 pub at-first : {l x : List ℕ} {at : ℕ} → Has l at x → Has l (at + 0) x
 at-first {at = at} h = moved at (at + 0) (omega arith) h
 
-pub put-first : {at n : ℕ} {ns x : List ℕ} {xs : List (List ℕ)} {l l′ l″ : List ℕ} → l′ ≡ puts l at x → Chain at n ns xs l′ l″ → Chain at 0 (n ∷ ns) (x ∷ xs) l l″
+pub put-first : {at n : ℕ} {ns x : List ℕ} {xs : List (List ℕ)} {l l′ l″ : List ℕ} → l′ ≡ puts l at x → Chain at n ns xs l′ l″
+    → Chain at 0 (n ∷ ns) (x ∷ xs) l l″
 put-first {at} {n} {ns} {x} {xs} {l} {l′} {l″} e c =
-    put (e ∙ (let q : at ≡ at + 0 = omega arith in ap (λ (k : ℕ). puts l k x) q)) (let q : n ≡ 0 + n = omega arith in subst (λ (k : ℕ). Chain at k ns xs l′ l″) q c)
+    put (e ∙ (let q : at ≡ at + 0 = omega arith in ap (λ (k : ℕ). puts l k x) q)) (let q : n ≡ 0 + n = omega arith in
+    subst (λ (k : ℕ). Chain at k ns xs l′ l″) q c)
 
 -- all are put from the place on
 pub chained-first : {at : ℕ} {ns : List ℕ} {xs : List (List ℕ)} {l l″ : List ℕ} → Chain at 0 ns xs l l″ → lens xs ≡ ns → l″ ≡ puts l at (joined xs)

@@ -21,7 +21,8 @@ unfolding putAt
 whole out at a h = take-all (length out) _ (simp (length-append, length-take, length-drop) (omega arith))
 
 -- where there is none left behind the word
-pub cut : (out : List ℕ) (at : ℕ) (a b : List ℕ) → length out ≤ at + length a → take (length out) (take at out ++ (a ++ b)) ≡ take (length out) (take at out ++ a)
+pub cut : (out : List ℕ) (at : ℕ) (a b : List ℕ) → length out ≤ at + length a
+    → take (length out) (take at out ++ (a ++ b)) ≡ take (length out) (take at out ++ a)
 cut out at a b h =
     ap (take (length out)) (sym (append-assoc (take at out) a b))
     ∙ take-append-le (length out) (take at out ++ a) b (simp (length-append, length-take) (omega arith))
@@ -132,7 +133,8 @@ kept d s a n h q l =
     let e = length-take-le n s l in
     cut d a (take n s) _ (omega arith)
     ∙ sym (cut d a (take n s) (drop n s ++ drop (a + length s) d) (omega arith))
-    ∙ ap (λ (x : List ℕ). take (length d) (take a d ++ x)) (sym (append-assoc (take n s) (drop n s) _) ∙ ap (λ (x : List ℕ). x ++ drop (a + length s) d) (take-append-drop n s))
+    ∙ ap (λ (x : List ℕ). take (length d) (take a d ++ x)) (sym (append-assoc (take n s) (drop n s) _)
+    ∙ ap (λ (x : List ℕ). x ++ drop (a + length s) d) (take-append-drop n s))
 
 pub copied-whole : (d s x : List ℕ) (a : ℕ) → a + length s ≤ length d → x ≡ take (length s) s ++ drop (length s) (midOf a (length d - a) d)
     → Put d a s (a + length s) (putMid a (length d - a) d x)

@@ -17,7 +17,8 @@ use Rattle.io.specs.Digits.{digits, Fewest}
 use Rattle.num_arith.specs.Wrap.{word}
 use Rattle.num_arith.proofs.Cut.{word-same}
 use Rattle.text_hex.specs.Hex.{digitOf, hexByte, hexBytes, allBytes}
-use Rattle.text.specs.Text.{digit, digitsOf, decimalOf, minus, signedOf, hexDigit, hexOf, hexFirst, hexAll, valueFrom, decimalValue, below, signedValueOf, Digits}
+use Rattle.text.specs.Text.{digit, digitsOf, decimalOf, minus, signedOf, hexDigit, hexOf, hexFirst, hexAll, valueFrom, decimalValue, below, signedValueOf}
+use Rattle.text.specs.Text.{Digits}
 
 -- ---- digits, by the fuel
 

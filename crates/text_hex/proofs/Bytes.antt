@@ -31,10 +31,12 @@ module _ (line : List ℕ) where
   front n rest = take-at (hexBytes line n) rest n (bytes-length n)
 
   -- byte n is put behind the first n
-  pub one-more : (l : List ℕ) (n v : ℕ) → n < length l → v ≡ hexByte (getD line (2 * n) 0) (getD line (2 * n + 1) 0) → set (hexBytes line n ++ drop n l) n v ≡ hexBytes line (n + 1) ++ drop (n + 1) l
+  pub one-more : (l : List ℕ) (n v : ℕ) → n < length l → v ≡ hexByte (getD line (2 * n) 0) (getD line (2 * n + 1) 0)
+      → set (hexBytes line n ++ drop n l) n v ≡ hexBytes line (n + 1) ++ drop (n + 1) l
   unfolding hexBytes
   one-more l n v h e =
-      let a = set-split (hexBytes line n ++ drop n l) n v (let s = length-append (hexBytes line n) (drop n l) in omega (arith, bytes-length n, length-drop n l)) in
+      let a = set-split (hexBytes line n ++ drop n l) n v (let s = length-append (hexBytes line n) (drop n l) in
+      omega (arith, bytes-length n, length-drop n l)) in
       let d : drop (suc n) (hexBytes line n ++ drop n l) ≡ drop (suc n) l =
       (let q : suc n ≡ length (hexBytes line n) + 1 = omega (arith, bytes-length n) in ap (λ (k : ℕ). drop k (hexBytes line n ++ drop n l)) q)
       ∙ drop-append-add (hexBytes line n) (drop n l) 1 ∙ drop-drop 1 n l ∙ ap (λ (k : ℕ). drop k l) (add-one n) in

@@ -92,7 +92,8 @@ module _ (a b : List ℕ) where
             (joined flagsAt outputsAt layoutAt (cells-equal flagsAt 1 cells (f .0)) (cells-equal outputsAt 1 cells (o .0))),
         joined motionAt startsAt unusedAt (axis-equal (x .0))
             (joined startsAt tasksAt unusedAt (starts-equal (s .0))
-            (split (taskPlace bias) taskLength unusedAt _ (s .1) (λ t. split (taskPlace plc) taskLength unusedAt _ t (λ t. same-equal (taskPlace mathematics) taskLength t)))),
+            (split (taskPlace bias) taskLength unusedAt _ (s .1)
+            (λ t. split (taskPlace plc) taskLength unusedAt _ t (λ t. same-equal (taskPlace mathematics) taskLength t)))),
       )
 
   -- and where they are the same, nothing is told
@@ -102,7 +103,8 @@ module _ (a b : List ℕ) where
       and (equal-cells variablesAt 4 cells (λ i l h. e i (omega arith) (omega arith)))
       (and (equal-cells flagsAt 1 cells (λ i l h. e i (omega arith) (omega arith)))
       (and (equal-cells outputsAt 1 cells (λ i l h. e i (omega arith) (omega arith)))
-      (and (and (one motionAt 4 refl) (and (one (motionAt + 4) 2 refl) (and (one (motionAt + 6) 2 refl) (and (one (motionAt + 8) 2 refl) (and (one (motionAt + 10) 1 refl) (one notesAt 1 refl))))))
+      (and (and (one motionAt 4 refl) (and (one (motionAt + 4) 2 refl)
+      (and (one (motionAt + 6) 2 refl) (and (one (motionAt + 8) 2 refl) (and (one (motionAt + 10) 1 refl) (one notesAt 1 refl))))))
       (and (and (one startsAt 2 refl) (one (startsAt + 2) 2 refl))
       (and (one (taskPlace bias) taskLength refl) (and (one (taskPlace plc) taskLength refl) (one (taskPlace mathematics) taskLength refl)))))))
     where

@@ -21,7 +21,8 @@ sameCells a b at n count = eachBelow (λ (k : ℕ). same a b (at + n * k) n) cou
 -- position, speed, acceleration, deceleration, start mark, noted level
 unfoldable pub sameAxis : List ℕ → List ℕ → Bool
 sameAxis a b =
-    same a b motionAt 4 && (same a b (motionAt + 4) 2 && (same a b (motionAt + 6) 2 && (same a b (motionAt + 8) 2 && (same a b (motionAt + 10) 1 && same a b notesAt 1))))
+    same a b motionAt 4 && (same a b (motionAt + 4) 2
+    && (same a b (motionAt + 6) 2 && (same a b (motionAt + 8) 2 && (same a b (motionAt + 10) 1 && same a b notesAt 1))))
 
 -- the start blocks of the PLC and of mathematics
 unfoldable pub sameStarts : List ℕ → List ℕ → Bool

@@ -1,5 +1,5 @@
--- The verdict on an image, and its blocks where it is accepted, are those of its first bytes, however many, if they are more than the longest image has: the header stands in the first
--- twelve, and a longer image is refused by its header, or by 4 at a place that its header fixes.
+-- The verdict on an image, and its blocks where it is accepted, are those of its first bytes, however many, if they are more than the longest image has: the
+-- header stands in the first twelve, and a longer image is refused by its header, or by 4 at a place that its header fixes.
 use mathlib.Core.Path.{_≡_, refl, sym, ap, _∙_}
 use mathlib.Core.Bool.{Bool, true, false, cond}
 use mathlib.Core.List.{List}
@@ -13,7 +13,8 @@ use Rattle.limits.specs.Limits.{blockLength}
 use Rattle.image_result.specs.ImageResult.{done}
 use Rattle.image_number.specs.Number.{numberAt, firstByte, secondByte}
 use Rattle.image_header.specs.Rows.{rowCount}
-use Rattle.image_header.specs.Scan.{fromImage, taken, more, scan, mostHeaderBytes, firstRefusal, lengthResult, readWith, closed, headerOf, blocksOf, scannedHeader}
+use Rattle.image_header.specs.Scan.{fromImage, taken, more, scan, mostHeaderBytes, firstRefusal, lengthResult, readWith, closed, headerOf, blocksOf}
+use Rattle.image_header.specs.Scan.{scannedHeader}
 use Rattle.image_result.specs.declared.ImageResult.the-variants.{LeftOver}
 use Rattle.image_number.specs.declared.Number.{Number}
 use Rattle.image_number.specs.declared.Number.the-variants.{Value}
@@ -65,7 +66,8 @@ module _ (a b : List ℕ) (long-a : longestImage < length a) (long-b : longestIm
       same-more k (scan (length a) (fromImage a) k) (omega arith) ∙ ap (λ (s : Scan). more (length b) (fromImage b) k s) e
 
   -- the numbers of a, where the scan let them pass, leave room for no byte more
-  within : done (scan (length a) (fromImage a) rowCount .result) ≡ true → scan (length a) (fromImage a) rowCount .at + blockLength * scannedHeader (scan (length a) (fromImage a) rowCount) .count ≤ longestImage
+  within : done (scan (length a) (fromImage a) rowCount .result) ≡ true
+      → scan (length a) (fromImage a) rowCount .at + blockLength * scannedHeader (scan (length a) (fromImage a) rowCount) .count ≤ longestImage
   within h = image-end (length a) (fromImage a) (image-sized a) (accepted-header (length a) (fromImage a) h)
 
   left-over : (at count n : ℕ) → at + blockLength * count ≤ longestImage → longestImage < n → lengthResult at count n ≡ LeftOver (at + blockLength * count)
@@ -76,7 +78,9 @@ module _ (a b : List ℕ) (long-a : longestImage < length a) (long-b : longestIm
   unfolding closed firstRefusal
   same-length s h = ap (readWith s) (go (done (s .result)) refl)
     where
-      go : (t : Bool) → done (s .result) ≡ t → cond t (lengthResult (s .at) (scannedHeader s .count) (length a)) (s .result) ≡ cond t (lengthResult (s .at) (scannedHeader s .count) (length b)) (s .result)
+      go : (t : Bool) → done (s .result) ≡ t
+          → cond t (lengthResult (s .at) (scannedHeader s .count) (length a)) (s .result)
+          ≡ cond t (lengthResult (s .at) (scannedHeader s .count) (length b)) (s .result)
       go true e = left-over (s .at) (scannedHeader s .count) (length a) (h e) long-a ∙ sym (left-over (s .at) (scannedHeader s .count) (length b) (h e) long-b)
       go false e = refl
 

@@ -30,7 +30,8 @@ use Rattle.text_verdict.specs.Line.{lineRoom, lineOf, Holds}
 use Rattle.text_verdict.specs.declared.LineBytes.{LineBytes}
 
 -- numbers of 32, 64, 8 and 8 bits leave it within its room
-pub line-length : (v : Verdict) → verdictNumber v < 2 ^ 32 → verdictPlace v < 2 ^ 64 → verdictTask v < 2 ^ 8 → verdictDepth v < 2 ^ 8 → length (lineOf v) ≤ lineRoom
+pub line-length : (v : Verdict) → verdictNumber v < 2 ^ 32 → verdictPlace v < 2 ^ 64 → verdictTask v < 2 ^ 8 → verdictDepth v < 2 ^ 8
+    → length (lineOf v) ≤ lineRoom
 unfolding lineOf
 line-length v n p t d =
     let number = few-digits 9 (verdictNumber v) (omega arith) in

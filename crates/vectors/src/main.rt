@@ -1,4 +1,4 @@
-// Runs vectors with known answers over the crates arith, drive, image and loader, a line for each, and a table of the pins of every drive.
+// Runs vectors with known answers over the lower crates, from numbers to the loader, a line for each, and a table of the pins of every drive.
 // What it prints is held to the file stdout, whose answers are document 01's. Each function shows what it does, and gives it back.
 use drive::Drive;
 use drive::Presence;
@@ -86,7 +86,8 @@ fn bytes_rows() -> usize
 // Document 01's case K; the least and the greatest number of one byte and of two; then bytes that are none: a second byte 0, a third byte
 // asked for, and too few.
 fn number_rows() -> [Number; 10]
-    ensures { λ r. ⌜ r ≡ Number.Value 1500 2 ∷ Number.NotShortest ∷ Number.Value 0 1 ∷ Number.Value 127 1 ∷ Number.Value 128 2 ∷ Number.Value 16383 2 ∷ Number.NotShortest ∷ Number.NotShortest ∷ Number.EndsEarly ∷ Number.EndsEarly ∷ [] ⌝ }
+    ensures { λ r. ⌜ r ≡ Number.Value 1500 2 ∷ Number.NotShortest ∷ Number.Value 0 1 ∷ Number.Value 127 1 ∷ Number.Value 128 2
+        ∷ Number.Value 16383 2 ∷ Number.NotShortest ∷ Number.NotShortest ∷ Number.EndsEarly ∷ Number.EndsEarly ∷ [] ⌝ }
 {
     [
         number_row(b"\xdc\x0b"),
@@ -120,7 +121,8 @@ fn case_rows() -> [ImageResult; 6]
 
 // Headers that are refused by 2 or 3, one that is accepted, and one that ends early. Behind all but the last stands A's block.
 fn range_rows() -> [ImageResult; 11]
-    ensures { λ r. ⌜ r ≡ NotShortest 1 ∷ OutOfRange 0 ∷ OutOfRange 1 ∷ OutOfRange 2 ∷ OutOfRange 2 ∷ OutOfRange 3 ∷ Done ∷ OutOfRange 5 ∷ OutOfRange 5 ∷ OutOfRange 4 ∷ EndsEarly 8 ∷ [] ⌝ }
+    ensures { λ r. ⌜ r ≡ NotShortest 1 ∷ OutOfRange 0 ∷ OutOfRange 1 ∷ OutOfRange 2 ∷ OutOfRange 2 ∷ OutOfRange 3 ∷ Done
+        ∷ OutOfRange 5 ∷ OutOfRange 5 ∷ OutOfRange 4 ∷ EndsEarly 8 ∷ [] ⌝ }
 {
     [
         // Type 2 in two bytes.

@@ -1,5 +1,5 @@
--- The verdict on an image with marks of some length, computed: 13, then 1 to 4, then 5 to 8 and 23 of the blocks, then the least foreign 51 (7), then the least bad point (9 to 12). That it is what walks
--- say is proved in proofs/Verdicts/OfWalks.antt.
+-- The verdict on an image with marks of some length, computed: 13, then 1 to 4, then 5 to 8 and 23 of the blocks, then the least foreign 51 (7), then the least
+-- bad point (9 to 12). That it is what walks say is proved in proofs/Verdicts/OfWalks.antt.
 use Prim.Native.Nat.{ℕ, zero, suc, _+_, _*_}
 use mathlib.Core.Bool.{Bool, true, false, cond}
 use mathlib.Core.List.{List, [], _∷_}

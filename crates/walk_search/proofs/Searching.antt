@@ -26,7 +26,8 @@ use Rattle.walk.specs.Verdict.{rootOf, reached}
 use Rattle.walk.proofs.Membership.{has-in, in-has}
 use Rattle.walk.proofs.Graph.Least.{lesser-first, lesser-second}
 use Rattle.walk.proofs.Verdicts.OfWalks.{exact}
-use Rattle.walk_search.specs.Search.{pageLength, pageCount, Paged, Board, board, touched, touchedAll, doneAt, visited, Going, Searched, Swept, Fresh, WalkBounds}
+use Rattle.walk_search.specs.Search.{pageLength, pageCount, Paged, Board, board, touched, touchedAll, doneAt, visited, Going, Searched, Swept, Fresh}
+use Rattle.walk_search.specs.Search.{WalkBounds}
 
 -- how many are not done
 unfoldable pub undone : List ℕ → ℕ
@@ -68,7 +69,8 @@ module _ (next : ℕ → List ℕ) (root : ℕ) (l : List ℕ) (cur : ℕ) (g : 
         record {
           known = at-set 0 (λ p v. v ≡ 1 → getD (set d (q / pageLength) 1) (p / pageLength) 0 ≡ 1) l q 1 h
               (λ _. getD-set-same d (q / pageLength) 1 0 g)
-              (λ p n e. at-set 0 (λ j v. p / pageLength ≡ j → v ≡ 1) d (q / pageLength) 1 g (λ _. refl) (λ j m i. rw (← i) (k .known p e)) (p / pageLength) refl);
+              (λ p n e. at-set 0 (λ j v. p / pageLength ≡ j
+              → v ≡ 1) d (q / pageLength) 1 g (λ _. refl) (λ j m i. rw (← i) (k .known p e)) (p / pageLength) refl);
           pages = length-set d (q / pageLength) 1 ∙ k .pages;
           clean = λ j i. getD-set-other d (q / pageLength) j 1 0 (λ e. omega arith) ∙ k .clean j (omega arith);
           last = at-set 0 (λ j v. j ≡ pageCount - 1 → v ≡ 1) d (q / pageLength) 1 g (λ _. refl) (λ j n i. rw i (k .last)) (pageCount - 1) refl;
@@ -111,7 +113,8 @@ module _ (next : ℕ → List ℕ) (root : ℕ) (l : List ℕ) (cur : ℕ) (g : 
     first = at-set 0 (λ p v. p ≡ root → v ≡ 0 → ⊥) l o 2 h (λ i z. omega arith) (λ p n i z. g .first (rw i at z)) (root) refl;
     sound = at-set 0 (λ p v. (v ≡ 0 → ⊥) → Reach next root p) l o 2 h (λ k. g .sound o m) (λ p n k. g .sound p k);
     closed = λ p s k j to. at-set 0 (λ s v. (getD l s 0 ≡ 0 → ⊥) → v ≡ 0 → ⊥) l o 2 h (λ t z. omega arith) (λ s n t z. t z) s
-        (at-set 0 (λ p v. (v ≡ 0 → ⊥) → (v ≡ 1 → ⊥) → In s (next p) → getD l s 0 ≡ 0 → ⊥) l o 2 h (λ k j to. all s to) (λ p n k j to. g .closed p s k j to) p k j to);
+        (at-set 0 (λ p v. (v ≡ 0 → ⊥) → (v ≡ 1 → ⊥) → In s (next p) → getD l s 0 ≡ 0
+        → ⊥) l o 2 h (λ k j to. all s to) (λ p n k j to. g .closed p s k j to) p k j to);
     past = at-set 0 (λ p v. p < cur → v ≡ 1 → ⊥) l o 2 h (λ i z. omega arith) (λ p n i z. g .past p i z);
   }
 
@@ -194,7 +197,8 @@ pub record Visited (next : ℕ → List ℕ) (root : ℕ) (l : List ℕ) (p : �
   pub paged : Paged (b .marks) (b .dirty) (b .cursor)
 
 -- a visit: the points that follow are touched, and the point is done
-pub visit-keeps : (next : ℕ → List ℕ) (root : ℕ) → ((q : ℕ) → Reach next root q → q < marksLength) → (l d : List ℕ) (p : ℕ) → Going next root l p → getD l p 0 ≡ 1
+pub visit-keeps : (next : ℕ → List ℕ) (root : ℕ) → ((q : ℕ) → Reach next root q → q < marksLength) → (l d : List ℕ) (p : ℕ) → Going next root l p
+    → getD l p 0 ≡ 1
     → Paged l d p → (b : Board) → b ≡ visited next p (board l d p) → Visited next root l p b
 unfolding visited
 visit-keeps next root inside l d p g e k b s =
@@ -240,7 +244,8 @@ pub stayed : (l d : List ℕ) (cur : ℕ) → Paged l d cur → ((cur + 1) % pag
 stayed l d cur k n = record { known = k .known; pages = k .pages; clean = λ j i. k .clean j (omega arith); last = k .last }
 
 -- a page that is passed is clean
-pub passed : (next : ℕ → List ℕ) (root : ℕ) (l d : List ℕ) (cur : ℕ) → Going next root l (cur + 1) → Paged l d cur → (cur + 1) % pageLength ≡ 0 → cur < marksLength
+pub passed : (next : ℕ → List ℕ) (root : ℕ) (l d : List ℕ) (cur : ℕ) → Going next root l (cur + 1) → Paged l d cur → (cur + 1) % pageLength ≡ 0
+    → cur < marksLength
     → Paged l (set d (cur / pageLength) 0) (cur + 1)
 passed next root l d cur g k e h =
     let i : cur / pageLength < length d = omega (arith, k .pages) in
@@ -264,7 +269,8 @@ point-of l {n} e p m = go (decLt p n)
     go (no h) = absurd (m (List·getD-eq-default l 0 (omega arith)))
 
 -- the marks are cleared, and the first is pending
-pub cleared : (l : List ℕ) (first : ℕ) → length l ≡ marksLength → first < marksLength → ((k : ℕ) → k < marksLength → getD l k 0 ≡ 0) → Fresh first (set l first 1)
+pub cleared : (l : List ℕ) (first : ℕ) → length l ≡ marksLength → first < marksLength → ((k : ℕ) → k < marksLength → getD l k 0 ≡ 0)
+    → Fresh first (set l first 1)
 cleared l first e h none =
     let h′ : first < length l = omega arith in
     record {
@@ -308,7 +314,8 @@ all-dirty l e = record {
 }
 
 -- a point that follows a pending point has a mark
-pub touch-inside : (next : ℕ → List ℕ) (root : ℕ) → ((q : ℕ) → Reach next root q → q < marksLength) → (l : List ℕ) (p : ℕ) → Going next root l p → getD l p 0 ≡ 1
+pub touch-inside : (next : ℕ → List ℕ) (root : ℕ) → ((q : ℕ) → Reach next root q → q < marksLength) → (l : List ℕ) (p : ℕ) → Going next root l p
+    → getD l p 0 ≡ 1
     → (qs : List ℕ) → qs ≡ next p → (q : ℕ) → In q qs → q < marksLength
 touch-inside next root inside l p g e qs s q t = inside q (Reach.step p q (g .sound p (λ z. omega arith)) (rw s at t))
 

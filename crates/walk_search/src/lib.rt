@@ -15,8 +15,8 @@ ghost use Rattle.walk_search.specs.Search.{WalkBounds, FirstRefused};
 
 mod search;
 
-// The verdict on an image: 13, then 1 to 4, then 5 to 8 and 23 of the blocks, then the least 51 that ends another task (7), then the least bad point (9 to 12). The search works in
-// the first MARKS_LENGTH bytes of marks, which may hold anything; no byte behind them is touched.
+// The verdict on an image: 13, then 1 to 4, then 5 to 8 and 23 of the blocks, then the least 51 that ends another task (7), then the least bad point (9 to 12).
+// The search works in the first MARKS_LENGTH bytes of marks, which may hold anything; no byte behind them is touched.
 pub fn judge(image: &[u8], marks: &mut [u8]) -> Verdict
     ensures { λ r. ⌜ r ≡ verdictOf (now (image .entry)) (length (now (marks .entry))) ⌝ }
     ensures { λ _. ⌜ After marksLength (now (marks .entry)) (now (marks .exit)) ⌝ }

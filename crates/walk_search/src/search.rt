@@ -115,7 +115,8 @@ fn visit(
     requires { ⌜ Going (nextOf (under header) (now blocks)) (rootOf (under header)) (now marks) p ⌝ }
     requires { ⌜ p < marksLength ⌝ }
     requires { ⌜ getD (now marks) p 0 ≡ 1 ⌝ }
-    ensures { λ r. ⌜ board (now (marks .exit)) (now (dirty .exit)) r ≡ visited (nextOf (under header) (now (blocks .entry))) p (board (now (marks .entry)) (now (dirty .entry)) p) ⌝ }
+    ensures { λ r. ⌜ board (now (marks .exit)) (now (dirty .exit)) r
+        ≡ visited (nextOf (under header) (now (blocks .entry))) p (board (now (marks .entry)) (now (dirty .entry)) p) ⌝ }
 {
     let at = point_at(p);
     let flow = walk_graph::flow_at(header, blocks, at);

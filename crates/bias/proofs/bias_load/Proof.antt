@@ -16,13 +16,15 @@ returns c =
 returns-2 : tie.Need-returns-2
 returns-2 c =
     let a = c .before .before .before .before .before .before .args in
-    let r = load-refused _ _ _ _ (no-buffer (now (a .image)) _ (now (a .state)) (c .before .before .if1 .left) (c .before .if2 .taken)) (c .numbered .ensures) in
+    let r = load-refused _ _ _ _ (no-buffer (now (a .image)) _ (now (a .state)) (c .before .before .if1 .left) (c .before .if2 .taken))
+    (c .numbered .ensures) in
     (r .0, (r .1, record { long = refl; rest = λ k i. refl }))
 
 returns-3 : tie.Need-returns-3
 returns-3 c =
     let a = c .before .before .before .before .before .before .before .before .before .before .before .before .args in
-    let e = of-image (now (a .image)) _ (now (a .state)) (c .before .before .before .before .before .before .before .before .if1 .left) (c .before .before .before .before .before .before .before .if2 .left) in
+    let e = of-image (now (a .image)) _ (now (a .state)) (c .before .before .before .before .before .before .before .before .if1 .left)
+    (c .before .before .before .before .before .before .before .if2 .left) in
     let l = c .before .before .before .before .load-image .ensures in
     (l .0 ∙ ap (λ (m : Load). m .verdict) (sym e), (l .1 .0 ∙ ap (λ (m : Load). m .buffer) (sym e), l .1 .1))
 

@@ -11,12 +11,14 @@ use Rattle.bias.proofs.bias_step.Tie as tie
 returns : tie.Need-returns
 returns c =
     let a = c .before .before .before .before .before .args in
-    step-refused _ _ _ _ (no-task (now (a .image)) (now (a .state)) (inputsOf (a .task) (now (a .inputs)) (a .start) (a .reached)) (c .before .if1 .taken)) (c .answer .ensures)
+    step-refused _ _ _ _ (no-task (now (a .image)) (now (a .state)) (inputsOf (a .task) (now (a .inputs)) (a .start) (a .reached)) (c .before .if1 .taken))
+    (c .answer .ensures)
 
 returns-2 : tie.Need-returns-2
 returns-2 c =
     let a = c .before .before .before .before .before .before .args in
-    step-refused _ _ _ _ (bad-inputs (now (a .image)) (now (a .state)) (inputsOf (a .task) (now (a .inputs)) (a .start) (a .reached)) (c .before .before .if1 .left) (c .before .if2 .taken)) (c .answer2 .ensures)
+    step-refused _ _ _ _ (bad-inputs (now (a .image)) (now (a .state)) (inputsOf (a .task) (now (a .inputs)) (a .start) (a .reached))
+    (c .before .before .if1 .left) (c .before .if2 .taken)) (c .answer2 .ensures)
 
 returns-3 : tie.Need-returns-3
 returns-3 c =
@@ -28,7 +30,8 @@ returns-3 c =
 returns-4 : tie.Need-returns-4
 returns-4 c =
     let a = c .before .before .before .before .before .before .before .before .before .before .args in
-    let e = of-buffer (now (a .image)) (now (a .state)) (inputsOf (a .task) (now (a .inputs)) (a .start) (a .reached)) (c .before .before .before .before .before .before .if1 .left) (c .before .before .before .before .before .if2 .left) in
+    let e = of-buffer (now (a .image)) (now (a .state)) (inputsOf (a .task) (now (a .inputs)) (a .start) (a .reached))
+    (c .before .before .before .before .before .before .if1 .left) (c .before .before .before .before .before .if2 .left) in
     let s = c .before .before .step-buffer .ensures in
     (s .0 ∙ ap (λ (m : Stepped). m .answer) (sym e), s .1 ∙ ap (λ (m : Stepped). m .buffer) (sym e))
 

@@ -14,16 +14,24 @@ returns : tie.Need-returns
 returns c =
     let a = c .before .before .before .before .before .before .before .before .before .before .args in
     let j = c .before .before .before .before .before .judge in
-    let refused = sym (ap isAccepted (j .ensures .0)) ∙ sym (c .before .before .is-accepted .ensures) ∙ not-true _ (c .before .if1 .taken) in
-    (c .verdict .ensures ∙ ap verdictFor (j .ensures .0) ∙ sym (verdict-is (now (a .image)) _ (now (a .state))), (sym (stays (now (a .image)) _ (now (a .state)) refused), j .ensures .1))
+    let refused = sym (ap isAccepted (j .ensures .0)) ∙ sym (c .before .before .is-accepted .ensures) ∙ not-true _ (c .before .if1 .taken) in (
+      c .verdict .ensures ∙ ap verdictFor (j .ensures .0)
+          ∙ sym (verdict-is (now (a .image)) _ (now (a .state))),
+      (sym (stays (now (a .image)) _ (now (a .state)) refused), j .ensures .1),
+    )
 
 returns-2 : tie.Need-returns-2
 returns-2 c =
     let a = c .before .before .before .before .before .before .before .before .before .before .before .before .before .before .before .args in
     let j = c .before .before .before .before .before .before .before .before .before .before .judge in
-    let accepted = sym (ap isAccepted (j .ensures .0)) ∙ sym (c .before .before .before .before .before .before .before .is-accepted .ensures) ∙ not-false _ (c .before .before .before .before .before .before .if1 .left) in (
+    let accepted = sym (ap isAccepted (j .ensures .0)) ∙ sym (c .before .before .before .before .before .before .before .is-accepted .ensures)
+    ∙ not-false _ (c .before .before .before .before .before .before .if1 .left) in (
       c .verdict2 .ensures ∙ ap verdictFor (j .ensures .0) ∙ sym (verdict-is (now (a .image)) _ (now (a .state))),
-      (c .before .before .before .put-state .ensures ∙ ap encoded (c .before .before .before .before .fresh .ensures) ∙ sym (begins (now (a .image)) _ (now (a .state)) accepted), j .ensures .1),
+      (
+        c .before .before .before .put-state .ensures ∙ ap encoded (c .before .before .before .before .fresh .ensures)
+            ∙ sym (begins (now (a .image)) _ (now (a .state)) accepted),
+        j .ensures .1,
+      ),
     )
 
 pub load-image-spec : {M : Type 1} → statement M

@@ -1,4 +1,4 @@
--- `border::answer` meets its contract: each part is what the answer, or the request, has.
+-- `bias_results::answer` meets its contract: each part is what the answer, or the request, has.
 use borrow.Author.Needs.{needs}
 use mathlib.Core.Path.{refl, _∙_}
 use mir.Syntax.{w32}

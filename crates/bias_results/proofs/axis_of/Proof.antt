@@ -1,4 +1,4 @@
--- `border::axis_of` meets its contract, arm by arm.
+-- `bias_results::axis_of` meets its contract, arm by arm.
 use mathlib.Core.Path.{sym, ap, _∙_}
 use Rattle.machine.specs.Numbers.{motionAxis}
 use borrow.Author.Needs.{needs}

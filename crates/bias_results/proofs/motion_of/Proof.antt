@@ -1,4 +1,4 @@
--- `border::motion_of` meets its contract, arm by arm.
+-- `bias_results::motion_of` meets its contract, arm by arm.
 use borrow.Author.Needs.{needs}
 use mathlib.Core.Path.{sym, ap}
 use Rattle.machine.specs.Numbers.{motionNumber}

@@ -1,4 +1,4 @@
--- `border::number_of` meets its contract, arm by arm.
+-- `bias_results::number_of` meets its contract, arm by arm.
 use borrow.Author.Needs.{needs}
 use mathlib.Core.Path.{sym, ap, _∙_}
 use Rattle.machine.specs.Numbers.{answerNumber}

@@ -1,4 +1,4 @@
--- `border::verdict` meets its contract: each part is what the verdict has.
+-- `bias_results::verdict` meets its contract: each part is what the verdict has.
 use borrow.Author.Needs.{needs}
 use Rattle.bias_results.proofs.verdict.Statement.{statement}
 use Rattle.bias_results.proofs.verdict.Tie as tie

@@ -1,4 +1,4 @@
--- `border::written` meets its contract: the length, or the refusal.
+-- `bias_results::written` meets its contract: the length, or the refusal.
 use mathlib.Core.Path.{sym, _∙_}
 use Rattle.bias_results.specs.Results.{numbered}
 use borrow.Author.Needs.{needs}

@@ -1,4 +1,4 @@
--- `run::bias_run` meets its contract: the load decides, and where it answers 0 the run is one that the theorem speaks of.
+-- `bias_run::bias_run` meets its contract: the load decides, and where it answers 0 the run is one that the theorem speaks of.
 use borrow.Author.Needs.{needs}
 use denote.Ref.{now}
 use lib.ListN.{length}
@@ -19,7 +19,11 @@ returns c =
       l .0,
       (
         l .1 .0 ∙ refused (now (a .image)) n (now (a .state)) (now (a .steps)) _ (l .0) (c .if1 .taken),
-        (l .1 .1, theorem (now (a .image)) n (now (a .state)) (now (a .steps)) _ (l .0) (λ k. c .before .before .before .before .before .before .before .before .before .before .before .before .shared-slice-known .given k .fits)),
+        (
+          l .1 .1,
+          theorem (now (a .image)) n (now (a .state)) (now (a .steps)) _ (l .0)
+              (λ k. c .before .before .before .before .before .before .before .before .before .before .before .before .shared-slice-known .given k .fits),
+        ),
       ),
     )
 
@@ -33,7 +37,12 @@ returns-2 c =
         c .before .before .run-steps .ensures
             ∙ ap (λ (b : List ℕ). bufferAfter (now (a .image)) b (stepsOf (now (a .steps)))) (l .1 .0)
             ∙ accepted (now (a .image)) n (now (a .state)) (now (a .steps)) _ (l .0) (c .before .before .before .before .if1 .left),
-        (l .1 .1, theorem (now (a .image)) n (now (a .state)) (now (a .steps)) _ (l .0) (λ k. c .before .before .before .before .before .before .before .before .before .before .before .before .before .before .before .before .shared-slice-known .given k .fits)),
+        (
+          l .1 .1,
+          theorem (now (a .image)) n (now (a .state)) (now (a .steps)) _ (l .0)
+              (λ k. c .before .before .before .before .before .before .before .before .before .before .before .before .before .before .before .before
+              .shared-slice-known .given k .fits),
+        ),
       ),
     )
 

@@ -1,4 +1,4 @@
--- `run::step_at` meets its contract: task, levels and the two inputs are read where the step has them.
+-- `bias_run::step_at` meets its contract: task, levels and the two inputs are read where the step has them.
 use borrow.Author.Needs.{needs}
 use denote.Ref.{now}
 use lib.ListN.{getD, take, drop}
@@ -20,7 +20,8 @@ returns c =
     let k = c .before .before .before .before .before .length-at in
     let long : a .at + headLength + k .result - (a .at + headLength) ≡ lengthAt s (a .at) = omega arith in
     c .before .before .bias-step .ensures .1
-    ∙ (λ ι. stepped (now (a .image)) (now (a .state)) (inputsOf (task ι) (take (long ι) (drop (a .at + headLength) s)) (getD s (a .at + 4) 0) (getD s (a .at + 5) 0)) .buffer)
+    ∙ (λ ι. stepped (now (a .image)) (now (a .state))
+    (inputsOf (task ι) (take (long ι) (drop (a .at + headLength) s)) (getD s (a .at + 4) 0) (getD s (a .at + 5) 0)) .buffer)
 
 pub step-at-spec : {M : Type 1} → statement M
 step-at-spec =

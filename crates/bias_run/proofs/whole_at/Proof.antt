@@ -1,4 +1,4 @@
--- `run::whole_at` meets its contract: the head fits, and then the levels behind it.
+-- `bias_run::whole_at` meets its contract: the head fits, and then the levels behind it.
 use borrow.Author.Needs.{needs}
 use borrow.Author.Tests.{lt-leb}
 use denote.Ref.{now}

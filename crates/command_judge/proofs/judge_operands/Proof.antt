@@ -6,11 +6,21 @@ use Rattle.command_judge.proofs.judge_operands.Tie as tie
 
 returns-2 : tie.Need-returns-2
 unfolding operandFault
-returns-2 c = rw (← c .before .before .before .in-range .ensures, not-false (c .before .before .before .in-range .result) (c .before .before .if1 .left), ← c .before .unused-zero .ensures, not-true (c .before .unused-zero .result) (c .if2 .taken))
+returns-2 c = rw (
+  ← c .before .before .before .in-range .ensures,
+  not-false (c .before .before .before .in-range .result) (c .before .before .if1 .left),
+  ← c .before .unused-zero .ensures,
+  not-true (c .before .unused-zero .result) (c .if2 .taken),
+)
 
 returns-3 : tie.Need-returns-3
 unfolding operandFault
-returns-3 c = rw (← c .before .before .before .in-range .ensures, not-false (c .before .before .before .in-range .result) (c .before .before .if1 .left), ← c .before .unused-zero .ensures, not-false (c .before .unused-zero .result) (c .if2 .left))
+returns-3 c = rw (
+  ← c .before .before .before .in-range .ensures,
+  not-false (c .before .before .before .in-range .result) (c .before .before .if1 .left),
+  ← c .before .unused-zero .ensures,
+  not-false (c .before .unused-zero .result) (c .if2 .left),
+)
 
 pub judge-operands-spec : {M : Type 1} → statement M
 unfolding operandFault

@@ -23,7 +23,8 @@ returns c =
     let st = at-loop .before .before .before .before in
     let i = at-loop .loop .i in
     c .home-numbered .ensures
-    ∙ sym (found-in (st .args .first .now) (st .args .last .now) (st .args .homes .now) (st .pre .0) (st .pre .1) i (st .args .pin) (c .before .before .before .before .before .before .loop-test .taken) (c .before .before .before .before .if1 .taken) (c .before .before .if2 .taken))
+    ∙ sym (found-in (st .args .first .now) (st .args .last .now) (st .args .homes .now) (st .pre .0) (st .pre .1) i (st .args .pin)
+    (c .before .before .before .before .before .before .loop-test .taken) (c .before .before .before .before .if1 .taken) (c .before .before .if2 .taken))
     ∙ at-loop .loop .inv .1
 
 loop-again : tie.Need-loop-again Inv-loop μ-loop
@@ -33,8 +34,10 @@ loop-again c =
     let i = at-loop .loop .i in (
       search needs,
       ⊎-elim
-          (λ w. sym (above (st .args .first .now) (st .args .last .now) (st .args .homes .now) (st .pre .0) (st .pre .1) i (st .args .pin) (c .before .before .loop-test .taken) (w .0 .taken) (w .2 .left)) ∙ at-loop .loop .inv .1)
-          (λ w. sym (below (st .args .first .now) (st .args .last .now) (st .args .homes .now) (st .pre .0) (st .pre .1) i (st .args .pin) (c .before .before .loop-test .taken) (w .left)) ∙ at-loop .loop .inv .1)
+          (λ w. sym (above (st .args .first .now) (st .args .last .now) (st .args .homes .now) (st .pre .0) (st .pre .1) i (st .args .pin)
+          (c .before .before .loop-test .taken) (w .0 .taken) (w .2 .left)) ∙ at-loop .loop .inv .1)
+          (λ w. sym (below (st .args .first .now) (st .args .last .now) (st .args .homes .now) (st .pre .0) (st .pre .1) i (st .args .pin)
+          (c .before .before .loop-test .taken) (w .left)) ∙ at-loop .loop .inv .1)
           (c .if1 .came),
     )
 
@@ -42,7 +45,8 @@ returns-2 : tie.Need-returns-2 Inv-loop μ-loop
 returns-2 c =
     let at-loop = c .before in
     let st = at-loop .before .before .before .before in
-    sym (no-row (st .args .first .now) (st .args .last .now) (st .args .homes .now) (st .pre .0) (st .pre .1) (at-loop .loop .i) (st .args .pin) (c .loop-test .left))
+    sym (no-row (st .args .first .now) (st .args .last .now) (st .args .homes .now) (st .pre .0) (st .pre .1) (at-loop .loop .i) (st .args .pin)
+    (c .loop-test .left))
     ∙ at-loop .loop .inv .1
 
 pub home-in-spec : {M : Type 1} → statement M

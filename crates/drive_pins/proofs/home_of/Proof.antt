@@ -8,7 +8,8 @@ use Rattle.drive_pins.proofs.home_of.Tie as tie
 
 returns-4 : tie.Need-returns-4
 unfolding homeOf
-returns-4 c = rw (c .before .before .enum-told3 .given .1) (c .output-home2 .ensures ∙ sym (read-other (c .before .before .before .before .args .pin) (c .before .if1 .left)))
+returns-4 c = rw (c .before .before .enum-told3 .given .1) (c .output-home2 .ensures
+    ∙ sym (read-other (c .before .before .before .before .args .pin) (c .before .if1 .left)))
 
 pub home-of-spec : {M : Type 1} → statement M
 unfolding homeOf

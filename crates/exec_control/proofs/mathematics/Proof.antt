@@ -1,5 +1,4 @@
 -- `mathematics` meets its contract: each arm of the match is the row of its code.
-use denote.Ref.{now}
 use Rattle.machine.specs.Effect.{mathematicsRows, effectIn}
 use Rattle.exec_effect.proofs.Found.{found, missed}
 use Rattle.exec_control.proofs.mathematics.Statement.{statement}

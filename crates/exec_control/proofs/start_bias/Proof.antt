@@ -2,8 +2,5 @@
 use Rattle.exec_control.proofs.start_bias.Statement.{statement}
 use Rattle.exec_control.proofs.start_bias.Tie as tie
 
-returns : tie.Need-returns
-returns c = c .flows .ensures
-
 pub start-bias-spec : {M : Type 1} → statement M
-start-bias-spec = tie.close (tie.spec (λ c κs. tt) returns)
+start-bias-spec = tie.close (tie.spec (λ c κs. tt) (λ c. c .flows .ensures))

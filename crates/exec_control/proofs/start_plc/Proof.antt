@@ -2,8 +2,5 @@
 use Rattle.exec_control.proofs.start_plc.Statement.{statement}
 use Rattle.exec_control.proofs.start_plc.Tie as tie
 
-returns : tie.Need-returns
-returns c = c .flows .ensures
-
 pub start-plc-spec : {M : Type 1} → statement M
-start-plc-spec = tie.close (tie.spec (λ c κs. tt) returns)
+start-plc-spec = tie.close (tie.spec (λ c κs. tt) (λ c. c .flows .ensures))

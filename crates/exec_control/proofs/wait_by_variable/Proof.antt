@@ -2,7 +2,6 @@
 use mathlib.Core.Path.{sym, ap, _∙_}
 use Prim.Native.Nat.{ℕ}
 use mathlib.Core.Bool.{Bool, _||_, cond}
-use mathlib.Core.List.{[]}
 use mir.Syntax.{w32}
 use Rattle.limits.specs.Limits.{mostTime}
 use Rattle.num_arith.proofs.Range.{got}
@@ -29,9 +28,11 @@ wait-by-variable-spec =
     c .flows .ensures
     ∙ ap (flows (a .v))
     (c .before .waits .ensures
-    ∙ ap (λ (n : ℕ). waits n g) (c .before .before .time-of .ensures ∙ ap (timeOf (a .context .drive .model)) (c .before .before .before .natural .ensures ∙ ap natural e)))
+    ∙ ap (λ (n : ℕ). waits n g) (c .before .before .time-of .ensures
+    ∙ ap (timeOf (a .context .drive .model)) (c .before .before .before .natural .ensures ∙ ap natural e)))
     ∙ ap (λ (t : Bool). cond t (flows (a .v) (waits (timeOf (a .context .drive .model) (natural (variable (a .v) (a .c .x)))) g)) (halts BadContent (a .v)))
-    (sym (c .before .before .before .before .if1 .taken) ∙ ap (λ (t : Bool). isSet (a .context .time) || t) (c .before .before .before .before .before .is-time .ensures ∙ ap (within 0 mostTime) e)))
+    (sym (c .before .before .before .before .if1 .taken)
+    ∙ ap (λ (t : Bool). isSet (a .context .time) || t) (c .before .before .before .before .before .is-time .ensures ∙ ap (within 0 mostTime) e)))
     (λ c κs. tt)
     (λ c.
     let a = c .before .before .before .before .before .args in

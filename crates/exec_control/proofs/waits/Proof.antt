@@ -1,6 +1,5 @@
 -- `waits` meets its contract, by whether a time is pending.
 use mathlib.Core.Path.{_∙_}
-use mathlib.Core.List.{[]}
 use native.Mathlib.Omega.{arith}
 use Rattle.exec_control.proofs.TimedWaits.{waits-first, waits-later}
 use Rattle.exec_control.proofs.waits.Statement.{statement}

@@ -15,20 +15,28 @@ perform-spec =
     (λ c κs. tt)
     (λ c.
     let a = c .before .before .before .args in
-    c .perform .ensures ∙ ap (λ (d : CommandEffect). d (a .context) (a .c) (a .v)) (sym (of-motion (now (a .inputs)) (a .c .code) (lt-ltb (a .c .code) control (c .before .if1 .taken)))))
+    c .perform .ensures ∙ ap (λ (d : CommandEffect). d (a .context) (a .c) (a .v))
+    (sym (of-motion (now (a .inputs)) (a .c .code) (lt-ltb (a .c .code) control (c .before .if1 .taken)))))
     (λ c κs. c .before .before .before .pre)
     (λ c.
     let a = c .before .before .before .before .args in
-    c .perform2 .ensures ∙ ap (λ (d : CommandEffect). d (a .context) (a .c) (a .v)) (sym (of-control (now (a .inputs)) (a .c .code) (le-ltb (a .c .code) control (c .before .before .if1 .left)) (lt-ltb (a .c .code) levels (c .before .if2 .taken)))))
+    c .perform2 .ensures ∙ ap (λ (d : CommandEffect). d (a .context) (a .c) (a .v))
+    (sym (of-control (now (a .inputs)) (a .c .code) (le-ltb (a .c .code) control (c .before .before .if1 .left))
+    (lt-ltb (a .c .code) levels (c .before .if2 .taken)))))
     (λ c κs. tt)
     (λ c.
     let a = c .before .before .before .before .before .args in
-    c .perform3 .ensures ∙ ap (λ (d : CommandEffect). d (a .context) (a .c) (a .v)) (sym (of-levels (now (a .inputs)) (a .c .code) (le-ltb (a .c .code) levels (c .before .before .if2 .left)) (lt-ltb (a .c .code) variables (c .before .if3 .taken)))))
+    c .perform3 .ensures ∙ ap (λ (d : CommandEffect). d (a .context) (a .c) (a .v))
+    (sym (of-levels (now (a .inputs)) (a .c .code) (le-ltb (a .c .code) levels (c .before .before .if2 .left))
+    (lt-ltb (a .c .code) variables (c .before .if3 .taken)))))
     (λ c κs. tt)
     (λ c.
     let a = c .before .before .before .before .before .before .args in
-    c .perform4 .ensures ∙ ap (λ (d : CommandEffect). d (a .context) (a .c) (a .v)) (sym (of-variables (now (a .inputs)) (a .c .code) (le-ltb (a .c .code) variables (c .before .before .if3 .left)) (lt-ltb (a .c .code) mathematics (c .before .if4 .taken)))))
+    c .perform4 .ensures ∙ ap (λ (d : CommandEffect). d (a .context) (a .c) (a .v))
+    (sym (of-variables (now (a .inputs)) (a .c .code) (le-ltb (a .c .code) variables (c .before .before .if3 .left))
+    (lt-ltb (a .c .code) mathematics (c .before .if4 .taken)))))
     (λ c κs. tt)
     (λ c.
     let a = c .before .before .before .before .before .before .args in
-    c .mathematics .ensures ∙ ap (λ (d : CommandEffect). d (a .context) (a .c) (a .v)) (sym (of-mathematics (now (a .inputs)) (a .c .code) (le-ltb (a .c .code) mathematics (c .before .if4 .left))))))
+    c .mathematics .ensures ∙ ap (λ (d : CommandEffect). d (a .context) (a .c) (a .v))
+    (sym (of-mathematics (now (a .inputs)) (a .c .code) (le-ltb (a .c .code) mathematics (c .before .if4 .left))))))

@@ -3,8 +3,5 @@ use mathlib.Core.Path.{refl}
 use Rattle.exec_effect.proofs.asks.Statement.{statement}
 use Rattle.exec_effect.proofs.asks.Tie as tie
 
-returns : tie.Need-returns
-returns c = refl
-
 pub asks-spec : {M : Type 1} → statement M
-asks-spec = tie.close (tie.spec returns)
+asks-spec = tie.close (tie.spec (λ c. refl))

@@ -3,8 +3,5 @@ use mathlib.Core.Path.{refl}
 use Rattle.exec_effect.proofs.flows.Statement.{statement}
 use Rattle.exec_effect.proofs.flows.Tie as tie
 
-returns : tie.Need-returns
-returns c = refl
-
 pub flows-spec : {M : Type 1} → statement M
-flows-spec = tie.close (tie.spec returns)
+flows-spec = tie.close (tie.spec (λ c. refl))

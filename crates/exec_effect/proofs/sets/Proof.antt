@@ -3,8 +3,5 @@ use borrow.Author.Needs.{needs}
 use Rattle.exec_effect.proofs.sets.Statement.{statement}
 use Rattle.exec_effect.proofs.sets.Tie as tie
 
-returns : tie.Need-returns
-returns c = search needs
-
 pub sets-spec : {M : Type 1} → statement M
-sets-spec = tie.close (tie.spec (λ c κs. tt) returns)
+sets-spec = tie.close (tie.spec (λ c κs. tt) (λ c. search needs))

@@ -20,4 +20,8 @@ and-flags-spec =
     (λ c κs. tt)
     (λ c.
     let a = c .before .before .before .before .before .before .before .args in
-    c .sets .ensures ∙ ap sets (c .before .with-flag .ensures ∙ ap (λ (n : ℕ). withFlag (a .c .x) n (a .v)) (c .before .before .bit .ensures ∙ ap bit (ap₂ _&&_ (c .before .before .before .before .before .is-set .ensures ∙ ap isSet (c .before .before .before .before .before .before .flag .ensures)) (c .before .before .before .is-set2 .ensures ∙ ap isSet (c .before .before .before .before .flag2 .ensures)))))))
+    c .sets .ensures ∙ ap sets (c .before .with-flag .ensures
+    ∙ ap (λ (n : ℕ). withFlag (a .c .x) n (a .v)) (c .before .before .bit .ensures
+    ∙ ap bit (ap₂ _&&_ (c .before .before .before .before .before .is-set .ensures
+    ∙ ap isSet (c .before .before .before .before .before .before .flag .ensures)) (c .before .before .before .is-set2 .ensures
+    ∙ ap isSet (c .before .before .before .before .flag2 .ensures)))))))

@@ -20,4 +20,7 @@ jump-by-bit-spec =
     (λ c κs. tt)
     (λ c.
     let a = c .before .before .before .before .before .args in
-    c .jump-if .ensures ∙ ap (λ (t : Bool). jumpIf t (a .c .word) (a .v)) (c .before .compares .ensures ∙ ap (λ (n : ℕ). compares (a .c .z) n 0) (c .before .before .bit2 .ensures ∙ ap bit (c .before .before .before .bit .ensures ∙ ap (bitAt w32 (a .c .y)) (got w32 (c .before .before .before .before .variable .ok) (c .before .before .before .before .variable .ensures)))))))
+    c .jump-if .ensures ∙ ap (λ (t : Bool). jumpIf t (a .c .word) (a .v)) (c .before .compares .ensures
+    ∙ ap (λ (n : ℕ). compares (a .c .z) n 0) (c .before .before .bit2 .ensures
+    ∙ ap bit (c .before .before .before .bit .ensures
+    ∙ ap (bitAt w32 (a .c .y)) (got w32 (c .before .before .before .before .variable .ok) (c .before .before .before .before .variable .ensures)))))))

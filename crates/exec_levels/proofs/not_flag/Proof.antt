@@ -18,4 +18,6 @@ not-flag-spec =
     (λ c κs. tt)
     (λ c.
     let a = c .before .before .before .before .before .args in
-    c .sets .ensures ∙ ap sets (c .before .with-flag .ensures ∙ ap (λ (n : ℕ). withFlag (a .c .x) n (a .v)) (c .before .before .bit .ensures ∙ ap (λ (t : Bool). bit (not t)) (c .before .before .before .is-set .ensures ∙ ap isSet (c .before .before .before .before .flag .ensures))))))
+    c .sets .ensures ∙ ap sets (c .before .with-flag .ensures
+    ∙ ap (λ (n : ℕ). withFlag (a .c .x) n (a .v)) (c .before .before .bit .ensures
+    ∙ ap (λ (t : Bool). bit (not t)) (c .before .before .before .is-set .ensures ∙ ap isSet (c .before .before .before .before .flag .ensures))))))

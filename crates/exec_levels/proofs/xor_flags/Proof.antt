@@ -19,4 +19,6 @@ xor-flags-spec =
     (λ c κs. tt)
     (λ c.
     let a = c .before .before .before .before .before .args in
-    c .sets .ensures ∙ ap sets (c .before .with-flag .ensures ∙ ap (λ (n : ℕ). withFlag (a .c .x) n (a .v)) (c .before .before .bit .ensures ∙ ap bit (ap₂ (λ (m k : ℕ). not (eqb m k)) (c .before .before .before .before .flag .ensures) (c .before .before .before .flag2 .ensures))))))
+    c .sets .ensures ∙ ap sets (c .before .with-flag .ensures
+    ∙ ap (λ (n : ℕ). withFlag (a .c .x) n (a .v)) (c .before .before .bit .ensures
+    ∙ ap bit (ap₂ (λ (m k : ℕ). not (eqb m k)) (c .before .before .before .before .flag .ensures) (c .before .before .before .flag2 .ensures))))))

@@ -2,8 +2,5 @@
 use Rattle.exec_motion.proofs.move_to.Statement.{statement}
 use Rattle.exec_motion.proofs.move_to.Tie as tie
 
-returns : tie.Need-returns
-returns c = rw (c .moves .ensures, c .before .axis .ensures)
-
 pub move-to-spec : {M : Type 1} → statement M
-move-to-spec = tie.close (tie.spec (λ c κs. tt) (λ c κs. tt) returns)
+move-to-spec = tie.close (tie.spec (λ c κs. tt) (λ c κs. tt) (λ c. rw (c .moves .ensures, c .before .axis .ensures)))

@@ -2,8 +2,5 @@
 use Rattle.exec_motion.proofs.stop.Statement.{statement}
 use Rattle.exec_motion.proofs.stop.Tie as tie
 
-returns : tie.Need-returns
-returns c = rw (c .asks .ensures, c .before .axis .ensures)
-
 pub stop-spec : {M : Type 1} → statement M
-stop-spec = tie.close (tie.spec (λ c κs. tt) (λ c κs. tt) returns)
+stop-spec = tie.close (tie.spec (λ c κs. tt) (λ c κs. tt) (λ c. rw (c .asks .ensures, c .before .axis .ensures)))

@@ -2,8 +2,5 @@
 use Rattle.exec_motion.proofs.stop_by.Statement.{statement}
 use Rattle.exec_motion.proofs.stop_by.Tie as tie
 
-returns : tie.Need-returns
-returns c = c .asks .ensures
-
 pub stop-by-spec : {M : Type 1} → statement M
-stop-by-spec = tie.close (tie.spec (λ c κs. tt) returns)
+stop-by-spec = tie.close (tie.spec (λ c κs. tt) (λ c. c .asks .ensures))

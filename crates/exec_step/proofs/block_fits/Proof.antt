@@ -23,4 +23,5 @@ block-fits-spec =
     (λ c.
     let a = c .before .before .before .before .before .before .args in
     ap₂ (λ (m n : ℕ). eqb m 0 && eqb n 0) (c .before .number .ensures ∙ ap blockFaultNumber (c .before .before .block-fault-at .ensures))
-    (c .number2 .ensures ∙ ap faultNumber (c .before .before .before .fault-at .ensures ∙ ap (faultAt (under (a .header)) (now (a .blocks))) (c .before .before .before .before .point-of .ensures)))))
+    (c .number2 .ensures ∙ ap faultNumber (c .before .before .before .fault-at .ensures
+    ∙ ap (faultAt (under (a .header)) (now (a .blocks))) (c .before .before .before .before .point-of .ensures)))))

@@ -18,9 +18,11 @@ step-spec =
     (λ c κs. tt)
     (λ c.
     let a = c .before .before .before .before .before .args in
-    c .refuse2 .ensures ∙ bad-inputs (now (a .image)) (a .s) (inputsOf (a .task) (now (a .inputs)) (a .start) (a .reached)) (c .before .before .if1 .left) (c .before .if2 .taken))
+    c .refuse2 .ensures ∙ bad-inputs (now (a .image)) (a .s) (inputsOf (a .task) (now (a .inputs)) (a .start) (a .reached)) (c .before .before .if1 .left)
+    (c .before .if2 .taken))
     (λ c. search needs)
     (λ c κs. (c .before .before .before .before .pre, c .before .if1 .left))
     (λ c.
     let a = c .before .before .before .before .before .args in
-    c .task-step .ensures ∙ of-task (now (a .image)) (a .s) (inputsOf (a .task) (now (a .inputs)) (a .start) (a .reached)) (c .before .before .if1 .left) (c .before .if2 .left)))
+    c .task-step .ensures ∙ of-task (now (a .image)) (a .s) (inputsOf (a .task) (now (a .inputs)) (a .start) (a .reached)) (c .before .before .if1 .left)
+    (c .before .if2 .left)))

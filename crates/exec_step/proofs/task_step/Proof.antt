@@ -23,7 +23,8 @@ task-step-spec =
     (λ c κs. tt)
     (λ c.
     let a = c .before .before .before .before .before .before .before .args in
-    c .refuse .ensures ∙ not-running (now (a .image)) (a .s) (inputsOf (a .t) (now (a .inputs)) (a .start) (a .reached)) (taskAt (a .s) (a .t)) (c .before .if1 .taken))
+    c .refuse .ensures ∙ not-running (now (a .image)) (a .s) (inputsOf (a .t) (now (a .inputs)) (a .start) (a .reached)) (taskAt (a .s) (a .t))
+    (c .before .if1 .taken))
     (λ c κs. tt)
     (λ c κs. c .read .ensures)
     (λ c κs. tt)
@@ -32,18 +33,31 @@ task-step-spec =
     (λ c.
     let a = c .before .before .before .before .before .before .before .before .before .before .before .before .args in
     let x = inputsOf (a .t) (now (a .inputs)) (a .start) (a .reached) in
-    let f = fits-of (now (a .image)) (a .s) x _ _ (taskAt (a .s) (a .t)) (c .before .before .before .before .before .read .ensures) (c .before .before .before .before .part-of .ensures) in
+    let f = fits-of (now (a .image)) (a .s) x _ _ (taskAt (a .s) (a .t)) (c .before .before .before .before .before .read .ensures)
+    (c .before .before .before .before .part-of .ensures) in
     c .refuse2 .ensures ∙ ap (λ (p : Point). refuse (a .s) (Differs p)) (c .before .point-of .ensures)
-    ∙ differs (now (a .image)) (a .s) x (taskAt (a .s) (a .t)) (c .before .before .before .before .before .before .if1 .left) (sym f ∙ sym (c .before .before .before .fits2 .ensures) ∙ not-true _ (c .before .before .if2 .taken)))
+    ∙ differs (now (a .image)) (a .s) x (taskAt (a .s) (a .t)) (c .before .before .before .before .before .before .if1 .left) (sym f
+    ∙ sym (c .before .before .before .fits2 .ensures) ∙ not-true _ (c .before .before .if2 .taken)))
     (λ c κs.
     let st = c .before .before .before .before .before .before .before .before .before .before in
     let a = st .args in
     let h = ready (a .s) (st .pre .0) (a .t) (st .pre .1) in
-    let x = inputsOf (a .t) (now (a .inputs)) (a .start) (a .reached) in
-    (h .block, (h .depth, (h .turns, block-passes (now (a .image)) (a .s) x (c .before .before .before .read .result) (now (c .before .before .part-of .result)) (taskAt (a .s) (a .t)) (sym (c .before .fits2 .ensures) ∙ not-false _ (c .if2 .left))))))
+    let x = inputsOf (a .t) (now (a .inputs)) (a .start) (a .reached) in (
+      h .block,
+      (
+        h .depth,
+        (
+          h .turns,
+          block-passes (now (a .image)) (a .s) x (c .before .before .before .read .result) (now (c .before .before .part-of .result))
+              (taskAt (a .s) (a .t)) (sym (c .before .fits2 .ensures) ∙ not-false _ (c .if2 .left)),
+        ),
+      ),
+    ))
     (λ c.
     let a = c .before .before .before .before .before .before .before .before .before .before .before .args in
     let x = inputsOf (a .t) (now (a .inputs)) (a .start) (a .reached) in
-    let f = fits-of (now (a .image)) (a .s) x _ _ (taskAt (a .s) (a .t)) (c .before .before .before .before .read .ensures) (c .before .before .before .part-of .ensures) in
+    let f = fits-of (now (a .image)) (a .s) x _ _ (taskAt (a .s) (a .t)) (c .before .before .before .before .read .ensures)
+    (c .before .before .before .part-of .ensures) in
     c .carry-out .ensures ∙ ap (λ (bs : List ℕ). carriedOut bs (a .s) x (taskAt (a .s) (a .t))) (c .before .before .before .part-of .ensures)
-    ∙ carried (now (a .image)) (a .s) x (taskAt (a .s) (a .t)) (c .before .before .before .before .before .if1 .left) (sym f ∙ sym (c .before .before .fits2 .ensures) ∙ not-false _ (c .before .if2 .left))))
+    ∙ carried (now (a .image)) (a .s) x (taskAt (a .s) (a .t)) (c .before .before .before .before .before .if1 .left) (sym f
+    ∙ sym (c .before .before .fits2 .ensures) ∙ not-false _ (c .before .if2 .left))))

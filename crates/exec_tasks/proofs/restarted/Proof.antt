@@ -3,8 +3,5 @@ use borrow.Author.Needs.{needs}
 use Rattle.exec_tasks.proofs.restarted.Statement.{statement}
 use Rattle.exec_tasks.proofs.restarted.Tie as tie
 
-returns : tie.Need-returns
-returns c = search needs
-
 pub restarted-spec : {M : Type 1} → statement M
-restarted-spec = tie.close (tie.spec (λ c κs. tt) returns)
+restarted-spec = tie.close (tie.spec (λ c κs. tt) (λ c. search needs))

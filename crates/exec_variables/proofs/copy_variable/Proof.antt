@@ -4,8 +4,6 @@ use Rattle.num_arith.proofs.Range.{got}
 use Rattle.exec_variables.proofs.copy_variable.Statement.{statement}
 use Rattle.exec_variables.proofs.copy_variable.Tie as tie
 
-returns : tie.Need-returns
-returns c = let y = c .before .variable in rw (got w32 (y .ok) (y .ensures)) at (c .assigns .ensures)
-
 pub copy-variable-spec : {M : Type 1} → statement M
-copy-variable-spec = tie.close (tie.spec (λ c κs. tt) (λ c κs. tt) returns)
+copy-variable-spec = tie.close (tie.spec (λ c κs. tt) (λ c κs. tt) (λ c. let y = c .before .variable in
+    rw (got w32 (y .ok) (y .ensures)) at (c .assigns .ensures)))

@@ -20,4 +20,5 @@ jump-by-value-spec =
     let x = c .before .before .before .variable in
     c .jump-if .ensures
     ∙ ap (λ (t : Bool). jumpIf t (a .c .word) (a .v))
-    (c .before .compare .ensures ∙ ap₂ (holds (a .c .y)) (got w32 (x .ok) (x .ensures)) (got w32 (c .before .before .struct-told .given .1 .1 .1 .1 .1 .0 .1) refl))))
+    (c .before .compare .ensures ∙ ap₂ (holds (a .c .y)) (got w32 (x .ok) (x .ensures))
+    (got w32 (c .before .before .struct-told .given .1 .1 .1 .1 .1 .0 .1) refl))))

@@ -21,4 +21,5 @@ jump-by-variable-spec =
     let x = c .before .before .before .variable in
     let z = c .before .before .variable2 in
     c .jump-if .ensures
-    ∙ ap (λ (t : Bool). jumpIf t (a .c .word) (a .v)) (c .before .compare .ensures ∙ ap₂ (holds (a .c .y)) (got w32 (x .ok) (x .ensures)) (got w32 (z .ok) (z .ensures)))))
+    ∙ ap (λ (t : Bool). jumpIf t (a .c .word) (a .v)) (c .before .compare .ensures
+    ∙ ap₂ (holds (a .c .y)) (got w32 (x .ok) (x .ensures)) (got w32 (z .ok) (z .ensures)))))

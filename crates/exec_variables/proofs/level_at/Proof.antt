@@ -1,6 +1,5 @@
 -- `level_at` meets its contract: past the last flag there is 0.
 use mathlib.Core.Path.{sym}
-use mathlib.Core.List.{List}
 use lib.ListN.{List·getD-eq-default}
 use denote.Ref.{now}
 use borrow.Author.Needs.{needs}

@@ -1,4 +1,4 @@
--- `number::read` meets its contract. Each return cites the law of `numberAt` for what the tests found.
+-- `image_number::read` meets its contract. Each return cites the law of `numberAt` for what the tests found.
 use borrow.Author.Needs.{needs}
 use mathlib.Core.Path.{_∙_}
 use native.Mathlib.Omega.{arith}

@@ -1,4 +1,4 @@
--- `number::size` meets its contract, by the two forms of a number.
+-- `image_number::size` meets its contract, by the two forms of a number.
 use Rattle.image_number.proofs.Numbers.{one, two}
 use Rattle.image_number.proofs.size.Statement.{statement}
 use Rattle.image_number.proofs.size.Tie as tie

@@ -1,4 +1,4 @@
--- `writer::fit` meets its contract: the refusal of the numbers comes first; blocks that fit the room are counted without overflow.
+-- `image_writer::fit` meets its contract: the refusal of the numbers comes first; blocks that fit the room are counted without overflow.
 use borrow.Author.Needs.{needs}
 use mathlib.Core.Path.{sym, ap, _∙_}
 use native.Mathlib.Omega.{arith}

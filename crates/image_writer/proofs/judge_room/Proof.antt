@@ -1,4 +1,4 @@
--- `writer::judge_room` meets its contract, by its tests.
+-- `image_writer::judge_room` meets its contract, by its tests.
 use borrow.Author.Needs.{needs}
 use native.Mathlib.Omega.{arith}
 use Prim.Native.Nat.{_*_}

@@ -1,4 +1,4 @@
--- `writer::judge_row` meets its contract: a refusal stays, else the number is judged where it would stand.
+-- `image_writer::judge_row` meets its contract: a refusal stays, else the number is judged where it would stand.
 use borrow.Author.Needs.{needs}
 use mathlib.Core.Path.{refl, sym, ap, _∙_}
 use Prim.Native.Nat.{ℕ, _+_}

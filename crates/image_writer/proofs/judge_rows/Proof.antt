@@ -1,4 +1,4 @@
--- `writer::judge_rows` meets its contract. The loop's invariant: the scan is that of the numbers passed.
+-- `image_writer::judge_rows` meets its contract. The loop's invariant: the scan is that of the numbers passed.
 use borrow.Author.Needs.{needs}
 use mathlib.Core.Path.{_≡_, ap, _∙_}
 use Prim.Native.Nat.{_≤_, _-_}
@@ -30,8 +30,11 @@ judge-row-requires c κs =
 loop-again : tie.Need-loop-again Inv-loop μ-loop
 loop-again c =
     let at-loop = c .before .before in
-    let ns = c .before .before .before .before .args .t1 in
-    (c .judge-row .ensures ∙ same-number ns (at-loop .loop .row) (at-loop .loop .s) ∙ next-row 0 (givenNumbers ns) (at-loop .loop .row) (at-loop .loop .s) (at-loop .loop .inv .0), omega arith)
+    let ns = c .before .before .before .before .args .t1 in (
+      c .judge-row .ensures ∙ same-number ns (at-loop .loop .row) (at-loop .loop .s)
+          ∙ next-row 0 (givenNumbers ns) (at-loop .loop .row) (at-loop .loop .s) (at-loop .loop .inv .0),
+      omega arith,
+    )
 
 returns : tie.Need-returns Inv-loop μ-loop
 returns c =

@@ -1,4 +1,4 @@
--- `writer::put` meets its contract, by the two forms of a number: the stores of each are those of `sets`.
+-- `image_writer::put` meets its contract, by the two forms of a number: the stores of each are those of `sets`.
 use borrow.Author.Needs.{needs}
 use mathlib.Core.Path.{refl, ap}
 use native.Mathlib.Omega.{arith}

@@ -1,4 +1,4 @@
--- `writer::put_image` meets its contract: the numbers, and the blocks right behind them, are one run of stores from the front.
+-- `image_writer::put_image` meets its contract: the numbers, and the blocks right behind them, are one run of stores from the front.
 use borrow.Author.Needs.{needs}
 use mathlib.Core.Path.{_≡_, ap, _∙_}
 use native.Mathlib.Omega.{arith}
@@ -24,7 +24,8 @@ sub-copy c =
     let called = c .before .before .put-numbers in
     let l = image-length (st .args .numbers) (st .args .blocks .now) in
     let h = st .pre .1 in
-    let e : length (called .last .1 .0) ≡ length (st .args .out .now) = ap length (called .ensures .1) ∙ length-sets (st .args .out .now) 0 (firstNumbers (st .args .numbers) rowCount) in
+    let e : length (called .last .1 .0) ≡ length (st .args .out .now) = ap length (called .ensures .1)
+    ∙ length-sets (st .args .out .now) 0 (firstNumbers (st .args .numbers) rowCount) in
     let a = called .ensures .0 in
     omega arith
 
@@ -34,7 +35,8 @@ part-copy-start c =
     let called = c .before .before .put-numbers in
     let l = image-length (st .args .numbers) (st .args .blocks .now) in
     let h = st .pre .1 in
-    let e : length (called .last .1 .0) ≡ length (st .args .out .now) = ap length (called .ensures .1) ∙ length-sets (st .args .out .now) 0 (firstNumbers (st .args .numbers) rowCount) in
+    let e : length (called .last .1 .0) ≡ length (st .args .out .now) = ap length (called .ensures .1)
+    ∙ length-sets (st .args .out .now) 0 (firstNumbers (st .args .numbers) rowCount) in
     let a = called .ensures .0 in
     omega arith
 
@@ -44,7 +46,8 @@ copy-requires c κs =
     let called = c .before .before .before .put-numbers in
     let l = image-length (st .args .numbers) (st .args .blocks .now) in
     let h = st .pre .1 in
-    let e : length (called .last .1 .0) ≡ length (st .args .out .now) = ap length (called .ensures .1) ∙ length-sets (st .args .out .now) 0 (firstNumbers (st .args .numbers) rowCount) in
+    let e : length (called .last .1 .0) ≡ length (st .args .out .now) = ap length (called .ensures .1)
+    ∙ length-sets (st .args .out .now) 0 (firstNumbers (st .args .numbers) rowCount) in
     let a = called .ensures .0 in
     simp (length-take, length-drop) (omega arith)
 
@@ -54,9 +57,11 @@ returns c =
     let called = c .before .before .before .before .before .before .put-numbers in
     let l = image-length (st .args .numbers) (st .args .blocks .now) in
     let h = st .pre .1 in
-    let e : length (called .last .1 .0) ≡ length (st .args .out .now) = ap length (called .ensures .1) ∙ length-sets (st .args .out .now) 0 (firstNumbers (st .args .numbers) rowCount) in
+    let e : length (called .last .1 .0) ≡ length (st .args .out .now) = ap length (called .ensures .1)
+    ∙ length-sets (st .args .out .now) 0 (firstNumbers (st .args .numbers) rowCount) in
     let a = called .ensures .0 in
-    filled (called .last .1 .0) (st .args .blocks .now) (c .before .before .copy .last .1 .0) (called .result) (omega arith) (c .before .before .copy .ensures .1)
+    filled (called .last .1 .0) (st .args .blocks .now) (c .before .before .copy .last .1 .0) (called .result) (omega arith)
+    (c .before .before .copy .ensures .1)
     ∙ whole (st .args .numbers) (st .args .out .now) (called .last .1 .0) (st .args .blocks .now) (called .result) a (called .ensures .1) h
 
 pub put-image-spec : {M : Type 1} → statement M

@@ -1,4 +1,4 @@
--- `writer::put_numbers` meets its contract. The loop's invariant: the numbers passed stand at the front.
+-- `image_writer::put_numbers` meets its contract. The loop's invariant: the numbers passed stand at the front.
 use mathlib.Core.Path.{_≡_, refl, ap, _∙_}
 use Prim.Native.Nat.{_≤_, _<_, _-_}
 use native.Mathlib.Omega.{arith}
@@ -24,7 +24,8 @@ put-requires c κs =
     let ns = st .args .t1 in
     let row = at-loop .loop .row in
     let l : row < rowCount = c .before .loop-test .taken in
-    let e : length (at-loop .loop .out) ≡ length (st .args .out .now) = ap length (at-loop .loop .inv .1) ∙ length-sets (st .args .out .now) 0 (firstNumbers ns row) in
+    let e : length (at-loop .loop .out) ≡ length (st .args .out .now) = ap length (at-loop .loop .inv .1)
+    ∙ length-sets (st .args .out .now) 0 (firstNumbers ns row) in
     let r = room ns row rowCount l in
     let i = at-loop .loop .inv .0 in
     let h = st .pre .1 in

@@ -1,4 +1,4 @@
--- `writer::write` meets its contract: a refusal comes before any store, and an image that is written has room.
+-- `image_writer::write` meets its contract: a refusal comes before any store, and an image that is written has room.
 use borrow.Author.Needs.{needs}
 use mathlib.Core.Path.{_≡_, ap, _∙_}
 use mathlib.Core.Bool.{true, false}
@@ -27,7 +27,8 @@ returns c =
     let ns = st .args .numbers in
     let l = now (st .args .blocks) in
     let o = now (st .args .out) in
-    let t : c .before .before .fit .result ≡ written ns (length l) (length o) = c .before .before .fit .ensures ∙ ap (λ (s : Scan). judgedWrite s (length l) (length o)) (c .before .before .before .judge-rows .ensures) in
+    let t : c .before .before .fit .result ≡ written ns (length l) (length o) = c .before .before .fit .ensures
+    ∙ ap (λ (s : Scan). judgedWrite s (length l) (length o)) (c .before .before .before .judge-rows .ensures) in
     let d = c .before .is-done in
     (t, left-alone ns l o (answered ns l o (c .before .before .fit .result) t (d .result) false (d .ensures) (not-true (d .result) (c .if1 .taken))))
 
@@ -38,7 +39,8 @@ put-image-requires c κs =
     let ns = st .args .numbers in
     let l = now (st .args .blocks) in
     let o = now (st .args .out) in
-    let t : c .before .before .before .fit .result ≡ written ns (length l) (length o) = c .before .before .before .fit .ensures ∙ ap (λ (s : Scan). judgedWrite s (length l) (length o)) (c .before .before .before .before .judge-rows .ensures) in
+    let t : c .before .before .before .fit .result ≡ written ns (length l) (length o) = c .before .before .before .fit .ensures
+    ∙ ap (λ (s : Scan). judgedWrite s (length l) (length o)) (c .before .before .before .before .judge-rows .ensures) in
     let d = c .before .before .is-done in
     let ok = answered ns l o (c .before .before .before .fit .result) t (d .result) true (d .ensures) (not-false (d .result) (c .before .if1 .left)) in
     (small-numbers ns (written-fine ns l (length o) ok .judged), has-room ns l (length o) ok)
@@ -50,9 +52,12 @@ returns-2 c =
     let ns = st .args .numbers in
     let l = now (st .args .blocks) in
     let o = now (st .args .out) in
-    let t : c .before .before .before .before .before .before .fit .result ≡ written ns (length l) (length o) = c .before .before .before .before .before .before .fit .ensures ∙ ap (λ (s : Scan). judgedWrite s (length l) (length o)) (c .before .before .before .before .before .before .before .judge-rows .ensures) in
+    let t : c .before .before .before .before .before .before .fit .result ≡ written ns (length l) (length o) =
+    c .before .before .before .before .before .before .fit .ensures
+    ∙ ap (λ (s : Scan). judgedWrite s (length l) (length o)) (c .before .before .before .before .before .before .before .judge-rows .ensures) in
     let d = c .before .before .before .before .before .is-done in
-    let ok = answered ns l o (c .before .before .before .before .before .before .fit .result) t (d .result) true (d .ensures) (not-false (d .result) (c .before .before .before .before .if1 .left)) in
+    let ok = answered ns l o (c .before .before .before .before .before .before .fit .result) t (d .result) true (d .ensures)
+    (not-false (d .result) (c .before .before .before .before .if1 .left)) in
     (t, c .before .before .put-image .ensures ∙ put-there ns l o ok)
 
 pub write-spec : {M : Type 1} → statement M

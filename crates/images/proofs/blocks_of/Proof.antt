@@ -9,7 +9,8 @@ use Rattle.images.proofs.blocks_of.Tie as tie
 returns : tie.Need-returns
 returns c =
     let image = c .before .before .before .before .before .before .args .image .now in
-    c .summed .ensures ∙ ap partOf (c .before .before .blocks2 .ensures .0 ∙ ap (acceptedBlocks image) (sym (c .before .before .before .before .marks .ensures .0)))
+    c .summed .ensures ∙ ap partOf (c .before .before .blocks2 .ensures .0
+    ∙ ap (acceptedBlocks image) (sym (c .before .before .before .before .marks .ensures .0)))
 
 pub blocks-of-spec : {M : Type 1} → statement M
 blocks-of-spec =

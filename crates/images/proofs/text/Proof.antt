@@ -4,9 +4,6 @@ use Rattle.text_verdict.specs.Input.{zeros}
 use Rattle.images.proofs.text.Statement.{statement}
 use Rattle.images.proofs.text.Tie as tie
 
-returns : tie.Need-returns
-unfolding zeros
-returns c = (refl, refl)
-
 pub text-spec : {M : Type 1} → statement M
-text-spec = tie.close (tie.spec returns)
+unfolding zeros
+text-spec = tie.close (tie.spec (λ c. (refl, refl)))

@@ -3,8 +3,5 @@ use mathlib.Core.Path.{refl}
 use Rattle.limits.proofs.up_to.Statement.{statement}
 use Rattle.limits.proofs.up_to.Tie as tie
 
-returns : tie.Need-returns
-returns c = refl
-
 pub up-to-spec : {M : Type 1} → statement M
-up-to-spec = tie.close (tie.spec returns)
+up-to-spec = tie.close (tie.spec (λ c. refl))

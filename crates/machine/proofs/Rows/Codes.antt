@@ -23,7 +23,7 @@ use Rattle.walk.specs.Walk.{starts}
 use Rattle.walk.proofs.Steps.Moves.{Flows, flowing, startF}
 use Rattle.machine.specs.StepRule.{Calls, noCalls, withCalls, withoutLatest, counts}
 use Rattle.machine.specs.Allows.{Allows}
-use Rattle.machine.specs.declared.Outcome.the-variants.{Return, Start, End}
+use Rattle.machine.specs.declared.Outcome.the-variants.{Start, End}
 
 -- the open calls after a command of this flow
 abbrev pub countF : Flow → ℕ → ℕ → Calls → Calls
@@ -64,7 +64,8 @@ module _ (x word t b : ℕ) (calls : Calls) where
     count : countBy k ≡ countF (flowBy k x word) t b calls
     ends : endF (flowBy k x word) ≡ (is k kind.Ending && not (eqb x 0))
 
-  ending-by : (m : Bool) → (cond m (withCalls t [] calls) calls ≡ countF (cond m flow.Restart flow.End) t b calls) × (endF (cond m flow.Restart flow.End) ≡ not m)
+  ending-by : (m : Bool) → (cond m (withCalls t [] calls) calls ≡ countF (cond m flow.Restart flow.End) t b calls)
+      × (endF (cond m flow.Restart flow.End) ≡ not m)
   ending-by true = (refl, refl)
   ending-by false = (refl, refl)
 
@@ -123,4 +124,10 @@ module _ (h : Terms) (c : Command) (f : Flows (c .code) (rowOf (c .code) .flow))
       mode : Dec (c .x ≡ t + 1) → c .x ≡ t + 1
       mode (yes e) = e
       mode (no n) =
-          clash (sym (foreign-exactly t c .1 (record { code = code; mode = eqb-false (c .x) 0 (not-true (eqb (c .x) 0) (both (is (rowOf (c .code) .flow) kind.Ending) (not (eqb (c .x) 0)) known .1)); other = n })) ∙ own)
+          clash (sym (foreign-exactly t c .1
+          (record {
+            code = code;
+            mode = eqb-false (c .x) 0
+                (not-true (eqb (c .x) 0) (both (is (rowOf (c .code) .flow) kind.Ending) (not (eqb (c .x) 0)) known .1));
+            other = n;
+          })) ∙ own)

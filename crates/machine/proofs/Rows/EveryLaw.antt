@@ -22,7 +22,8 @@ use Rattle.state.proofs.Setters.{flag-good, output-good, good-axis, mark-good, 
 use Rattle.state.specs.declared.Values.{Values}
 use Rattle.machine.specs.Inputs.{inputAt}
 use Rattle.machine.specs.declared.Context.{Context}
-use Rattle.machine.specs.Effect.{CommandEffect, effectRow, effectOf, compares, flag, output, bit, isSet, variable, within, natural, waits, timeOf, flagNumber}
+use Rattle.machine.specs.Effect.{CommandEffect, effectRow, effectOf, compares, flag, output, bit, isSet, variable, within, natural, waits, timeOf}
+use Rattle.machine.specs.Effect.{flagNumber}
 use Rattle.machine.specs.Effect.{effectRows}
 use Rattle.machine.specs.StepRule.{Reason}
 use Rattle.machine.specs.Allows.{Allows}
@@ -105,38 +106,54 @@ rows-keep inputs =
     at 0x55 _ (λ c e g v. flows-law 0x55 c g v (Jump (c .word)) (simply 0x55 c g v (Jump (c .word)) refl Allows.jump)) &
     at 0x57 _ (λ c e g v. flows-law 0x57 c g v (Start bias (c .word)) (simply 0x57 c g v (Start bias (c .word)) refl Allows.start)) &
     at 0x58 _ (λ c e g v. stays-law 0x58 c g v (isSet (g .reached)) Allows.over Allows.stay) &
-    at 0x59 _ (λ c e g v. flows-law 0x59 c g v (waits (2 * c .word) g) (waits-lawful 0x59 c g v (2 * c .word) refl Allows.over (λ _ _. Allows.stay) (λ _ _ f. twice (c .word) (f .word)))) &
-    at 0x5A _ (λ c e g v. waits-variable-law 0x5A c g v refl Allows.over (λ _ _. Allows.stay) Allows.refuse (Reason.waiting e) (λ _. short (g .drive .model) (variable v (c .x)))) &
-    at 0x60 _ (λ c e g v. sets-law 0x60 c g v (withFlag (c .x) (c .y) v) Allows.on (λ n f d. flag-good v d (c .x) (c .y) (leb-true (c .y) mostLevel (ranges-at 0x60 n c e (f .ranges))))) &
+    at 0x59 _ (λ c e g v. flows-law 0x59 c g v (waits (2 * c .word) g)
+    (waits-lawful 0x59 c g v (2 * c .word) refl Allows.over (λ _ _. Allows.stay) (λ _ _ f. twice (c .word) (f .word)))) &
+    at 0x5A _ (λ c e g v. waits-variable-law 0x5A c g v refl Allows.over (λ _ _. Allows.stay) Allows.refuse (Reason.waiting e)
+    (λ _. short (g .drive .model) (variable v (c .x)))) &
+    at 0x60 _ (λ c e g v. sets-law 0x60 c g v (withFlag (c .x) (c .y) v) Allows.on
+    (λ n f d. flag-good v d (c .x) (c .y) (leb-true (c .y) mostLevel (ranges-at 0x60 n c e (f .ranges))))) &
     at 0x61 _ (λ c e g v. jump-law 0x61 c g v (compares (c .y) (flag v (c .x)) (c .z)) (c .word) Allows.branch Allows.pass) &
     at 0x62 _ (λ c e g v. sets-law 0x62 c g v (withFlag (c .x) (flag v (c .y)) v) Allows.on
     (λ _ _ d. flag-good v d (c .x) (flag v (c .y)) (d .cells .flag (c .y)))) &
-    at 0x63 _ (λ c e g v. sets-law 0x63 c g v (withFlag (c .x) (inputAt inputs (c .y)) v) Allows.on (λ _ _ d. flag-good v d (c .x) (inputAt inputs (c .y)) (level-level (getD inputs (c .y) 0)))) &
+    at 0x63 _ (λ c e g v. sets-law 0x63 c g v (withFlag (c .x) (inputAt inputs (c .y)) v) Allows.on
+    (λ _ _ d. flag-good v d (c .x) (inputAt inputs (c .y)) (level-level (getD inputs (c .y) 0)))) &
     at 0x64 _ (λ c e g v. sets-law 0x64 c g v (withFlag (c .x) (output v (c .y)) v) Allows.on
     (λ _ _ d. flag-good v d (c .x) (output v (c .y)) (d .cells .output (c .y)))) &
-    at 0x65 _ (λ c e g v. sets-law 0x65 c g v (withFlag (c .x) (bit (isSet (flag v (c .y)) && isSet (flag v (c .z)))) v) Allows.on (λ _ _ d. flag-good v d (c .x) (bit (isSet (flag v (c .y)) && isSet (flag v (c .z)))) (bit-level (isSet (flag v (c .y)) && isSet (flag v (c .z)))))) &
-    at 0x66 _ (λ c e g v. sets-law 0x66 c g v (withFlag (c .x) (bit (isSet (flag v (c .y)) || isSet (flag v (c .z)))) v) Allows.on (λ _ _ d. flag-good v d (c .x) (bit (isSet (flag v (c .y)) || isSet (flag v (c .z)))) (bit-level (isSet (flag v (c .y)) || isSet (flag v (c .z)))))) &
-    at 0x67 _ (λ c e g v. sets-law 0x67 c g v (withFlag (c .x) (bit (not (eqb (flag v (c .y)) (flag v (c .z))))) v) Allows.on (λ _ _ d. flag-good v d (c .x) (bit (not (eqb (flag v (c .y)) (flag v (c .z))))) (bit-level (not (eqb (flag v (c .y)) (flag v (c .z))))))) &
-    at 0x68 _ (λ c e g v. sets-law 0x68 c g v (withFlag (c .x) (bit (not (isSet (flag v (c .y))))) v) Allows.on (λ _ _ d. flag-good v d (c .x) (bit (not (isSet (flag v (c .y))))) (bit-level (not (isSet (flag v (c .y))))))) &
+    at 0x65 _ (λ c e g v. sets-law 0x65 c g v (withFlag (c .x) (bit (isSet (flag v (c .y)) && isSet (flag v (c .z)))) v) Allows.on
+    (λ _ _ d. flag-good v d (c .x) (bit (isSet (flag v (c .y)) && isSet (flag v (c .z)))) (bit-level (isSet (flag v (c .y)) && isSet (flag v (c .z)))))) &
+    at 0x66 _ (λ c e g v. sets-law 0x66 c g v (withFlag (c .x) (bit (isSet (flag v (c .y)) || isSet (flag v (c .z)))) v) Allows.on
+    (λ _ _ d. flag-good v d (c .x) (bit (isSet (flag v (c .y)) || isSet (flag v (c .z)))) (bit-level (isSet (flag v (c .y)) || isSet (flag v (c .z)))))) &
+    at 0x67 _ (λ c e g v. sets-law 0x67 c g v (withFlag (c .x) (bit (not (eqb (flag v (c .y)) (flag v (c .z))))) v) Allows.on
+    (λ _ _ d. flag-good v d (c .x) (bit (not (eqb (flag v (c .y)) (flag v (c .z))))) (bit-level (not (eqb (flag v (c .y)) (flag v (c .z))))))) &
+    at 0x68 _ (λ c e g v. sets-law 0x68 c g v (withFlag (c .x) (bit (not (isSet (flag v (c .y))))) v) Allows.on
+    (λ _ _ d. flag-good v d (c .x) (bit (not (isSet (flag v (c .y))))) (bit-level (not (isSet (flag v (c .y))))))) &
     at 0x6E _ (λ c e g v. jump-law 0x6E c g v (compares (c .z) (bit (bitAt w32 (c .y) (variable v (c .x)))) 0) (c .word) Allows.branch Allows.pass) &
     at 0x70 _ (λ c e g v. jump-law 0x70 c g v (compares (c .y) (inputAt inputs (c .x)) (c .z)) (c .word) Allows.branch Allows.pass) &
     at 0x71 _ (λ c e g v. jump-law 0x71 c g v (compares (c .y) (output v (c .x)) (c .z)) (c .word) Allows.branch Allows.pass) &
-    at 0x72 _ (λ c e g v. sets-law 0x72 c g v (withOutput (c .x) (c .y) v) Allows.on (λ n f d. output-good v d (c .x) (c .y) (leb-true (c .y) mostLevel (ranges-at 0x72 n c e (f .ranges))))) &
+    at 0x72 _ (λ c e g v. sets-law 0x72 c g v (withOutput (c .x) (c .y) v) Allows.on
+    (λ n f d. output-good v d (c .x) (c .y) (leb-true (c .y) mostLevel (ranges-at 0x72 n c e (f .ranges))))) &
     at 0x73 _ (λ c e g v. sets-law 0x73 c g v (withOutput (c .x) (flag v (c .y)) v) Allows.on
     (λ _ _ d. output-good v d (c .x) (flag v (c .y)) (d .cells .flag (c .y)))) &
     at 0x80 _ (λ c e g v. assigns-law 0x80 c g v (c .value) Allows.on (λ _ f _. f .value)) &
     at 0x81 _ (λ c e g v. jump-law 0x81 c g v (holds (c .y) (variable v (c .x)) (c .value)) (c .word) Allows.branch Allows.pass) &
-    at 0x82 _ (λ c e g v. assigns-law 0x82 c g v (wrap w32 (variable v (c .y) +ℤ c .value)) Allows.on (λ _ _ _. wrap-fits w32 (variable v (c .y) +ℤ c .value))) &
-    at 0x83 _ (λ c e g v. assigns-law 0x83 c g v (wrap w32 (variable v (c .y) -ℤ c .value)) Allows.on (λ _ _ _. wrap-fits w32 (variable v (c .y) -ℤ c .value))) &
-    at 0x84 _ (λ c e g v. assigns-law 0x84 c g v (wrap w32 (variable v (c .y) *ℤ c .value)) Allows.on (λ _ _ _. wrap-fits w32 (variable v (c .y) *ℤ c .value))) &
-    at 0x85 _ (λ c e g v. divides-law 0x85 c g v (variable v (c .y)) (c .value) Allows.on Allows.halt (λ z n f. absurd (not-zero (c .value) (ranges-at 0x85 n c e f) z))) &
+    at 0x82 _ (λ c e g v. assigns-law 0x82 c g v (wrap w32 (variable v (c .y) +ℤ c .value)) Allows.on
+    (λ _ _ _. wrap-fits w32 (variable v (c .y) +ℤ c .value))) &
+    at 0x83 _ (λ c e g v. assigns-law 0x83 c g v (wrap w32 (variable v (c .y) -ℤ c .value)) Allows.on
+    (λ _ _ _. wrap-fits w32 (variable v (c .y) -ℤ c .value))) &
+    at 0x84 _ (λ c e g v. assigns-law 0x84 c g v (wrap w32 (variable v (c .y) *ℤ c .value)) Allows.on
+    (λ _ _ _. wrap-fits w32 (variable v (c .y) *ℤ c .value))) &
+    at 0x85 _ (λ c e g v. divides-law 0x85 c g v (variable v (c .y)) (c .value) Allows.on Allows.halt
+    (λ z n f. absurd (not-zero (c .value) (ranges-at 0x85 n c e f) z))) &
     at 0x86 _ (λ c e g v. assigns-law 0x86 c g v (wrap w32 (pos (flagNumber (v .cells .flags) (c .y) (c .z)))) Allows.on
     (λ _ _ _. wrap-fits w32 (pos (flagNumber (v .cells .flags) (c .y) (c .z))))) &
     at 0x88 _ (λ c e g v. assigns-law 0x88 c g v (variable v (c .y)) Allows.on (λ _ _ d. d .cells .signed (c .y))) &
     at 0x89 _ (λ c e g v. jump-law 0x89 c g v (holds (c .y) (variable v (c .x)) (variable v (c .z))) (c .word) Allows.branch Allows.pass) &
-    at 0x8A _ (λ c e g v. assigns-law 0x8A c g v (wrap w32 (variable v (c .y) +ℤ variable v (c .z))) Allows.on (λ _ _ _. wrap-fits w32 (variable v (c .y) +ℤ variable v (c .z)))) &
-    at 0x8B _ (λ c e g v. assigns-law 0x8B c g v (wrap w32 (variable v (c .y) -ℤ variable v (c .z))) Allows.on (λ _ _ _. wrap-fits w32 (variable v (c .y) -ℤ variable v (c .z)))) &
-    at 0x8C _ (λ c e g v. assigns-law 0x8C c g v (wrap w32 (variable v (c .y) *ℤ variable v (c .z))) Allows.on (λ _ _ _. wrap-fits w32 (variable v (c .y) *ℤ variable v (c .z)))) &
+    at 0x8A _ (λ c e g v. assigns-law 0x8A c g v (wrap w32 (variable v (c .y) +ℤ variable v (c .z))) Allows.on
+    (λ _ _ _. wrap-fits w32 (variable v (c .y) +ℤ variable v (c .z)))) &
+    at 0x8B _ (λ c e g v. assigns-law 0x8B c g v (wrap w32 (variable v (c .y) -ℤ variable v (c .z))) Allows.on
+    (λ _ _ _. wrap-fits w32 (variable v (c .y) -ℤ variable v (c .z)))) &
+    at 0x8C _ (λ c e g v. assigns-law 0x8C c g v (wrap w32 (variable v (c .y) *ℤ variable v (c .z))) Allows.on
+    (λ _ _ _. wrap-fits w32 (variable v (c .y) *ℤ variable v (c .z)))) &
     at 0x8D _ (λ c e g v. divides-law 0x8D c g v (variable v (c .y)) (variable v (c .z)) Allows.on Allows.halt (λ z _ _. Reason.divisor e z)) &
     at 0x90 _ (λ c e g v. flows-law 0x90 c g v (Start mathematics (c .word)) (simply 0x90 c g v (Start mathematics (c .word)) refl Allows.start)) &
     end

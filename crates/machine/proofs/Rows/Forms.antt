@@ -26,7 +26,8 @@ use Rattle.state.specs.GoodState.{GoodWait, GoodAxis, GoodValues, InRange}
 use Rattle.state.specs.declared.Axis.{Axis}
 use Rattle.state.specs.declared.Values.{Values}
 use Rattle.machine.specs.declared.Context.{Context}
-use Rattle.machine.specs.Effect.{effect, sets, flows, jumpIf, halts, assigns, isSet, within, natural, variable, started, moves, waits, waitsVariable, parameter, divides, timeOf}
+use Rattle.machine.specs.Effect.{effect, sets, flows, jumpIf, halts, assigns, isSet, within, natural, variable, started, moves, waits, waitsVariable}
+use Rattle.machine.specs.Effect.{parameter, divides, timeOf}
 use Rattle.machine.specs.Engine.{isWait}
 use Rattle.machine.specs.StepRule.{Reason}
 use Rattle.machine.specs.Allows.{Allows}
@@ -193,7 +194,12 @@ module _ (k : ℕ) (c : Command) (g : Context) (v : Values) where
       let a = put (axisOf firstAxis v) in sets-law (withAxis firstAxis a v) further (λ count f d. axis-good v d firstAxis a (h count f d))
 
   pub assigns-law : (z : ℤ) → In GoOn → ((count : ℕ) → Fit count c → GoodValues v → SFits w32 z) → Law k c g v (assigns c z v)
-  assigns-law z further h = record { outcome = simply GoOn refl further; values = λ count f d. variable-good v d (c .x) z (h count f d); still = λ i. clash (sym i) }
+  assigns-law z further h = record {
+    outcome = simply GoOn refl further;
+    values = λ count f d. variable-good v d (c .x) z (h count f d);
+    still =
+        λ i. clash (sym i);
+  }
 
   pub jump-law : (t : Bool) (a : ℕ) → In (Jump a) → In GoOn → Law k c g v (jumpIf t a v)
   jump-law t a m further = flows-law (cond t (Jump a) GoOn) (either t (Jump a) GoOn (λ _. simply (Jump a) refl m) (λ _. simply GoOn refl further))

@@ -28,7 +28,8 @@ pub rounded : (model n : ℕ) → Rounded model n (timeOf model n)
 rounded model n = go (ltb model type637Plus) refl
   where
     go : (t : Bool) → ltb model type637Plus ≡ t → Rounded model n (cond t (n - n % 2) n)
-    go true e = let l = ltb-true model type637Plus e in record { low = omega arith; near = omega arith; even = λ _. omega arith; same = λ m. absurd (omega arith) }
+    go true e = let l = ltb-true model type637Plus e in
+        record { low = omega arith; near = omega arith; even = λ _. omega arith; same = λ m. absurd (omega arith) }
     go false e = let l = ltb-false model type637Plus e in record { low = omega arith; near = omega arith; even = λ m. absurd (omega arith); same = λ _. refl }
 
 -- a step that finds a wait of T ms with k turns pending goes on exactly when k + 1 cycles are at least T

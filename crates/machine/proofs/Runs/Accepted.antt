@@ -49,7 +49,8 @@ none NoCall n m = absurd (m refl)
 none PastEnd n m = absurd (m refl)
 
 module _ (image : List ℕ) where
-  said : (v : Verdict) → isAccepted v ≡ true → IsWalksVerdict (hd image) (body image) v → (p : Point) → Reaches (hd image) (body image) p → faultAt (hd image) (body image) p ≡ Fine
+  said : (v : Verdict) → isAccepted v ≡ true → IsWalksVerdict (hd image) (body image) v → (p : Point) → Reaches (hd image) (body image) p
+      → faultAt (hd image) (body image) p ≡ Fine
   said _ e (IsWalksVerdict.accepted f b) p r = none (faultAt (hd image) (body image) p) (λ t. f p (r, t)) (λ t. b p (r, t))
   said _ e (IsWalksVerdict.foreign q k l) p r = clash (sym e)
   said _ e (IsWalksVerdict.bad f q k l) p r = clash (sym e)

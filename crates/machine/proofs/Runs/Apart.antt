@@ -34,11 +34,13 @@ use Rattle.machine.specs.declared.StepOut.{StepOut}
 
 -- ---- part 1
 
-pub answers-are : {os : List StepOut} {ds : List ReferenceOut} → SameHanded os ds → map (λ (o : StepOut). o .answer) os ≡ map (λ (d : ReferenceOut). d .answer) ds
+pub answers-are : {os : List StepOut} {ds : List ReferenceOut} → SameHanded os ds
+    → map (λ (o : StepOut). o .answer) os ≡ map (λ (d : ReferenceOut). d .answer) ds
 answers-are SameHanded.none = refl
 answers-are (SameHanded.more a m h) = λ ι. a ι ∷ answers-are h ι
 
-pub motions-are : {os : List StepOut} {ds : List ReferenceOut} → SameHanded os ds → map (λ (o : StepOut). o .request) os ≡ map (λ (d : ReferenceOut). d .request) ds
+pub motions-are : {os : List StepOut} {ds : List ReferenceOut} → SameHanded os ds
+    → map (λ (o : StepOut). o .request) os ≡ map (λ (d : ReferenceOut). d .request) ds
 motions-are SameHanded.none = refl
 motions-are (SameHanded.more a m h) = λ ι. m ι ∷ motions-are h ι
 

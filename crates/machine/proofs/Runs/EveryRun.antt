@@ -91,7 +91,8 @@ module _ (image : List ℕ) where
     pub handed : (s : State) (m : Machine) → Agree image s m → (xs : List Inputs) → SameHanded (outs image s xs) (referenceOuts image m xs)
     unfolding outs referenceOuts
     handed s m g [] = SameHanded.none
-    handed s m g (x ∷ xs) = let k = step-same image ok s m g x in SameHanded.more (k .answer) (k .request) (handed (step image s x .state) (referenceStep image m x .machine) (k .agree) xs)
+    handed s m g (x ∷ xs) = let k = step-same image ok s m g x in
+        SameHanded.more (k .answer) (k .request) (handed (step image s x .state) (referenceStep image m x .machine) (k .agree) xs)
 
     pub kept : (s : State) (m : Machine) → Agree image s m → (xs : List Inputs) → Agree image (stateAfter image s xs) (machineAfter image m xs)
     unfolding stateAfter machineAfter
@@ -111,7 +112,8 @@ module _ (image : List ℕ) where
     each s m calls g n [] = EachStep.none
     each s m calls g n (x ∷ xs) =
         let k = step-parts image ok s m g calls n x in
-        EachStep.more (k .0) (each (step image s x .state) (referenceStep image m x .machine) (callsAfter image s x calls) (step-same image ok s m g x .agree) (k .1) xs)
+        EachStep.more (k .0) (each (step image s x .state) (referenceStep image m x .machine) (callsAfter image s x calls) (step-same image ok s m g x .agree)
+        (k .1) xs)
 
   goods : Bytes image → (s : State) → GoodState s → (xs : List Inputs) → GoodState (stateAfter image s xs)
   unfolding stateAfter

@@ -25,7 +25,8 @@ use Rattle.machine.proofs.Steps.Notes.{noted-alike}
 use Rattle.machine.proofs.Steps.Cases.{Agree, Ran, Case, effectHere, threadOf, step-case}
 
 -- both answer alike
-answers-same : (o : Outcome) (t : ℕ) (task : Task) (p : Thread) → task .block ≡ p .block → task .depth ≡ length (p .returns) → answerTo o (pointOf t task) ≡ replies o t p
+answers-same : (o : Outcome) (t : ℕ) (task : Task) (p : Thread) → task .block ≡ p .block → task .depth ≡ length (p .returns)
+    → answerTo o (pointOf t task) ≡ replies o t p
 answers-same GoOn t task p e f = refl
 answers-same (Stay time turns) t task p e f = refl
 answers-same (Jump a) t task p e f = refl

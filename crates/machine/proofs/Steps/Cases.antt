@@ -178,7 +178,11 @@ module _ (image : List ℕ) where
     acts-is : acts image m x p ≡ does m x p e
     unfolding acts
     acts-is =
-        rw (lt-ltb (p .block) (h .header .count) (subst (λ (b : ℕ). b < h .header .count) (same .block r) (within image ok (pointOf t k) here .block)), ← same .block r, carried-here)
+        rw (
+          lt-ltb (p .block) (h .header .count) (subst (λ (b : ℕ). b < h .header .count) (same .block r) (within image ok (pointOf t k) here .block)),
+          ← same .block r,
+          carried-here,
+        )
         (ap (tries m x p) effect-same ∙ tries-is)
 
     ran-here : step image s x ≡ performed s x k e → referenceStep image m x ≡ acts image m x p → Case s m x
@@ -204,7 +208,8 @@ module _ (image : List ℕ) where
 
     inputs-case : (l : x .task < taskCount) (a : Bool) → eqb (length (x .levels)) inputsLength ≡ a
         → step image s x ≡ cond a (taskStep image s x (taskAt s (x .task))) (refuse s (BadInputs (length (x .levels))))
-        → referenceStep image m x ≡ cond a (cond (threadOf m x .runs) (acts image m x (threadOf m x)) (standsStill m NotRunning)) (standsStill m (BadInputs (length (x .levels)))) → Case s m x
+        → referenceStep image m x ≡ cond a (cond (threadOf m x .runs) (acts image m x (threadOf m x)) (standsStill m NotRunning))
+        (standsStill m (BadInputs (length (x .levels)))) → Case s m x
     inputs-case l true e i j = running-case l (eqb (taskAt s (x .task) .status) runs) refl i (j ∙ rw (g .both .same (x .task) l .running) refl)
     inputs-case l false e i j = Case.refused (BadInputs (length (x .levels))) refl i j
 
@@ -215,6 +220,7 @@ module _ (image : List ℕ) where
         go : (a : Bool) → ltb (x .task) taskCount ≡ a → Case s m x
         go true e =
             let l = ltb-true (x .task) taskCount e in
-            let i : step image s x ≡ cond (eqb (length (x .levels)) inputsLength) (taskStep image s x (taskAt s (x .task))) (refuse s (BadInputs (length (x .levels)))) = rw e in
+            let i : step image s x ≡ cond (eqb (length (x .levels)) inputsLength) (taskStep image s x (taskAt s (x .task)))
+            (refuse s (BadInputs (length (x .levels)))) = rw e in
             inputs-case l (eqb (length (x .levels)) inputsLength) refl i (rw (le-ltb 2 (x .task) (omega arith)))
         go false e = let l = ltb-false (x .task) taskCount e in Case.refused (NoTask (x .task)) refl (rw e) (rw (lt-ltb 2 (x .task) (omega arith)))

@@ -21,8 +21,7 @@ use Rattle.walk_flow.specs.Flow.{flowOf}
 use Rattle.walk_fault.proofs.NoFault.{no-fault}
 use Rattle.walk_fault.specs.Fault.{faultNumber}
 use Rattle.walk_point.specs.declared.Point.{Point}
-use Rattle.walk_fault.specs.declared.Fault.{Fault}
-use Rattle.walk_fault.specs.declared.Fault.the-variants.{Fine, Foreign, Forbidden, TooDeep, NoCall, PastEnd}
+use Rattle.walk_fault.specs.declared.Fault.the-variants.{Fine}
 use Rattle.walk.specs.Blocks.{blockAt, commandAt, faultAt, blockNumber}
 use Rattle.walk.specs.Graph.{In}
 use Rattle.walk.specs.Successors.{leadsTo as walked, flowAt, successors}
@@ -37,7 +36,8 @@ use Rattle.state.proofs.Fresh.{getD-replicate}
 use Rattle.walk_flow.specs.Terms.{under}
 use Rattle.machine.specs.Inputs.{Inputs, level}
 use Rattle.machine.specs.Effect.{effectOf}
-use Rattle.machine.specs.Engine.{goTo, stayWith, callTo, returnFrom, startAnew, restarted, stopped, tasksAfter, pointOf, contextOf, performed, isLoaded, blockFits, waitFits, fits, refuse, taskStep, step, termsHeld}
+use Rattle.machine.specs.Engine.{goTo, stayWith, callTo, returnFrom, startAnew, restarted, stopped, tasksAfter, pointOf, contextOf, performed, isLoaded}
+use Rattle.machine.specs.Engine.{blockFits, waitFits, fits, refuse, taskStep, step, termsHeld}
 use Rattle.machine.specs.declared.StepOut.{StepOut}
 use Rattle.machine.specs.Reference.{keeps}
 use Rattle.machine.specs.Allows.{Allows}
@@ -262,11 +262,13 @@ module _ (image : List ℕ) (bytes : Bytes image) (s : State) (g : GoodState s) 
   goes-on b i = here (goTo b k) (go-good h k known b i) refl
 
   -- another task starts, or the own one does
-  starts : (u a : ℕ) → Allows (flowOf (under h) c) (Start u a) → Dec (u ≡ t) → GoodTasks h (set (set (s .tasks) t (goTo (k .block + 1) k)) u (startAnew (h .start) u a))
+  starts : (u a : ℕ) → Allows (flowOf (under h) c) (Start u a) → Dec (u ≡ t)
+      → GoodTasks h (set (set (s .tasks) t (goTo (k .block + 1) k)) u (startAnew (h .start) u a))
   starts u a m (no n) =
       let w = next _ (start-in p (flowOf (under h) c) u a m) in
       put-good h (set (s .tasks) t (goTo (k .block + 1) k)) u (startAnew (h .start) u a)
-      (goes-on (k .block + 1) (next _ (start-on p (flowOf (under h) c) u a m n) .block)) (w .task) (start-good h u a (w .block) (g .header .start)) (λ i. rw i refl)
+      (goes-on (k .block + 1) (next _ (start-on p (flowOf (under h) c) u a m n) .block)) (w .task) (start-good h u a (w .block) (g .header .start))
+      (λ i. rw i refl)
   starts u a m (yes i) =
       let w = next _ (start-in p (flowOf (under h) c) u a m) in
       rw (i, set-set (s .tasks) t (goTo (k .block + 1) k) (startAnew (h .start) t a))
@@ -278,7 +280,8 @@ module _ (image : List ℕ) (bytes : Bytes image) (s : State) (g : GoodState s) 
   turned (Jump a) m w = goes-on a (next _ (jump-in p (flowOf (under h) c) a m) .block)
   turned (Call a) m w =
       let d = leb-false mostDepth (k .depth) (sym (call-deep p (flowOf (under h) c) a m) ∙ passed .shallow) in
-      here (callTo a k) (call-good h k known a (next _ (call-in p (flowOf (under h) c) a m) .block) (next _ (behind-in p (flowOf (under h) c) a m) .block) d) refl
+      here (callTo a k) (call-good h k known a (next _ (call-in p (flowOf (under h) c) a m) .block) (next _ (behind-in p (flowOf (under h) c) a m) .block) d)
+      refl
   turned Return m w =
       here (returnFrom k) (return-good h k known (eqb-false (k .depth) 0 (sym (return-deep p (flowOf (under h) c) m) ∙ passed .called))) refl
   turned (Start u a) m w = starts u a m (ℕ-discrete u t)

@@ -59,7 +59,8 @@ latest-is [] b rest e = let n = ap length e in absurd (omega arith)
 latest-is (a ∷ l) b rest e = subst (Behind (a ∷ l)) (ap (λ (xs : List ℕ). getD xs 0 0) e) Behind.latest
 
 -- a task with other calls and other returns
-with-count : (calls : Calls) (l : List Thread) (t : ℕ) (q : Thread) (c : List ℕ) → t < length l → Counts calls l → behinds c ≡ q .returns → Counts (withCalls t c calls) (set l t q)
+with-count : (calls : Calls) (l : List Thread) (t : ℕ) (q : Thread) (c : List ℕ) → t < length l → Counts calls l → behinds c ≡ q .returns
+    → Counts (withCalls t c calls) (set l t q)
 with-count calls l t q c i n e u = go (ℕ-discrete u t)
   where
     go : Dec (u ≡ t) → behinds (withCalls t c calls u) ≡ getD (set l t q) u idle .returns
@@ -80,7 +81,8 @@ empty-count calls l t q n e u = go (ℕ-discrete u t)
     go (no j) = rw (getD-set-other l t u q idle j, ne-eqb u t j) (n u)
 
 -- a task whose returns stay
-same-count : (calls : Calls) (l : List Thread) (t : ℕ) (q : Thread) → t < length l → Counts calls l → q .returns ≡ getD l t idle .returns → Counts calls (set l t q)
+same-count : (calls : Calls) (l : List Thread) (t : ℕ) (q : Thread) → t < length l → Counts calls l → q .returns ≡ getD l t idle .returns
+    → Counts calls (set l t q)
 same-count calls l t q i n e = at-set idle (λ u k. behinds (calls u) ≡ k .returns) l t q i (n t ∙ sym e) (λ u _. n u)
 
 back-count : (c : List ℕ) (p : Thread) → behinds c ≡ p .returns → behinds (withoutLatest c) ≡ back p (p .returns) .returns
@@ -129,7 +131,8 @@ other-task first t task End l u n = inl (getD-set-other l t u _ noTask n)
 other-task first t task (Halt q) l u n = inl (getD-set-other l t u _ noTask n)
 
 -- the step's own task runs on, ends or halts
-own-task : (first t : ℕ) (task : Task) (o : Outcome) (l : List Task) → t < length l → task .status ≡ runs → (getD (tasksAfter first t task o l) t noTask .status ≡ runs → ⊥)
+own-task : (first t : ℕ) (task : Task) (o : Outcome) (l : List Task) → t < length l → task .status ≡ runs
+    → (getD (tasksAfter first t task o l) t noTask .status ≡ runs → ⊥)
     → (o ≡ End) ⊎ ((q : Cause) × (o ≡ Halt q))
 own-task first t task GoOn l i r s = absurd (s (rw (getD-set-same l t (goTo (task .block + 1) task) noTask i) refl))
 own-task first t task (Stay time turns) l i r s = absurd (s (rw (getD-set-same l t (stayWith time turns task) noTask i) refl))
@@ -149,7 +152,8 @@ return-only : (o : Outcome) → Allows flow.Return o → o ≡ Return
 return-only _ Allows.return = refl
 
 -- a command that halts its task counts no call
-executed-count : (calls : Calls) (t b : ℕ) (p : Point) (f : Flow) (o : Outcome) → Allows f o → cond (executed (answerTo o p)) (countF f t b calls) calls ≡ countF f t b calls
+executed-count : (calls : Calls) (t b : ℕ) (p : Point) (f : Flow) (o : Outcome) → Allows f o
+    → cond (executed (answerTo o p)) (countF f t b calls) calls ≡ countF f t b calls
 executed-count calls t b p _ _ Allows.on = refl
 executed-count calls t b p _ _ Allows.halt = refl
 executed-count calls t b p _ _ Allows.over = refl
@@ -164,128 +168,138 @@ executed-count calls t b p _ _ Allows.start = refl
 executed-count calls t b p _ _ Allows.restart = refl
 executed-count calls t b p _ _ Allows.end = refl
 
-module _ (image : List ℕ) (ok : Accepted image) (s : State) (m : Machine) (g : Agree image s m) (calls : Calls) (n : Counts calls (m .threads)) (x : Inputs) where
-  abbrev t : ℕ
-  t = x .task
+module _ (image : List ℕ) (ok : Accepted image) (s : State) (m : Machine) (g : Agree image s m) (calls : Calls) (n : Counts calls (m .threads)) (x : Inputs)
+  where
+    abbrev t : ℕ
+    t = x .task
 
-  abbrev k : Task
-  k = taskAt s t
+    abbrev k : Task
+    k = taskAt s t
 
-  abbrev c : Command
-  c = commandOf image s x
+    abbrev c : Command
+    c = commandOf image s x
 
-  abbrev o : Outcome
-  o = effectHere image s x .outcome
+    abbrev o : Outcome
+    o = effectHere image s x .outcome
 
-  abbrev b : ℕ
-  b = k .block
+    abbrev b : ℕ
+    b = k .block
 
-  module _ (r : Ran image s m x) where
-    flows : Flows (c .code) (rowOf (c .code) .flow)
-    flows = carried (hd image) (c .code) t (r .passes .allowed)
+    module _ (r : Ran image s m x) where
+      flows : Flows (c .code) (rowOf (c .code) .flow)
+      flows = carried (hd image) (c .code) t (r .passes .allowed)
 
-    in-flow : Allows (flowOf (hd image) c) o
-    unfolding flowOf
-    in-flow = r .law .outcome .flow
+      in-flow : Allows (flowOf (hd image) c) o
+      unfolding flowOf
+      in-flow = r .law .outcome .flow
 
-    -- there are three tasks
-    present : t < length (s .tasks)
-    present = let e = g .both .three in let l = r .task in omega arith
+      -- there are three tasks
+      present : t < length (s .tasks)
+      present = let e = g .both .three in let l = r .task in omega arith
 
-    tasks-are : step image s x .state .tasks ≡ tasksAfter (s .header .start) t k o (s .tasks)
-    unfolding performed
-    tasks-are = ap (λ (q : StepOut). q .state .tasks) (r .engine)
+      tasks-are : step image s x .state .tasks ≡ tasksAfter (s .header .start) t k o (s .tasks)
+      unfolding performed
+      tasks-are = ap (λ (q : StepOut). q .state .tasks) (r .engine)
 
-    answer-is : step image s x .answer ≡ answerTo o (pointOf t k)
-    unfolding performed
-    answer-is = ap (λ (q : StepOut). q .answer) (r .engine)
+      answer-is : step image s x .answer ≡ answerTo o (pointOf t k)
+      unfolding performed
+      answer-is = ap (λ (q : StepOut). q .answer) (r .engine)
 
-    values-are : step image s x .state .values ≡ noted t (x .start) (effectHere image s x .values)
-    unfolding performed
-    values-are = ap (λ (q : StepOut). q .state .values) (r .engine)
+      values-are : step image s x .state .values ≡ noted t (x .start) (effectHere image s x .values)
+      unfolding performed
+      values-are = ap (λ (q : StepOut). q .state .values) (r .engine)
 
-    request-is : step image s x .request ≡ effectHere image s x .request
-    unfolding performed
-    request-is = ap (λ (q : StepOut). q .request) (r .engine)
+      request-is : step image s x .request ≡ effectHere image s x .request
+      unfolding performed
+      request-is = ap (λ (q : StepOut). q .request) (r .engine)
 
-    threads-are : referenceStep image m x .machine .threads ≡ follows t (threadOf image m x) o (m .threads)
-    unfolding does
-    threads-are = ap (λ (q : ReferenceOut). q .machine .threads) (r .reference)
+      threads-are : referenceStep image m x .machine .threads ≡ follows t (threadOf image m x) o (m .threads)
+      unfolding does
+      threads-are = ap (λ (q : ReferenceOut). q .machine .threads) (r .reference)
 
-    calls-are : callsAfter image s x calls ≡ countF (flowOf (hd image) c) t b calls
+      calls-are : callsAfter image s x calls ≡ countF (flowOf (hd image) c) t b calls
+      unfolding callsAfter
+      calls-are = rw (answer-is, counts-flow (hd image) c flows t b calls) (executed-count calls t b (pointOf t k) (flowOf (hd image) c) o in-flow)
+
+      counted : Counts (callsAfter image s x calls) (referenceStep image m x .machine .threads)
+      counted =
+          let e = g .both .also in
+          let l = r .task in
+          rw (calls-are, threads-are) (follows-count calls (m .threads) t b (omega arith) (g .both .same t (r .task) .block (r .running)) n
+          (flowOf (hd image) c)
+          o in-flow)
+
+      part4 : c .code ≡ 0x53 → Behind (calls t) (taskAt (step image s x .state) t .block)
+      part4 e =
+          let f = return-flow (hd image) c flows e in
+          let i = return-only o (subst (λ (q : Flow). Allows q o) f in-flow) in
+          let z : eqb (k .depth) 0 ≡ false = subst (λ (q : Flow). noCall q (k .depth) ≡ false) f (r .passes .called) in
+          rw (tasks-are, i, getD-set-same (s .tasks) t (returnFrom k) noTask present)
+          (latest-is (calls t) _ _ (n t ∙ sym (g .both .same t (r .task) .returns (r .running))
+          ∙ returns-return (k .stack) (k .depth) (eqb-false (k .depth) 0 z)))
+
+      part6 : (u : ℕ) → (u ≡ t → ⊥)
+          → (taskAt (step image s x .state) u ≡ taskAt s u) ⊎ ((executed (step image s x .answer) ≡ true) × (starts (c .code) u ≡ true))
+      part6 u d =
+          ⊎-elim (λ e. inl (rw tasks-are e))
+          (λ i. inr (rw (answer-is, i .1) refl, start-code (hd image) c flows u (i .0) (subst (Allows (flowOf (hd image) c)) (i .1) in-flow)))
+          (other-task (s .header .start) t k o (s .tasks) u d)
+
+      ranged : Ranged (hd image .header .count) c
+      unfolding commandAt
+      ranged = in-ranges (hd image .header) (blockAt (body image) b)
+          (ok .blocks b (within image ok (pointOf t k) (g .both .sound t (r .task) .reach (r .running)) .block))
+
+      -- the step's own task, where one record was put in its place
+      stays-put : (k′ : Task) → tasksAfter (s .header .start) t k o (s .tasks) ≡ set (s .tasks) t k′ → taskAt (step image s x .state) t ≡ k′
+      stays-put k′ e = ap (λ (ts : List Task). getD ts t noTask) (tasks-are ∙ e) ∙ getD-set-same (s .tasks) t k′ noTask present
+
+      header-is : step image s x .state .header ≡ s .header
+      unfolding performed
+      header-is = ap (λ (q : StepOut). q .state .header) (r .engine)
+
+      stopped-by : (o ≡ End) ⊎ ((j : Cause) × (o ≡ Halt j)) → Stopped image s x
+      stopped-by (inl e) =
+          let q = end-code (hd image) c flows t (r .passes .own) (subst (Allows (flowOf (hd image) c)) e in-flow) in
+          Stopped.byItself (q .0) (q .1) (answer-is ∙ rw e refl) (stays-put (stopped ended k) (rw e refl))
+      stopped-by (inr (j, e)) =
+          let q = r .law .still (rw e refl) in
+          Stopped.byRefusal j (subst (Halting c (s .values) (k .time)) e (r .law .outcome .halt (hd image .header .count) ranged)) (answer-is ∙ rw e refl)
+          (values-are ∙ ap (noted t (x .start)) (q .0)) (stays-put (stopped halted k) (rw e refl)) (request-is ∙ q .1)
+
+      part5 : (u : ℕ) → u < taskCount → taskAt s u .status ≡ runs → (taskAt (step image s x .state) u .status ≡ runs → ⊥) → (u ≡ t) × Stopped image s x
+      part5 u l a z = go (ℕ-discrete u t)
+        where
+          among : (u : ℕ) → u < taskCount → u < length (set (s .tasks) t (goTo (k .block + 1) k))
+          among u l = let e = length-set (s .tasks) t (goTo (k .block + 1) k) in let f = g .both .three in omega arith
+
+          stayed : (u ≡ t → ⊥) → taskAt (step image s x .state) u .status ≡ runs
+          stayed d =
+              subst (λ (q : Task). q .status ≡ runs) (sym (ap (λ (ts : List Task). getD ts u noTask) tasks-are))
+              (⊎-elim (λ e. subst (λ (q : Task). q .status ≡ runs) (sym e) a)
+              (λ i. rw (i .1, getD-set-same (set (s .tasks) t (goTo (k .block + 1) k)) u (startAnew (s .header .start) u (i .0)) noTask (among u l)) refl)
+              (other-task (s .header .start) t k o (s .tasks) u d))
+
+          go : Dec (u ≡ t) → (u ≡ t) × Stopped image s x
+          go (yes e) = (
+            e,
+            stopped-by (own-task (s .header .start) t k o (s .tasks) present (r .running)
+                (λ i. z (subst (λ (w : ℕ). taskAt (step image s x .state) w .status ≡ runs) (sym e) (rw tasks-are i)))),
+          )
+          go (no d) = absurd (z (stayed d))
+
+    pub step-parts : StepRule image calls s x × Counts (callsAfter image s x calls) (referenceStep image m x .machine .threads)
     unfolding callsAfter
-    calls-are = rw (answer-is, counts-flow (hd image) c flows t b calls) (executed-count calls t b (pointOf t k) (flowOf (hd image) c) o in-flow)
-
-    counted : Counts (callsAfter image s x calls) (referenceStep image m x .machine .threads)
-    counted =
-        let e = g .both .also in
-        let l = r .task in
-        rw (calls-are, threads-are) (follows-count calls (m .threads) t b (omega arith) (g .both .same t (r .task) .block (r .running)) n (flowOf (hd image) c) o in-flow)
-
-    part4 : c .code ≡ 0x53 → Behind (calls t) (taskAt (step image s x .state) t .block)
-    part4 e =
-        let f = return-flow (hd image) c flows e in
-        let i = return-only o (subst (λ (q : Flow). Allows q o) f in-flow) in
-        let z : eqb (k .depth) 0 ≡ false = subst (λ (q : Flow). noCall q (k .depth) ≡ false) f (r .passes .called) in
-        rw (tasks-are, i, getD-set-same (s .tasks) t (returnFrom k) noTask present)
-        (latest-is (calls t) _ _ (n t ∙ sym (g .both .same t (r .task) .returns (r .running)) ∙ returns-return (k .stack) (k .depth) (eqb-false (k .depth) 0 z)))
-
-    part6 : (u : ℕ) → (u ≡ t → ⊥)
-        → (taskAt (step image s x .state) u ≡ taskAt s u) ⊎ ((executed (step image s x .answer) ≡ true) × (starts (c .code) u ≡ true))
-    part6 u d =
-        ⊎-elim (λ e. inl (rw tasks-are e)) (λ i. inr (rw (answer-is, i .1) refl, start-code (hd image) c flows u (i .0) (subst (Allows (flowOf (hd image) c)) (i .1) in-flow)))
-        (other-task (s .header .start) t k o (s .tasks) u d)
-
-    ranged : Ranged (hd image .header .count) c
-    unfolding commandAt
-    ranged = in-ranges (hd image .header) (blockAt (body image) b) (ok .blocks b (within image ok (pointOf t k) (g .both .sound t (r .task) .reach (r .running)) .block))
-
-    -- the step's own task, where one record was put in its place
-    stays-put : (k′ : Task) → tasksAfter (s .header .start) t k o (s .tasks) ≡ set (s .tasks) t k′ → taskAt (step image s x .state) t ≡ k′
-    stays-put k′ e = ap (λ (ts : List Task). getD ts t noTask) (tasks-are ∙ e) ∙ getD-set-same (s .tasks) t k′ noTask present
-
-    header-is : step image s x .state .header ≡ s .header
-    unfolding performed
-    header-is = ap (λ (q : StepOut). q .state .header) (r .engine)
-
-    stopped-by : (o ≡ End) ⊎ ((j : Cause) × (o ≡ Halt j)) → Stopped image s x
-    stopped-by (inl e) =
-        let q = end-code (hd image) c flows t (r .passes .own) (subst (Allows (flowOf (hd image) c)) e in-flow) in
-        Stopped.byItself (q .0) (q .1) (answer-is ∙ rw e refl) (stays-put (stopped ended k) (rw e refl))
-    stopped-by (inr (j, e)) =
-        let q = r .law .still (rw e refl) in
-        Stopped.byRefusal j (subst (Halting c (s .values) (k .time)) e (r .law .outcome .halt (hd image .header .count) ranged)) (answer-is ∙ rw e refl)
-        (values-are ∙ ap (noted t (x .start)) (q .0)) (stays-put (stopped halted k) (rw e refl)) (request-is ∙ q .1)
-
-    part5 : (u : ℕ) → u < taskCount → taskAt s u .status ≡ runs → (taskAt (step image s x .state) u .status ≡ runs → ⊥) → (u ≡ t) × Stopped image s x
-    part5 u l a z = go (ℕ-discrete u t)
+    step-parts = go (step-case image ok s m g x)
       where
-        among : (u : ℕ) → u < taskCount → u < length (set (s .tasks) t (goTo (k .block + 1) k))
-        among u l = let e = length-set (s .tasks) t (goTo (k .block + 1) k) in let f = g .both .three in omega arith
-
-        stayed : (u ≡ t → ⊥) → taskAt (step image s x .state) u .status ≡ runs
-        stayed d =
-            subst (λ (q : Task). q .status ≡ runs) (sym (ap (λ (ts : List Task). getD ts u noTask) tasks-are))
-            (⊎-elim (λ e. subst (λ (q : Task). q .status ≡ runs) (sym e) a)
-            (λ i. rw (i .1, getD-set-same (set (s .tasks) t (goTo (k .block + 1) k)) u (startAnew (s .header .start) u (i .0)) noTask (among u l)) refl)
-            (other-task (s .header .start) t k o (s .tasks) u d))
-
-        go : Dec (u ≡ t) → (u ≡ t) × Stopped image s x
-        go (yes e) = (e, stopped-by (own-task (s .header .start) t k o (s .tasks) present (r .running) (λ i. z (subst (λ (w : ℕ). taskAt (step image s x .state) w .status ≡ runs) (sym e) (rw tasks-are i)))))
-        go (no d) = absurd (z (stayed d))
-
-  pub step-parts : StepRule image calls s x × Counts (callsAfter image s x calls) (referenceStep image m x .machine .threads)
-  unfolding callsAfter
-  step-parts = go (step-case image ok s m g x)
-    where
-      go : Case image s m x → StepRule image calls s x × Counts (callsAfter image s x calls) (referenceStep image m x .machine .threads)
-      go (Case.refused a f i j) = (
-        record {
-          returns = λ e _. clash (sym e ∙ ap (λ (q : StepOut). executed (q .answer)) i ∙ f);
-          stops = λ u _ e d. absurd (d (rw i e));
-          others = λ u _ _. inl (rw i refl);
-          header = ap (λ (q : StepOut). q .state .header) i;
-        },
-        rw (i, j, f) n,
-      )
-      go (Case.ran r) = (record { returns = λ _ e. part4 r e; stops = part5 r; others = λ u _ d. part6 r u d; header = header-is r }, counted r)
+        go : Case image s m x → StepRule image calls s x × Counts (callsAfter image s x calls) (referenceStep image m x .machine .threads)
+        go (Case.refused a f i j) = (
+          record {
+            returns = λ e _. clash (sym e ∙ ap (λ (q : StepOut). executed (q .answer)) i ∙ f);
+            stops = λ u _ e d. absurd (d (rw i e));
+            others = λ u _ _. inl (rw i refl);
+            header = ap (λ (q : StepOut). q .state .header) i;
+          },
+          rw (i, j, f) n,
+        )
+        go (Case.ran r) = (record { returns = λ _ e. part4 r e; stops = part5 r; others = λ u _ d. part6 r u d; header = header-is r }, counted r)

@@ -42,7 +42,8 @@ module _ (h : Terms) (bs : List ℕ) where
     pub stay-sound : (time turns : ℕ) → (not (isSet time) || isWait (commandAt bs (task .block) .code)) ≡ true → Sound t (stayWith time turns task)
     stay-sound time turns w = record { reach = λ _. s .reach r; home = λ _. s .home r; backs = λ _. s .backs r; long = s .long; wait = λ _. w }
 
-    pub call-sound : (a : ℕ) → Reaches h bs (point t a (task .depth + 1)) → Reaches h bs (point t (task .block + 1) (task .depth)) → task .depth < mostDepth → Sound t (callTo a task)
+    pub call-sound : (a : ℕ) → Reaches h bs (point t a (task .depth + 1)) → Reaches h bs (point t (task .block + 1) (task .depth)) → task .depth < mostDepth
+        → Sound t (callTo a task)
     call-sound a q b d = record {
       reach = λ _. q;
       home = λ _. s .home r;

@@ -96,7 +96,8 @@ module _ (image : List ℕ) where
     started : t ≡ 0 → p .start ≡ h .header .start
     started e = rw e (b .first)
 
-    put-here : (task′ : Task) (p′ : Thread) → Sound h bs t task′ → SameTask task′ p′ → (t ≡ 0 → p′ .start ≡ h .header .start) → Both (set ts t task′) (set ps t p′)
+    put-here : (task′ : Task) (p′ : Thread) → Sound h bs t task′ → SameTask task′ p′ → (t ≡ 0 → p′ .start ≡ h .header .start)
+        → Both (set ts t task′) (set ps t p′)
     put-here task′ p′ s m f = put-both ts ps t task′ p′ b l s m f
 
     went : (a a′ : ℕ) → a ≡ a′ → Reaches h bs (point t a (task .depth)) → Both (set ts t (goTo a task)) (set ps t (goesTo a′ p))
@@ -129,7 +130,8 @@ module _ (image : List ℕ) where
         let d = leb-false mostDepth (task .depth) (sym (call-deep (pointOf t task) (flowOf h c) a m) ∙ passing image ok (pointOf t task) here .shallow) in
         let e = b .sound t l .long in
         put-here (callTo a task) (threadAt a (p .start) 0 0 ((p .block + 1) ∷ p .returns))
-        (call-sound h bs t task (b .sound t l) r a (next _ (call-in (pointOf t task) (flowOf h c) a m)) (next _ (behind-in (pointOf t task) (flowOf h c) a m)) d)
+        (call-sound h bs t task (b .sound t l) r a (next _ (call-in (pointOf t task) (flowOf h c) a m)) (next _ (behind-in (pointOf t task) (flowOf h c) a m))
+        d)
         (call-same task p (b .same t l) r a (omega arith)) started
     turned Return m w =
         let n = eqb-false (task .depth) 0 (sym (return-deep (pointOf t task) (flowOf h c) m) ∙ passing image ok (pointOf t task) here .called) in
@@ -138,8 +140,11 @@ module _ (image : List ℕ) where
     turned (Start u a) m w =
         starts u a (within image ok (point u a 0) (next _ (start-in (pointOf t task) (flowOf h c) u a m)) .task) m (ℕ-discrete u t)
     turned Restart m w =
-        put-here (restarted task) (threadAt (p .start) (p .start) 0 0 []) (restart-sound h bs t task (b .sound t l) r) (restart-same task p (b .same t l) r) started
+        put-here (restarted task) (threadAt (p .start) (p .start) 0 0 []) (restart-sound h bs t task (b .sound t l) r) (restart-same task p (b .same t l) r)
+        started
     turned End m w =
-        put-here (stopped ended task) (off p) (stop-sound h bs t task (b .sound t l) r ended (λ e. omega arith)) (stop-same task p (b .same t l) r ended (λ e. omega arith)) started
+        put-here (stopped ended task) (off p) (stop-sound h bs t task (b .sound t l) r ended (λ e. omega arith))
+        (stop-same task p (b .same t l) r ended (λ e. omega arith)) started
     turned (Halt q) m w =
-        put-here (stopped halted task) (off p) (stop-sound h bs t task (b .sound t l) r halted (λ e. omega arith)) (stop-same task p (b .same t l) r halted (λ e. omega arith)) started
+        put-here (stopped halted task) (off p) (stop-sound h bs t task (b .sound t l) r halted (λ e. omega arith))
+        (stop-same task p (b .same t l) r halted (λ e. omega arith)) started

@@ -19,10 +19,12 @@ returns c =
     let s = now (a .steps) in
     let v = leBytes 1 (getD s (a .at + 3) 0) in
     let next : a .at + 2 ≡ a .at + 1 + 1 = omega arith in
-    let place = c .before .before .before .before .before .before .read-u16 .ensures ∙ ap (λ (i : ℕ). getD s (a .at + 1) 0 + 256 * (getD s i 0 + 256 * 0)) next in
+    let place = c .before .before .before .before .before .before .read-u16 .ensures
+    ∙ ap (λ (i : ℕ). getD s (a .at + 1) 0 + 256 * (getD s i 0 + 256 * 0)) next in
     c .before .before .copy-out .ensures
     ∙ c .before .before .before .before .before .put-byte .ensures
-    ∙ ap (λ (b : List ℕ). puts b (c .before .before .before .before .before .before .read-u16 .result) v) (c .before .before .before .before .before .before .before .before .copy-in .ensures .0)
+    ∙ ap (λ (b : List ℕ). puts b (c .before .before .before .before .before .before .read-u16 .result) v)
+    (c .before .before .before .before .before .before .before .before .copy-in .ensures .0)
     ∙ ap (λ (p : ℕ). puts (now (a .state)) p v) place
 
 pub put-byte-spec : {M : Type 1} → statement M

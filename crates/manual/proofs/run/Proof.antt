@@ -15,7 +15,8 @@ returns c =
     let a = c .before .before .before .before .before .before .before .before .before .before .before .before .args in
     let l = c .before .before .before .before .before .bias-load .ensures in
     let number = c .before .show-load .ensures ∙ ap (λ (v : BiasVerdict). v .number) (l .0) in
-    l .1 .0 ∙ refused (now (a .image)) (now (a .steps)) _ (λ i. c .if1 .taken (number ∙ i)) ∙ run-is (now (a .image)) (now (a .steps)) _ (now (a .state)) (c .before .before .before .before .before .before .before .before .marks .ensures .0)
+    l .1 .0 ∙ refused (now (a .image)) (now (a .steps)) _ (λ i. c .if1 .taken (number ∙ i))
+    ∙ run-is (now (a .image)) (now (a .steps)) _ (now (a .state)) (c .before .before .before .before .before .before .before .before .marks .ensures .0)
 
 returns-2 : tie.Need-returns-2
 returns-2 c =
@@ -25,7 +26,8 @@ returns-2 c =
     c .before .before .run-records .ensures
     ∙ ap (after (now (a .image)) (now (a .steps)) (length (now (a .steps)) / recordLength)) (l .1 .0)
     ∙ accepted (now (a .image)) (now (a .steps)) _ (sym number ∙ c .before .before .before .before .if1 .left)
-    ∙ run-is (now (a .image)) (now (a .steps)) _ (now (a .state)) (c .before .before .before .before .before .before .before .before .before .before .before .before .marks .ensures .0)
+    ∙ run-is (now (a .image)) (now (a .steps)) _ (now (a .state))
+    (c .before .before .before .before .before .before .before .before .before .before .before .before .marks .ensures .0)
 
 pub run-spec : {M : Type 1} → statement M
 run-spec =

@@ -27,7 +27,8 @@ returns-2 c =
     let a = c .before .before .before .before .before .before .before .before .before .before .before .before .before .before .before .args in
     let s = now (a .steps) in
     c .before .before .repeat .ensures
-    ∙ ap (λ (l : List ℕ). repeated (now (a .image)) (inputsOf (getD s (a .at + 1) 0) l (getD s (a .at + 2) 0) (getD s (a .at + 3) 0)) (getD s (a .at) 0) (now (a .state))) (c .before .before .before .before .before .before .before .before .before .levels .ensures)
+    ∙ ap (λ (l : List ℕ). repeated (now (a .image)) (inputsOf (getD s (a .at + 1) 0) l (getD s (a .at + 2) 0) (getD s (a .at + 3) 0)) (getD s (a .at) 0)
+    (now (a .state))) (c .before .before .before .before .before .before .before .before .before .levels .ensures)
     ∙ rw (ne-eqb (getD s (a .at) 0) 0 (c .before .before .before .before .before .before .before .before .before .before .if1 .left))
 
 pub run-record-spec : {M : Type 1} → statement M

@@ -21,8 +21,12 @@ loop-again : tie.Need-loop-again Inv-loop μ-loop
 unfolding after
 loop-again c =
     let l = c .before .before .before .before .before .loop in
-    let a = c .before .before .before .before .before .before .before .before .before .args in
-    (search needs, search needs, c .before .before .run-record .ensures ∙ ap (recorded (now (a .image)) (now (a .steps)) (recordLength * l .k)) (l .inv .2) ∙ rw add-one)
+    let a = c .before .before .before .before .before .before .before .before .before .args in (
+      search needs,
+      search needs,
+      c .before .before .run-record .ensures ∙ ap (recorded (now (a .image)) (now (a .steps)) (recordLength * l .k)) (l .inv .2)
+          ∙ rw add-one,
+    )
 
 returns : tie.Need-returns Inv-loop μ-loop
 returns c =

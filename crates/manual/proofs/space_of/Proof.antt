@@ -11,9 +11,6 @@ use Rattle.manual.specs.Run.{spaceOf}
 use Rattle.manual.proofs.space_of.Statement.{statement}
 use Rattle.manual.proofs.space_of.Tie as tie
 
-find-requires : tie.Need-find-requires
-find-requires c κs = search needs
-
 returns : tie.Need-returns
 unfolding spaceOf slice
 returns c =
@@ -22,4 +19,4 @@ returns c =
     (c .find .ensures .0 ∙ z ∙ ap (indexOf 32) (take-length line), c .find .ensures .1)
 
 pub space-of-spec : {M : Type 1} → statement M
-space-of-spec = tie.close (tie.spec find-requires returns)
+space-of-spec = tie.close (tie.spec (λ c κs. search needs) returns)

@@ -1,4 +1,4 @@
--- `arith::bit` meets its contract: a bit of the pattern, and none from its width on.
+-- `num_arith::bit` meets its contract: a bit of the pattern, and none from its width on.
 use mathlib.Core.Path.{sym}
 use native.Mathlib.Omega.{arith}
 use mir.Syntax.{w32}

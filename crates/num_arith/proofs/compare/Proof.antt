@@ -1,4 +1,4 @@
--- `arith::compare` meets its contract: a test of two numbers is the test of their bits.
+-- `num_arith::compare` meets its contract: a test of two numbers is the test of their bits.
 use mathlib.Core.Path.{sym, ap}
 use borrow.Author.Needs.{needs}
 use mathlib.Core.Bool.{Bool, false}
@@ -26,7 +26,8 @@ returns-8 c =
 returns-9 : tie.Need-returns-9
 unfolding holds
 returns-9 c =
-    sym (ap (λ (f : ℤ → ℤ → Bool). f (c .before .args .a) (c .before .args .b)) (List·getD-eq-default conditions (λ a b. false) (past 8 (c .before .args .condition) (c .match .rest))))
+    sym (ap (λ (f : ℤ → ℤ → Bool). f (c .before .args .a) (c .before .args .b))
+    (List·getD-eq-default conditions (λ a b. false) (past 8 (c .before .args .condition) (c .match .rest))))
 
 pub compare-spec : {M : Type 1} → statement M
 unfolding holds

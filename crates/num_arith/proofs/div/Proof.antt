@@ -1,4 +1,4 @@
--- `arith::div` meets its contract: -1 alone is a divisor by which a quotient may not fit.
+-- `num_arith::div` meets its contract: -1 alone is a divisor by which a quotient may not fit.
 use mathlib.Core.Path.{_≡_, sym, ap, _∙_}
 use borrow.Author.Needs.{needs}
 use native.Mathlib.Omega.{arith}
@@ -23,7 +23,8 @@ returns-2 c =
     let b = c .before .before .before .fits .b in
     let e : c .before .before .before .args .b ≡ negsuc 0 = sym (toZ-ofZ b) ∙ ap (toZ w32) (c .before .if2 .taken) in
     rw (no-zero w32 b (c .before .before .if1 .left))
-    (ap Value (got w32 (c .neg .ok) (c .neg .ensures) ∙ ap (wrap w32) (ap negℤ (toZ-ofZ (c .before .before .before .fits .a)) ∙ sym (ap (quotZ a) e ∙ quot-neg a))))
+    (ap Value (got w32 (c .neg .ok) (c .neg .ensures)
+    ∙ ap (wrap w32) (ap negℤ (toZ-ofZ (c .before .before .before .fits .a)) ∙ sym (ap (quotZ a) e ∙ quot-neg a))))
 
 div-t5 : tie.Need-div-t5
 div-t5 c =

@@ -1,4 +1,4 @@
--- `arith::low` meets its contract: the mask leaves the low 32 bits.
+-- `num_arith::low` meets its contract: the mask leaves the low 32 bits.
 use mathlib.Core.Path.{ap}
 use lib.IntN.{natAbs}
 use mir.Syntax.{w32, w64}

@@ -1,4 +1,4 @@
--- `arith::narrow` meets its contract.
+-- `num_arith::narrow` meets its contract.
 use mathlib.Core.Path.{ap, _∙_}
 use borrow.Author.Needs.{needs}
 use mir.Syntax.{w32}

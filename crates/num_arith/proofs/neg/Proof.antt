@@ -1,4 +1,4 @@
--- `arith::neg` meets its contract: the least number is its own negation, and that of any other fits.
+-- `num_arith::neg` meets its contract: the least number is its own negation, and that of any other fits.
 use mathlib.Core.Path.{sym, ap, _∙_}
 use lib.IntN.{ℤ, negℤ, +ℤ-idl}
 use mir.Syntax.{w32}

@@ -1,4 +1,4 @@
--- `arith::pattern` meets its contract: a number of 32 bits has the same low bits in 64.
+-- `num_arith::pattern` meets its contract: a number of 32 bits has the same low bits in 64.
 use mathlib.Core.Path.{ap, _∙_}
 use mir.Syntax.{w32, w64}
 use Rattle.num_arith.specs.Wrap.{word}

@@ -1,4 +1,4 @@
--- `arith::sub` meets its contract: the exact difference fits 64 bits.
+-- `num_arith::sub` meets its contract: the exact difference fits 64 bits.
 use mathlib.Core.Path.{ap, _∙_}
 use borrow.Author.Needs.{needs}
 use lib.IntN.{_-ℤ_}

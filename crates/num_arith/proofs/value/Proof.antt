@@ -1,4 +1,4 @@
--- `arith::value` meets its contract: the bits of an upper half, inverted twice, are those that came in.
+-- `num_arith::value` meets its contract: the bits of an upper half, inverted twice, are those that came in.
 use mathlib.Core.Path.{ap}
 use borrow.Author.Needs.{needs}
 use mir.Syntax.{w32}

@@ -1,4 +1,4 @@
--- `arith::le::put_i32` meets its contract: the bytes are those of the pattern.
+-- `num_arith::le::put_i32` meets its contract: the bytes are those of the pattern.
 use mathlib.Core.Path.{ap, _∙_}
 use mir.Syntax.{w32}
 use mir.Facts.{toZ-ofZ}

@@ -1,4 +1,4 @@
--- `arith::le::put_u8` meets its contract: a byte is its own remainder by 256.
+-- `num_arith::le::put_u8` meets its contract: a byte is its own remainder by 256.
 use Prim.Native.Nat.{ℕ, _%_}
 use mathlib.Core.Path.{_≡_, ap}
 use mathlib.Core.List.{[], _∷_}

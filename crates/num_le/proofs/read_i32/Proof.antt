@@ -1,4 +1,4 @@
--- `arith::le::read_i32` meets its contract: the number that the pattern stands for.
+-- `num_arith::le::read_i32` meets its contract: the number that the pattern stands for.
 use mathlib.Core.Path.{ap, _∙_}
 use mir.Syntax.{w32}
 use mir.Val.{toZ}

@@ -1,4 +1,4 @@
--- `arith::le::read_u16` meets its contract: the number of two bytes, spelled out.
+-- `num_arith::le::read_u16` meets its contract: the number of two bytes, spelled out.
 use native.Mathlib.Omega.{arith}
 use Rattle.num_le.proofs.LittleEndian.{spell}
 use borrow.Author.Needs.{needs}

@@ -1,4 +1,4 @@
--- `places::byte` meets its contract: the byte at an index is a number of one byte.
+-- `state_bytes::byte` meets its contract: the byte at an index is a number of one byte.
 use native.Mathlib.Omega.{arith}
 use Rattle.state_bytes.proofs.byte.Statement.{statement}
 use Rattle.state_bytes.proofs.byte.Tie as tie

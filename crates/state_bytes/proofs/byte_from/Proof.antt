@@ -1,4 +1,4 @@
--- `places::byte_from` meets its contract: past the end there is 0.
+-- `state_bytes::byte_from` meets its contract: past the end there is 0.
 use mathlib.Core.Path.{sym}
 use native.Mathlib.Omega.{arith}
 use denote.Ref.{now}

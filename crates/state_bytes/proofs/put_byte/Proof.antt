@@ -1,4 +1,4 @@
--- `places::put_byte` meets its contract: a byte is its own number of one byte.
+-- `state_bytes::put_byte` meets its contract: a byte is its own number of one byte.
 use mathlib.Core.Path.{_≡_, ap, _∙_}
 use Prim.Native.Nat.{_%_}
 use native.Mathlib.Omega.{arith}
@@ -9,9 +9,6 @@ use borrow.Author.Needs.{needs}
 use Rattle.state_bytes.proofs.put_byte.Statement.{statement}
 use Rattle.state_bytes.proofs.put_byte.Tie as tie
 
-put-from-requires : tie.Need-put-from-requires
-put-from-requires c κs = search needs
-
 returns : tie.Need-returns
 unfolding puts
 returns c =
@@ -20,4 +17,4 @@ returns c =
     c .put-from .ensures ∙ ap (set (now (a .s)) (a .at)) e
 
 pub put-byte-spec : {M : Type 1} → statement M
-put-byte-spec = tie.close (tie.spec put-from-requires returns)
+put-byte-spec = tie.close (tie.spec (λ c κs. search needs) returns)

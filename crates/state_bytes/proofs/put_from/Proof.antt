@@ -1,4 +1,4 @@
--- `places::put_from` meets its contract: past the end nothing is put.
+-- `state_bytes::put_from` meets its contract: past the end nothing is put.
 use mathlib.Core.Path.{sym}
 use native.Mathlib.Omega.{arith}
 use denote.Ref.{now}

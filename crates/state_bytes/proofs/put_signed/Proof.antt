@@ -1,4 +1,4 @@
--- `places::put_signed` meets its contract: the bytes are those of the pattern.
+-- `state_bytes::put_signed` meets its contract: the bytes are those of the pattern.
 use mathlib.Core.Path.{ap, _∙_}
 use Prim.Native.Nat.{ℕ}
 use denote.Ref.{now}
@@ -14,7 +14,8 @@ use Rattle.state_bytes.proofs.put_signed.Tie as tie
 returns : tie.Need-returns
 returns c =
     let st = c .before .before .before in
-    c .put-long .ensures ∙ ap (λ (u : ℕ). puts (now (st .args .s)) (st .args .at) (leBytes 4 u)) (c .before .pattern .ensures ∙ ap (word w32) (toZ-ofZ (st .fits .v)))
+    c .put-long .ensures ∙ ap (λ (u : ℕ). puts (now (st .args .s)) (st .args .at) (leBytes 4 u)) (c .before .pattern .ensures
+    ∙ ap (word w32) (toZ-ofZ (st .fits .v)))
 
 pub put-signed-spec : {M : Type 1} → statement M
 put-signed-spec =

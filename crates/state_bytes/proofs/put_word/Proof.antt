@@ -1,4 +1,4 @@
--- `places::put_word` meets its contract: one byte put after the other.
+-- `state_bytes::put_word` meets its contract: one byte put after the other.
 use Rattle.state_bytes.proofs.Puts.{two}
 use borrow.Author.Needs.{needs}
 use Rattle.state_bytes.proofs.put_word.Statement.{statement}

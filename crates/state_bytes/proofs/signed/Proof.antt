@@ -1,4 +1,4 @@
--- `places::signed` meets its contract: the number that the pattern stands for.
+-- `state_bytes::signed` meets its contract: the number that the pattern stands for.
 use mathlib.Core.Path.{ap, _∙_}
 use mir.Syntax.{w32}
 use mir.Val.{toZ}

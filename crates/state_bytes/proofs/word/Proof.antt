@@ -1,4 +1,4 @@
--- `places::word` meets its contract: the number of two bytes.
+-- `state_bytes::word` meets its contract: the number of two bytes.
 use borrow.Author.Needs.{needs}
 use Rattle.state_bytes.proofs.word.Statement.{statement}
 use Rattle.state_bytes.proofs.word.Tie as tie

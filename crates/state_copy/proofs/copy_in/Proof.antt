@@ -1,4 +1,4 @@
--- `lend::copy_in` meets its contract: the source is as long as the array, so nothing is left of the zeros.
+-- `state_copy::copy_in` meets its contract: the source is as long as the array, so nothing is left of the zeros.
 use borrow.Author.Needs.{needs}
 use mathlib.Core.Path.{sym, subst}
 use native.Mathlib.Omega.{arith}

@@ -1,4 +1,4 @@
--- `lend::copy_out` meets its contract: the array is as long as the slice, so nothing is left of what was there.
+-- `state_copy::copy_out` meets its contract: the array is as long as the slice, so nothing is left of what was there.
 use borrow.Author.Needs.{needs}
 use native.Mathlib.Omega.{arith}
 use Rattle.state_copy.proofs.Filled.{filled}

@@ -1,4 +1,4 @@
--- `reading::decode` meets its contract, section by section.
+-- `state_decode::decode` meets its contract, section by section.
 use Rattle.state_layout.specs.Layout.{decoded}
 use borrow.Author.Needs.{needs}
 use Rattle.state_decode.proofs.decode.Statement.{statement}

@@ -1,4 +1,4 @@
--- `reading::header_in` meets its contract, field by field.
+-- `state_decode::header_in` meets its contract, field by field.
 use borrow.Author.Needs.{needs}
 use Rattle.state_decode.proofs.header_in.Statement.{statement}
 use Rattle.state_decode.proofs.header_in.Tie as tie

@@ -1,4 +1,4 @@
--- `reading::levels_in` meets its contract: a table filled from the front.
+-- `state_decode::levels_in` meets its contract: a table filled from the front.
 use Prim.Native.Nat.{ℕ, _+_, _-_, _≤_}
 use native.Mathlib.Omega.{arith}
 use mathlib.Core.Path.{_≡_, refl}

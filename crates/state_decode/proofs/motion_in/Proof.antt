@@ -1,4 +1,4 @@
--- `reading::motion_in` meets its contract, field by field.
+-- `state_decode::motion_in` meets its contract, field by field.
 use mir.Syntax.{w32}
 use Rattle.num_arith.proofs.Range.{got}
 use borrow.Author.Needs.{needs}

@@ -1,4 +1,4 @@
--- `reading::stack_in` meets its contract: a table filled from the front.
+-- `state_decode::stack_in` meets its contract: a table filled from the front.
 use Prim.Native.Nat.{ℕ, _+_, _*_, _-_, _≤_}
 use native.Mathlib.Omega.{arith}
 use mathlib.Core.Path.{_≡_}
@@ -21,8 +21,14 @@ abbrev μ-loop : tie.MeasureT-loop
 loop-again : tie.Need-loop-again Inv-loop μ-loop
 loop-again c =
     let l = c .before .before .loop in
-    let a = c .before .before .before .args in
-    (search needs, (simp length-set (search needs), more (l .r) (l .i) (λ (j : ℕ). leNumberAt 2 (now (a .b)) (a .at + 2 * j)) _ (omega arith) (l .inv .1 .1) (c .word .ensures)))
+    let a = c .before .before .before .args in (
+      search needs,
+      (
+        simp length-set (search needs),
+        more (l .r) (l .i) (λ (j : ℕ). leNumberAt 2 (now (a .b)) (a .at + 2 * j)) _ (omega arith) (l .inv .1 .1)
+            (c .word .ensures),
+      ),
+    )
 
 returns : tie.Need-returns Inv-loop μ-loop
 unfolding stackIn

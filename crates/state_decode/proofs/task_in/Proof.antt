@@ -1,4 +1,4 @@
--- `reading::task_in` meets its contract, field by field.
+-- `state_decode::task_in` meets its contract, field by field.
 use borrow.Author.Needs.{needs}
 use Rattle.state_decode.proofs.task_in.Statement.{statement}
 use Rattle.state_decode.proofs.task_in.Tie as tie

@@ -1,4 +1,4 @@
--- `reading::values_in` meets its contract, field by field.
+-- `state_decode::values_in` meets its contract, field by field.
 use borrow.Author.Needs.{needs}
 use Rattle.state_decode.proofs.values_in.Statement.{statement}
 use Rattle.state_decode.proofs.values_in.Tie as tie

@@ -1,4 +1,4 @@
--- `reading::variables_in` meets its contract: a table filled from the front.
+-- `state_decode::variables_in` meets its contract: a table filled from the front.
 use Prim.Native.Nat.{ℕ, _+_, _*_, _-_, _≤_}
 use native.Mathlib.Omega.{arith}
 use mathlib.Core.Path.{_≡_}
@@ -23,8 +23,14 @@ abbrev μ-loop : tie.MeasureT-loop
 loop-again : tie.Need-loop-again Inv-loop μ-loop
 loop-again c =
     let l = c .before .before .loop in
-    let a = c .before .before .before .args in
-    (search needs, (simp length-set (search needs), more (l .r) (l .k) (λ (j : ℕ). signedAt (now (a .b)) (a .at + 4 * j)) _ (omega arith) (l .inv .1 .1) (got w32 (c .signed .ok) (c .signed .ensures))))
+    let a = c .before .before .before .args in (
+      search needs,
+      (
+        simp length-set (search needs),
+        more (l .r) (l .k) (λ (j : ℕ). signedAt (now (a .b)) (a .at + 4 * j)) _ (omega arith) (l .inv .1 .1)
+            (got w32 (c .signed .ok) (c .signed .ensures)),
+      ),
+    )
 
 returns : tie.Need-returns Inv-loop μ-loop
 unfolding variablesIn

@@ -1,4 +1,4 @@
--- `writing::encode` meets its contract: one section behind the other into zeros.
+-- `state_encode::encode` meets its contract: one section behind the other into zeros.
 use native.Mathlib.Omega.{arith}
 use Rattle.state_sections.proofs.Sections.{put, done}
 use Rattle.state_layout.proofs.Buffer.{encoded-put}

@@ -1,4 +1,4 @@
--- `writing::put_header` meets its contract: one number put behind the other.
+-- `state_encode::put_header` meets its contract: one number put behind the other.
 use mathlib.Core.Path.{refl}
 use Rattle.image_header.specs.Numbers.{numbersOf}
 use Rattle.state_sections.proofs.Sections.{put, done}

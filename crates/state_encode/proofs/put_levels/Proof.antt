@@ -1,4 +1,4 @@
--- `writing::put_levels` meets its contract: after k turns the first k levels are put.
+-- `state_encode::put_levels` meets its contract: after k turns the first k levels are put.
 use Prim.Native.Nat.{_-_, _≤_}
 use native.Mathlib.Omega.{arith}
 use mathlib.Core.Path.{_≡_, refl}
@@ -25,7 +25,8 @@ returns : tie.Need-returns Inv-loop μ-loop
 returns c =
     let st = c .before .before in
     let l = c .before .loop in
-    puts-all (st .args .b .now) (st .args .at) (l .k) (length (st .args .levels .now)) (st .args .levels .now) (l .b) (l .inv .0) (c .loop-test .left) refl (l .inv .1)
+    puts-all (st .args .b .now) (st .args .at) (l .k) (length (st .args .levels .now)) (st .args .levels .now) (l .b) (l .inv .0) (c .loop-test .left) refl
+    (l .inv .1)
 
 pub put-levels-spec : {M : Type 1} → statement M
 put-levels-spec =

@@ -1,4 +1,4 @@
--- `writing::put_motion` meets its contract: one number put behind the other.
+-- `state_encode::put_motion` meets its contract: one number put behind the other.
 use Prim.Native.Nat.{_<_}
 use native.Mathlib.Omega.{arith}
 use mathlib.Core.Path.{refl, ap, _∙_}

@@ -1,4 +1,4 @@
--- `writing::put_notes` meets its contract: a record of one number.
+-- `state_encode::put_notes` meets its contract: a record of one number.
 use mathlib.Core.Path.{refl}
 use mathlib.Core.List.{[], _∷_}
 use Rattle.state_sections.proofs.Sections.{put, done}

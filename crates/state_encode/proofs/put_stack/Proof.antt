@@ -1,4 +1,4 @@
--- `writing::put_stack` meets its contract: after i turns the bytes of i blocks are put.
+-- `state_encode::put_stack` meets its contract: after i turns the bytes of i blocks are put.
 use Prim.Native.Nat.{ℕ, _-_, _≤_}
 use mathlib.Core.Path.{_≡_, refl, _∙_}
 use lib.ListN.{getD}
@@ -31,7 +31,8 @@ unfolding stackBytes
 returns c =
     let st = c .before .before in
     let l = c .before .loop in
-    runs-all (λ (j : ℕ). leBytes 2 (getD (st .args .stack .now) j 0)) (st .args .b .now) (st .args .at) (l .i) mostDepth (l .b) (l .inv .0) (c .loop-test .left) (l .inv .1)
+    runs-all (λ (j : ℕ). leBytes 2 (getD (st .args .stack .now) j 0)) (st .args .b .now) (st .args .at) (l .i) mostDepth (l .b) (l .inv .0) (c .loop-test .left)
+    (l .inv .1)
 
 pub put-stack-spec : {M : Type 1} → statement M
 put-stack-spec =

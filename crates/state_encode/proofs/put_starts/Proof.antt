@@ -1,4 +1,4 @@
--- `writing::put_starts` meets its contract: one number put behind the other.
+-- `state_encode::put_starts` meets its contract: one number put behind the other.
 use mathlib.Core.Path.{refl}
 use mathlib.Core.List.{[], _∷_}
 use Rattle.state_sections.proofs.Sections.{put, done}

@@ -1,4 +1,4 @@
--- `writing::put_task` meets its contract: one number put behind the other.
+-- `state_encode::put_task` meets its contract: one number put behind the other.
 use Rattle.state_sections.proofs.Sections.{put, done, put-first, chained-first}
 use Rattle.state_layout.proofs.Codecs.{parts-long}
 use borrow.Author.Needs.{needs}

@@ -1,4 +1,4 @@
--- `writing::put_variables` meets its contract: after k turns the bytes of k variables are put.
+-- `state_encode::put_variables` meets its contract: after k turns the bytes of k variables are put.
 use Prim.Native.Nat.{ℕ, _+_, _*_, _-_, _≤_}
 use mathlib.Core.Path.{_≡_, refl, ap, _∙_}
 use lib.ListN.{getD}
@@ -27,7 +27,8 @@ loop-again c =
       search needs,
       c .put-signed .ensures
           ∙ ap (λ (y : ℤ). puts (l .b) (st .args .at + 4 * l .k) (signedBytes y)) z
-          ∙ runs-more (λ (j : ℕ). signedBytes (getD (st .args .variables .now) j (pos 0))) 4 (λ j. refl) (st .args .b .now) (st .args .at) (l .k) (l .b) (l .inv .1),
+          ∙ runs-more (λ (j : ℕ). signedBytes (getD (st .args .variables .now) j (pos 0))) 4 (λ j. refl) (st .args .b .now) (st .args .at) (l .k) (l .b)
+          (l .inv .1),
     )
 
 returns : tie.Need-returns Inv-loop μ-loop
@@ -35,7 +36,8 @@ unfolding variableBytes
 returns c =
     let st = c .before .before in
     let l = c .before .loop in
-    runs-all (λ (j : ℕ). signedBytes (getD (st .args .variables .now) j (pos 0))) (st .args .b .now) (st .args .at) (l .k) cells (l .b) (l .inv .0) (c .loop-test .left) (l .inv .1)
+    runs-all (λ (j : ℕ). signedBytes (getD (st .args .variables .now) j (pos 0))) (st .args .b .now) (st .args .at) (l .k) cells (l .b) (l .inv .0)
+    (c .loop-test .left) (l .inv .1)
 
 pub put-variables-spec : {M : Type 1} → statement M
 put-variables-spec =

@@ -3,8 +3,5 @@ use mathlib.Core.Path.{refl}
 use Rattle.state_judge.proofs.entry_is.Statement.{statement}
 use Rattle.state_judge.proofs.entry_is.Tie as tie
 
-returns : tie.Need-returns
-returns c = refl
-
 pub entry-is-spec : {M : Type 1} → statement M
-entry-is-spec = tie.close (tie.spec returns)
+entry-is-spec = tie.close (tie.spec (λ c. refl))

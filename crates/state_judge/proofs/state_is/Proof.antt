@@ -6,7 +6,13 @@ use Rattle.state_judge.proofs.state_is.Tie as tie
 
 returns : tie.Need-returns
 unfolding stateIs
-returns c = rw (c .task-is3 .ensures, c .before .task-is2 .ensures, c .before .before .task-is .ensures, c .before .before .before .values-are .ensures, c .before .before .before .before .accepts .ensures)
+returns c = rw (
+  c .task-is3 .ensures,
+  c .before .task-is2 .ensures,
+  c .before .before .task-is .ensures,
+  c .before .before .before .values-are .ensures,
+  c .before .before .before .before .accepts .ensures,
+)
 
 pub state-is-spec : {M : Type 1} → statement M
 state-is-spec =

@@ -7,7 +7,8 @@ use Rattle.text.proofs.put_hex.Tie as tie
 returns : tie.Need-returns
 unfolding hexOf
 returns c =
-    rw (c .before .before .before .before .before .hex-digit2 .ensures, c .before .before .before .before .before .before .hex-digit .ensures) at (c .before .before .put .ensures)
+    rw (c .before .before .before .before .before .hex-digit2 .ensures, c .before .before .before .before .before .before .hex-digit .ensures) at
+    (c .before .before .put .ensures)
 
 pub put-hex-spec : {M : Type 1} → statement M
 put-hex-spec =

@@ -1,4 +1,4 @@
--- `hex::decode` meets its contract. The loop's invariant: the first i bytes of the line stand at the front, and the rest is as it was.
+-- `text_hex::decode` meets its contract. The loop's invariant: the first i bytes of the line stand at the front, and the rest is as it was.
 use borrow.Author.Needs.{needs}
 use native.Mathlib.Omega.{arith}
 use Prim.Native.Nat.{ℕ, _-_, _<_, _≤_}

@@ -14,11 +14,17 @@ unfolding sameAxis
 returns c =
     let a = c .before .before .before .before .before .before .before .before .before .before .before .before .args in
     let s : ℕ → ℕ → Bool = same (now (a .a)) (now (a .b)) in
-    then (a .nothing) (s motionAt 4) _ (c .before .before .before .before .before .before .before .before .before .before .show-part .result) (c .before .before .before .before .before .before .before .before .before .before .show-part .ensures)
-    (then (c .before .before .before .before .before .before .before .before .before .before .show-part .result) (s (motionAt + 4) 2) _ (c .before .before .before .before .before .before .before .before .show-part2 .result) (c .before .before .before .before .before .before .before .before .show-part2 .ensures)
-    (then (c .before .before .before .before .before .before .before .before .show-part2 .result) (s (motionAt + 6) 2) _ (c .before .before .before .before .before .before .show-part3 .result) (c .before .before .before .before .before .before .show-part3 .ensures)
-    (then (c .before .before .before .before .before .before .show-part3 .result) (s (motionAt + 8) 2) _ (c .before .before .before .before .show-part4 .result) (c .before .before .before .before .show-part4 .ensures)
-    (then (c .before .before .before .before .show-part4 .result) (s (motionAt + 10) 1) (s notesAt 1) (c .before .before .show-part5 .result) (c .before .before .show-part5 .ensures) (c .show-part6 .ensures)))))
+    then (a .nothing) (s motionAt 4) _ (c .before .before .before .before .before .before .before .before .before .before .show-part .result)
+    (c .before .before .before .before .before .before .before .before .before .before .show-part .ensures)
+    (then (c .before .before .before .before .before .before .before .before .before .before .show-part .result) (s (motionAt + 4) 2) _
+    (c .before .before .before .before .before .before .before .before .show-part2 .result)
+    (c .before .before .before .before .before .before .before .before .show-part2 .ensures)
+    (then (c .before .before .before .before .before .before .before .before .show-part2 .result) (s (motionAt + 6) 2) _
+    (c .before .before .before .before .before .before .show-part3 .result) (c .before .before .before .before .before .before .show-part3 .ensures)
+    (then (c .before .before .before .before .before .before .show-part3 .result) (s (motionAt + 8) 2) _ (c .before .before .before .before .show-part4 .result)
+    (c .before .before .before .before .show-part4 .ensures)
+    (then (c .before .before .before .before .show-part4 .result) (s (motionAt + 10) 1) (s notesAt 1) (c .before .before .show-part5 .result)
+    (c .before .before .show-part5 .ensures) (c .show-part6 .ensures)))))
 
 pub show-axis-spec : {M : Type 1} → statement M
 show-axis-spec =

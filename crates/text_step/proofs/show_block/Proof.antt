@@ -8,7 +8,9 @@ use Rattle.text_step.proofs.show_block.Statement.{statement}
 use Rattle.text_step.proofs.show_block.Tie as tie
 
 returns : tie.Need-returns
-returns c = c .before .before .before .before .before .before .block-at .ensures ∙ ap (λ (l : List ℕ). blockAt l (c .before .before .before .before .before .before .before .before .before .args .block)) (c .before .before .before .before .before .before .before .block-part .ensures)
+returns c = c .before .before .before .before .before .before .block-at .ensures
+    ∙ ap (λ (l : List ℕ). blockAt l (c .before .before .before .before .before .before .before .before .before .args .block))
+    (c .before .before .before .before .before .before .before .block-part .ensures)
 
 pub show-block-spec : {M : Type 1} → statement M
 show-block-spec =

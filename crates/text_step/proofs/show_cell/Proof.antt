@@ -8,10 +8,13 @@ use Rattle.text_step.proofs.show_cell.Statement.{statement}
 use Rattle.text_step.proofs.show_cell.Tie as tie
 
 returns : tie.Need-returns
-returns c = let a = c .before .before .before .args in is-same (a .nothing) (same (now (a .a)) (now (a .b)) (a .at) (a .width)) (sym (c .before .same .ensures) ∙ c .if1 .taken)
+returns c = let a = c .before .before .before .args in
+    is-same (a .nothing) (same (now (a .a)) (now (a .b)) (a .at) (a .width)) (sym (c .before .same .ensures) ∙ c .if1 .taken)
 
 returns-2 : tie.Need-returns-2
-returns-2 c = let a = c .before .before .before .before .before .before .args in is-not (a .nothing) (same (now (a .a)) (now (a .b)) (a .at) (a .width)) (sym (c .before .before .before .before .same .ensures) ∙ c .before .before .before .if1 .left)
+returns-2 c = let a = c .before .before .before .before .before .before .args in
+    is-not (a .nothing) (same (now (a .a)) (now (a .b)) (a .at) (a .width)) (sym (c .before .before .before .before .same .ensures)
+    ∙ c .before .before .before .if1 .left)
 
 pub show-cell-spec : {M : Type 1} → statement M
 show-cell-spec =

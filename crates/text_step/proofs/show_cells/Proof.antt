@@ -19,20 +19,26 @@ abbrev μ-loop : tie.MeasureT-loop
 μ-loop a b at width text nothing left₀ k₀ left k = cells - k
 
 mul-show-cell : tie.Need-mul-show-cell Inv-loop μ-loop
-mul-show-cell c = let w = within (c .before .before .before .args .width) (c .before .loop .k) cells (let h : c .before .loop .k < cells = omega arith in h) in record { fits = omega arith }
+mul-show-cell c = let w = within (c .before .before .before .args .width) (c .before .loop .k) cells (let h : c .before .loop .k < cells = omega arith in h) in
+    record { fits = omega arith }
 
 add-show-cell : tie.Need-add-show-cell Inv-loop μ-loop
-add-show-cell c = let w = within (c .before .before .before .args .width) (c .before .loop .k) cells (let h : c .before .loop .k < cells = omega arith in h) in record { fits = omega arith }
+add-show-cell c = let w = within (c .before .before .before .args .width) (c .before .loop .k) cells (let h : c .before .loop .k < cells = omega arith in h) in
+    record { fits = omega arith }
 
 show-cell-requires : tie.Need-show-cell-requires Inv-loop μ-loop
-show-cell-requires c κs = let w = within (c .before .before .before .args .width) (c .before .loop .k) cells (let h : c .before .loop .k < cells = omega arith in h) in omega arith
+show-cell-requires c κs = let w = within (c .before .before .before .args .width) (c .before .loop .k) cells
+    (let h : c .before .loop .k < cells = omega arith in h) in omega arith
 
 loop-again : tie.Need-loop-again Inv-loop μ-loop
 unfolding eachBelow
 loop-again c =
     let a = c .before .before .before .before .args in
-    let l = c .before .before .loop in
-    (search needs, rw add-one (then (a .nothing) (sameCells (a .a .now) (a .b .now) (a .at) (a .width) (l .k)) (same (a .a .now) (a .b .now) (a .at + a .width * l .k) (a .width)) (l .left) (l .inv .1) (c .show-cell .ensures)))
+    let l = c .before .before .loop in (
+      search needs,
+      rw add-one (then (a .nothing) (sameCells (a .a .now) (a .b .now) (a .at) (a .width) (l .k))
+          (same (a .a .now) (a .b .now) (a .at + a .width * l .k) (a .width)) (l .left) (l .inv .1) (c .show-cell .ensures)),
+    )
 
 returns : tie.Need-returns Inv-loop μ-loop
 returns c =

@@ -12,7 +12,8 @@ returns : tie.Need-returns
 unfolding sameStarts
 returns c =
     let a = c .before .before .before .before .args in
-    then (a .nothing) (same (now (a .a)) (now (a .b)) startsAt 2) (same (now (a .a)) (now (a .b)) (startsAt + 2) 2) (c .before .before .show-cell .result) (c .before .before .show-cell .ensures) (c .show-cell2 .ensures)
+    then (a .nothing) (same (now (a .a)) (now (a .b)) startsAt 2) (same (now (a .a)) (now (a .b)) (startsAt + 2) 2) (c .before .before .show-cell .result)
+    (c .before .before .show-cell .ensures) (c .show-cell2 .ensures)
 
 pub show-starts-spec : {M : Type 1} → statement M
 show-starts-spec =

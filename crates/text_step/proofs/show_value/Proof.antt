@@ -8,11 +8,13 @@ use Rattle.text_step.proofs.show_value.Tie as tie
 
 returns-2 : tie.Need-returns-2
 unfolding shownAt
-returns-2 c = c .before .before .word .ensures ∙ rw (ne-eqb _ _ (c .before .before .before .before .if1 .left), eq-eqb _ _ (c .before .before .before .if2 .taken))
+returns-2 c = c .before .before .word .ensures
+    ∙ rw (ne-eqb _ _ (c .before .before .before .before .if1 .left), eq-eqb _ _ (c .before .before .before .if2 .taken))
 
 returns-3 : tie.Need-returns-3
 unfolding shownAt
-returns-3 c = c .before .before .byte .ensures ∙ rw (ne-eqb _ _ (c .before .before .before .before .if1 .left), ne-eqb _ _ (c .before .before .before .if2 .left))
+returns-3 c = c .before .before .byte .ensures
+    ∙ rw (ne-eqb _ _ (c .before .before .before .before .if1 .left), ne-eqb _ _ (c .before .before .before .if2 .left))
 
 pub show-value-spec : {M : Type 1} → statement M
 unfolding shownAt

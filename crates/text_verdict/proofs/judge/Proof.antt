@@ -1,4 +1,4 @@
--- `report::judge` meets its contract: it gives the loader's verdict, with marks of the length that 13 asks for, and the line of that verdict.
+-- `text_verdict::judge` meets its contract: it gives the loader's verdict, with marks of the length that 13 asks for, and the line of that verdict.
 use mathlib.Core.Path.{sym, ap, _∙_}
 use Rattle.walk.specs.Verdict.{verdictOf}
 use borrow.Author.Needs.{needs}

@@ -1,4 +1,4 @@
--- `report::line_of` meets its contract: there is room for the line.
+-- `text_verdict::line_of` meets its contract: there is room for the line.
 use Rattle.text.proofs.Joined.{is-text}
 use borrow.Author.Needs.{needs}
 use Rattle.text_verdict.proofs.line_of.Statement.{statement}

@@ -1,12 +1,9 @@
--- `report::marks` meets its contract: the array is made of zeros.
+-- `text_verdict::marks` meets its contract: the array is made of zeros.
 use mathlib.Core.Path.{refl}
 use Rattle.text_verdict.specs.Input.{zeros}
 use Rattle.text_verdict.proofs.marks.Statement.{statement}
 use Rattle.text_verdict.proofs.marks.Tie as tie
 
-returns : tie.Need-returns
-unfolding zeros
-returns c = (refl, refl)
-
 pub marks-spec : {M : Type 1} → statement M
-marks-spec = tie.close (tie.spec returns)
+unfolding zeros
+marks-spec = tie.close (tie.spec (λ c. (refl, refl)))

@@ -1,4 +1,4 @@
--- `report::put_line` meets its contract: its words and numbers are put one behind the other.
+-- `text_verdict::put_line` meets its contract: its words and numbers are put one behind the other.
 use mathlib.Core.Path.{ap}
 use Rattle.text.specs.Text.{labelled}
 use Rattle.text.proofs.Joined.{and-then, same-word}
@@ -11,18 +11,28 @@ use Rattle.text_verdict.proofs.put_line.Tie as tie
 returns : tie.Need-returns
 unfolding lineOf
 returns c =
-    let start = c .before .before .before .before .before .before .before .before .before .before .before .before .before .before .before .before .before .before .before .before .before .before .before .before .before .before .before .before .before .before in
-    let number = c .before .before .before .before .before .before .before .before .before .before .before .before .before .before .before .before .before .before .before .before .before .before .before .before .before .before .before .before .number in
-    let place = c .before .before .before .before .before .before .before .before .before .before .before .before .before .before .before .before .before .before .before .before .before .before .before .before .before .before .before .place in
-    let task = c .before .before .before .before .before .before .before .before .before .before .before .before .before .before .before .before .before .before .before .before .before .before .before .before .before .before .task in
-    let depth = c .before .before .before .before .before .before .before .before .before .before .before .before .before .before .before .before .before .before .before .before .before .before .before .before .before .depth in (
+    let start = c .before .before .before .before .before .before .before .before .before .before .before .before .before .before .before .before .before
+    .before .before .before .before .before .before .before .before .before .before .before .before .before in
+    let number = c .before .before .before .before .before .before .before .before .before .before .before .before .before .before .before .before .before
+    .before .before .before .before .before .before .before .before .before .before .before .number in
+    let place = c .before .before .before .before .before .before .before .before .before .before .before .before .before .before .before .before .before
+    .before .before .before .before .before .before .before .before .before .before .place in
+    let task = c .before .before .before .before .before .before .before .before .before .before .before .before .before .before .before .before .before .before
+    .before .before .before .before .before .before .before .before .task in
+    let depth = c .before .before .before .before .before .before .before .before .before .before .before .before .before .before .before .before .before
+    .before .before .before .before .before .before .before .before .depth in (
       and-then
           (and-then
           (and-then
           (and-then
-          (same-word (ap (labelled refusalWord) (number .ensures)) (c .before .before .before .before .before .before .before .before .before .before .before .before .before .before .before .before .before .before .before .before .before .before .put-labelled .ensures))
-          (same-word (ap (labelled placeWord) (place .ensures)) (c .before .before .before .before .before .before .before .before .before .before .before .before .before .before .before .before .before .put-labelled2 .ensures)))
-          (same-word (ap (labelled taskWord) (task .ensures)) (c .before .before .before .before .before .before .before .before .before .before .before .before .put-labelled3 .ensures)))
+          (same-word (ap (labelled refusalWord) (number .ensures))
+          (c .before .before .before .before .before .before .before .before .before .before .before .before .before .before .before .before .before .before
+          .before .before .before .before .put-labelled .ensures))
+          (same-word (ap (labelled placeWord) (place .ensures))
+          (c .before .before .before .before .before .before .before .before .before .before .before .before .before .before .before .before .before
+          .put-labelled2 .ensures)))
+          (same-word (ap (labelled taskWord) (task .ensures))
+          (c .before .before .before .before .before .before .before .before .before .before .before .before .put-labelled3 .ensures)))
           (same-word (ap (labelled depthWord) (depth .ensures)) (c .before .before .before .before .before .before .before .put-labelled4 .ensures)))
           (c .before .before .put .ensures),
       line-length (start .args .v)

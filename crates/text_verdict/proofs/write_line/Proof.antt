@@ -1,4 +1,4 @@
--- `report::write_line` meets its contract: what is written is the verdict's line.
+-- `text_verdict::write_line` meets its contract: what is written is the verdict's line.
 use borrow.Author.Needs.{needs}
 use Rattle.text_verdict.proofs.write_line.Statement.{statement}
 use Rattle.text_verdict.proofs.write_line.Tie as tie

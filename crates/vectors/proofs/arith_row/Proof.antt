@@ -11,7 +11,8 @@ use Rattle.vectors.proofs.arith_row.Tie as tie
 
 returns : tie.Need-returns
 returns c =
-    let st = c .before .before .before .before .before .before .before .before .before .before .before .before .before .before .before .before .before .before .before .before .before .before .before in
+    let st = c .before .before .before .before .before .before .before .before .before .before .before .before .before .before .before .before .before .before
+    .before .before .before .before .before in
     got w32 (c .add2 .ok) (c .add2 .ensures) ∙ ap (wrap w32) (ap₂ _+ℤ_ (toZ-ofZ (st .fits .a)) (toZ-ofZ (st .fits .b)))
 
 pub arith-row-spec : {M : Type 1} → statement M

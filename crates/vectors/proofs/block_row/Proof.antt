@@ -9,7 +9,8 @@ use Rattle.vectors.proofs.block_row.Tie as tie
 returns : tie.Need-returns
 returns c =
     let image = c .before .before .before .before .before .before .before .args .image .now in
-    c .show-blocks .ensures ∙ ap length (c .before .before .blocks2 .ensures .0 ∙ ap (acceptedBlocks image) (sym (c .before .before .before .before .marks .ensures .0)))
+    c .show-blocks .ensures ∙ ap length (c .before .before .blocks2 .ensures .0
+    ∙ ap (acceptedBlocks image) (sym (c .before .before .before .before .marks .ensures .0)))
 
 pub block-row-spec : {M : Type 1} → statement M
 block-row-spec =

@@ -13,7 +13,8 @@ returns c =
     let c3 = c4 .before .before in
     let c2 = c3 .before .before in
     let c1 = c2 .before .before in
-    (c1 .block-row .ensures ◂ c2 .block-row2 .ensures ◂ c3 .block-row3 .ensures ◂ c4 .block-row4 .ensures ◂ c5 .block-row5 .ensures ◂ c .block-row6 .ensures ◂ refl) ∙ known
+    (c1 .block-row .ensures ◂ c2 .block-row2 .ensures ◂ c3 .block-row3 .ensures ◂ c4 .block-row4 .ensures ◂ c5 .block-row5 .ensures ◂ c .block-row6 .ensures
+    ◂ refl) ∙ known
 
 pub block-rows-spec : {M : Type 1} → statement M
 block-rows-spec =

@@ -17,7 +17,8 @@ returns c =
     let c3 = c4 .before .before in
     let c2 = c3 .before .before in
     let c1 = c2 .before .before in
-    c1 .header-result .ensures ◂ c2 .header-result2 .ensures ◂ c3 .header-result3 .ensures ◂ c4 .header-result4 .ensures ◂ c5 .header-result5 .ensures ◂ c .header-result6 .ensures ◂ refl
+    c1 .header-result .ensures ◂ c2 .header-result2 .ensures ◂ c3 .header-result3 .ensures ◂ c4 .header-result4 .ensures ◂ c5 .header-result5 .ensures
+    ◂ c .header-result6 .ensures ◂ refl
 
 pub case-rows-spec : {M : Type 1} → statement M
 case-rows-spec =

@@ -14,7 +14,15 @@ add-result c =
 add-result-2 : tie.Need-add-result-2
 add-result-2 c =
     let d = c .before .before .before .args .d in
-    omega (arith, c .before .before .pin-row .ensures, c .before .pin-row2 .ensures, c .pin-row3 .ensures, at-most d Input 256, at-most d OutputWritten 256, at-most d OutputRead 256)
+    omega (
+      arith,
+      c .before .before .pin-row .ensures,
+      c .before .pin-row2 .ensures,
+      c .pin-row3 .ensures,
+      at-most d Input 256,
+      at-most d OutputWritten 256,
+      at-most d OutputRead 256,
+    )
 
 pub drive-rows-spec : {M : Type 1} → statement M
 drive-rows-spec =

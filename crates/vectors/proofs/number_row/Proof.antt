@@ -5,7 +5,8 @@ use Rattle.vectors.proofs.number_row.Statement.{statement}
 use Rattle.vectors.proofs.number_row.Tie as tie
 
 returns : tie.Need-returns
-returns c = sym (c .before .before .before .before .before .before .before .n .given .1) ∙ c .before .before .before .before .before .before .before .before .before .read .ensures
+returns c = sym (c .before .before .before .before .before .before .before .n .given .1)
+    ∙ c .before .before .before .before .before .before .before .before .before .read .ensures
 
 pub number-row-spec : {M : Type 1} → statement M
 number-row-spec =

@@ -22,7 +22,9 @@ returns c =
     let c3 = c4 .before .before in
     let c2 = c3 .before .before in
     let c1 = c2 .before .before in
-    c1 .header-result .ensures ◂ c2 .header-result2 .ensures ◂ c3 .header-result3 .ensures ◂ c4 .header-result4 .ensures ◂ c5 .header-result5 .ensures ◂ c6 .header-result6 .ensures ◂ c7 .header-result7 .ensures ◂ c8 .header-result8 .ensures ◂ c9 .header-result9 .ensures ◂ c10 .header-result10 .ensures ◂ c .header-result11 .ensures ◂ refl
+    c1 .header-result .ensures ◂ c2 .header-result2 .ensures ◂ c3 .header-result3 .ensures ◂ c4 .header-result4 .ensures ◂ c5 .header-result5 .ensures
+    ◂ c6 .header-result6 .ensures ◂ c7 .header-result7 .ensures ◂ c8 .header-result8 .ensures ◂ c9 .header-result9 .ensures ◂ c10 .header-result10 .ensures
+    ◂ c .header-result11 .ensures ◂ refl
 
 pub range-rows-spec : {M : Type 1} → statement M
 range-rows-spec =

@@ -13,7 +13,8 @@ use Rattle.vectors.proofs.room_rows.Tie as tie
 
 returns : tie.Need-returns
 unfolding written judgedWrite writtenWith roomResult numberBytes scan more taken judged checked standsAt takes firstRefusal
-returns c = ap (λ (w : Written). w .result) (c .before .before .before .before .before .write-row .ensures .0) ◂ ap (λ (w : Written). w .result) (c .before .write-row2 .ensures .0) ◂ refl
+returns c = ap (λ (w : Written). w .result) (c .before .before .before .before .before .write-row .ensures .0)
+    ◂ ap (λ (w : Written). w .result) (c .before .write-row2 .ensures .0) ◂ refl
 
 pub room-rows-spec : {M : Type 1} → statement M
 room-rows-spec =

@@ -19,7 +19,15 @@ add-n : tie.Need-add-n Inv-loop μ-loop
 add-n c =
     let l = c .before .before .loop in
     let st = c .before .before .before in
-    omega (arith, l .inv .0, l .inv .1, c .show-pin .ensures, at-most (st .args .d) (st .args .kind) (l .pin), at-most-one (st .args .d) (st .args .kind) (l .pin))
+    omega (
+      arith,
+      l .inv .0,
+      l .inv .1,
+      c .show-pin .ensures,
+      at-most (st .args .d) (st .args .kind) (l .pin),
+      at-most-one (st .args .d) (st .args .kind)
+          (l .pin),
+    )
 
 loop-again : tie.Need-loop-again Inv-loop μ-loop
 unfolding presentPins

@@ -20,7 +20,8 @@ returns c =
     let c3 = c4 .before .before in
     let c2 = c3 .before .before in
     let c1 = c2 .before .before in
-    c1 .write-result .ensures ◂ c2 .write-result2 .ensures ◂ c3 .write-result3 .ensures ◂ c4 .write-result4 .ensures ◂ c5 .write-result5 .ensures ◂ c6 .write-result6 .ensures ◂ c7 .write-result7 .ensures ◂ c .write-result8 .ensures ◂ refl
+    c1 .write-result .ensures ◂ c2 .write-result2 .ensures ◂ c3 .write-result3 .ensures ◂ c4 .write-result4 .ensures ◂ c5 .write-result5 .ensures
+    ◂ c6 .write-result6 .ensures ◂ c7 .write-result7 .ensures ◂ c .write-result8 .ensures ◂ refl
 
 pub write-rows-spec : {M : Type 1} → statement M
 write-rows-spec =

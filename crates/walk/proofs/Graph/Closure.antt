@@ -102,7 +102,8 @@ module _ (next : ℕ → List ℕ) (root : ℕ) where
       where
         go : (t : Bool) → has seen p ≡ t
             → (Sofar todo seen → 3 * unseen n seen + length todo ≤ f → Sofar [] (closure next f todo seen))
-            → (Sofar (next p ++ todo) (p ∷ seen) → 3 * unseen n (p ∷ seen) + length (next p ++ todo) ≤ f → Sofar [] (closure next f (next p ++ todo) (p ∷ seen)))
+            → (Sofar (next p ++ todo) (p ∷ seen) → 3 * unseen n (p ∷ seen) + length (next p ++ todo) ≤ f
+            → Sofar [] (closure next f (next p ++ todo) (p ∷ seen)))
             → Sofar [] (elim t [ true ↦ closure next f todo seen | false ↦ closure next f (next p ++ todo) (p ∷ seen) ])
         go true e old new = old (again p todo seen (has-in seen p e) s) (omega arith)
         go false e old new =

@@ -46,7 +46,8 @@ module _ (test : ℕ → Bool) (key : ℕ → ℕ) (none : ℕ) where
     where
       go : (t : Bool) → test x ≡ t → (In p ps → test p ≡ true → least test key none ps ≤ key p)
           → cond t (lesser (key x) (least test key none ps)) (least test key none ps) ≤ key p
-      go true i later = ⊎-elim (λ s. rw s (lesser-first (key x) (least test key none ps))) (λ k. let a = later k e in let b = lesser-second (key x) (least test key none ps) in omega arith) m
+      go true i later = ⊎-elim (λ s. rw s (lesser-first (key x) (least test key none ps))) (λ k. let a = later k e in
+          let b = lesser-second (key x) (least test key none ps) in omega arith) m
       go false i later = ⊎-elim (λ s. clash (rw (← s, e) at i)) (λ k. later k e) m
 
   pub least-found : (ps : List ℕ) → (least test key none ps ≡ none) ⊎ Member ps (least test key none ps)

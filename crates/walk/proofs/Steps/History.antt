@@ -141,7 +141,8 @@ module _ (h : Terms) (bs : List ℕ) (most : h .header .count ≤ mostBlocks) (b
       second false i e = third (eqb task mathematics) refl e
 
       first : (t : Bool) → eqb task bias ≡ t
-          → cond t (Named.at (h .header .start)) (cond (eqb task plc) (latest bs 0x54 path) (cond (eqb task mathematics) (latest bs 0x90 path) Named.none)) ≡ Named.at a
+          → cond t (Named.at (h .header .start)) (cond (eqb task plc) (latest bs 0x54 path) (cond (eqb task mathematics) (latest bs 0x90 path) Named.none))
+          ≡ Named.at a
           → Reached (point task a 0) × Within h (point task a 0)
       first true i e = let w : h .header .start ≡ a = cc in rw (eqb-true task bias i, ← w) (Reach.begin, first-within)
       first false i e = second (eqb task plc) refl e

@@ -107,7 +107,8 @@ no-boxes (suc (suc (suc task))) = refl
 pub carried : (h : Terms) (code task : ℕ) → permitted h code task ≡ true → Flows code (rowOf code .flow)
 unfolding permitted rowOf
 carried h code task e =
-    ⊎-elim (λ (n : rowIn rows code ≡ noRow). clash (sym e ∙ ap (λ (r : Row). getD (boxes (r .tasks)) task false) n ∙ no-boxes task)) (λ a. flows-of code (rowIn rows code) a)
+    ⊎-elim (λ (n : rowIn rows code ≡ noRow). clash (sym e ∙ ap (λ (r : Row). getD (boxes (r .tasks)) task false) n ∙ no-boxes task))
+    (λ a. flows-of code (rowIn rows code) a)
     (every-row agrees rows all-agree code)
 
 -- ---- flows as such: what each lets a walk do

@@ -14,8 +14,6 @@ use Rattle.image_result.proofs.Done.{is-done}
 use Rattle.image_result.specs.ImageResult.{done}
 use Rattle.image_header.specs.Scan.{headerOf, blocksOf}
 use Rattle.walk_flow.specs.Terms.{Terms, termsOf}
-use Rattle.image_result.specs.declared.ImageResult.{ImageResult}
-use Rattle.image_result.specs.declared.ImageResult.the-variants.{Done, EndsEarly, NotShortest, OutOfRange, LeftOver, NoRoom}
 use Rattle.logic.proofs.Choice.{clash, by}
 use Rattle.image_header.proofs.HeaderGood.{header-good}
 use Rattle.walk.specs.Blocks.{blockFaultAt, blockNumber}
@@ -69,7 +67,8 @@ module _ (image : List ℕ) (n : ℕ) where
 
   -- ---- an image has one verdict
 
-  first-block : (b c : ℕ) → ((a : ℕ) → a < b → BlockPasses h bs a) → (BlockPasses h bs b → ⊥) → ((a : ℕ) → a < c → BlockPasses h bs a) → (BlockPasses h bs c → ⊥) → b ≡ c
+  first-block : (b c : ℕ) → ((a : ℕ) → a < b → BlockPasses h bs a) → (BlockPasses h bs b → ⊥) → ((a : ℕ) → a < c → BlockPasses h bs a)
+      → (BlockPasses h bs c → ⊥) → b ≡ c
   first-block b c all bad also worse =
       by b c (λ l. absurd (bad (also b l))) (λ l. by c b (λ m. absurd (worse (all c m))) (λ m. omega arith))
 

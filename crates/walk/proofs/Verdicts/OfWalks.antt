@@ -116,7 +116,8 @@ module _ (h : Terms) (bs : List ℕ) (most : h .header .count ≤ mostBlocks) (b
     unfolding leastForeign
     says-foreign l = found (least-found foreignTest blockOf mostBlocks is)
       where
-        found : (leastForeign h bs is ≡ mostBlocks) ⊎ Member foreignTest blockOf mostBlocks is (leastForeign h bs is) → IsWalksVerdict h bs (verdict.Foreign (leastForeign h bs is))
+        found : (leastForeign h bs is ≡ mostBlocks) ⊎ Member foreignTest blockOf mostBlocks is (leastForeign h bs is)
+            → IsWalksVerdict h bs (verdict.Foreign (leastForeign h bs is))
         found (inl e) = absurd (omega arith)
         found (inr m) =
             let p = pointAt (m .at) in
@@ -124,14 +125,16 @@ module _ (h : Terms) (bs : List ℕ) (most : h .header .count ≤ mostBlocks) (b
             rw (← e) (IsWalksVerdict.foreign p (walked (m .at) (m .member), m .passes) (λ q f. rw e (foreign-least q f)))
 
     -- a bad point that is reached, where there is a least one
-    says-bad : NoForeign h bs → leastBad h bs is < marksLength → IsWalksVerdict h bs (verdict.Bad (faultAt h bs (pointAt (leastBad h bs is))) (pointAt (leastBad h bs is)))
+    says-bad : NoForeign h bs → leastBad h bs is < marksLength
+        → IsWalksVerdict h bs (verdict.Bad (faultAt h bs (pointAt (leastBad h bs is))) (pointAt (leastBad h bs is)))
     unfolding leastBad
     says-bad none l = found (least-found badTest same marksLength is)
       where
         found : (leastBad h bs is ≡ marksLength) ⊎ Member badTest same marksLength is (leastBad h bs is)
             → IsWalksVerdict h bs (verdict.Bad (faultAt h bs (pointAt (leastBad h bs is))) (pointAt (leastBad h bs is)))
         found (inl e) = absurd (omega arith)
-        found (inr m) = subst (λ (i : ℕ). IsWalksVerdict h bs (verdict.Bad (faultAt h bs (pointAt i)) (pointAt i))) (m .key-is) (here (m .at) (m .key-is) (m .member) (m .passes))
+        found (inr m) = subst (λ (i : ℕ). IsWalksVerdict h bs (verdict.Bad (faultAt h bs (pointAt i)) (pointAt i))) (m .key-is)
+            (here (m .at) (m .key-is) (m .member) (m .passes))
           where
             here : (i : ℕ) → i ≡ leastBad h bs is → In i is → badTest i ≡ true → IsWalksVerdict h bs (verdict.Bad (faultAt h bs (pointAt i)) (pointAt i))
             here i e k t =

@@ -4,7 +4,16 @@ use Rattle.walk_blocks.proofs.block_at.Statement.{statement}
 use Rattle.walk_blocks.proofs.block_at.Tie as tie
 
 returns : tie.Need-returns
-returns c = rw (c .before .before .before .before .before .before .before .byte-at .ensures, c .before .before .before .before .before .before .byte-at2 .ensures, c .before .before .before .before .before .byte-at3 .ensures, c .before .before .before .before .byte-at4 .ensures, c .before .before .before .byte-at5 .ensures, c .before .before .byte-at6 .ensures, c .before .byte-at7 .ensures, c .byte-at8 .ensures)
+returns c = rw (
+  c .before .before .before .before .before .before .before .byte-at .ensures,
+  c .before .before .before .before .before .before .byte-at2 .ensures,
+  c .before .before .before .before .before .byte-at3 .ensures,
+  c .before .before .before .before .byte-at4 .ensures,
+  c .before .before .before .byte-at5 .ensures,
+  c .before .before .byte-at6 .ensures,
+  c .before .byte-at7 .ensures,
+  c .byte-at8 .ensures,
+)
 
 pub block-at-spec : {M : Type 1} → statement M
 block-at-spec =

@@ -11,11 +11,23 @@ returns-2 c = rw (sym (c .before .before .before .too-deep .ensures) ∙ c .befo
 
 returns-3 : tie.Need-returns-3
 unfolding flowFault
-returns-3 c = rw (sym (c .before .before .before .before .before .too-deep .ensures) ∙ c .before .before .before .before .if1 .left, sym (c .before .before .before .no-call .ensures) ∙ c .before .before .if2 .left, sym (c .before .past-end .ensures) ∙ c .if3 .taken)
+returns-3 c = rw (
+  sym (c .before .before .before .before .before .too-deep .ensures)
+      ∙ c .before .before .before .before .if1 .left,
+  sym (c .before .before .before .no-call .ensures)
+      ∙ c .before .before .if2 .left,
+  sym (c .before .past-end .ensures) ∙ c .if3 .taken,
+)
 
 returns-4 : tie.Need-returns-4
 unfolding flowFault
-returns-4 c = rw (sym (c .before .before .before .before .before .too-deep .ensures) ∙ c .before .before .before .before .if1 .left, sym (c .before .before .before .no-call .ensures) ∙ c .before .before .if2 .left, sym (c .before .past-end .ensures) ∙ c .if3 .left)
+returns-4 c = rw (
+  sym (c .before .before .before .before .before .too-deep .ensures)
+      ∙ c .before .before .before .before .if1 .left,
+  sym (c .before .before .before .no-call .ensures)
+      ∙ c .before .before .if2 .left,
+  sym (c .before .past-end .ensures) ∙ c .if3 .left,
+)
 
 pub flow-fault-spec : {M : Type 1} → statement M
 unfolding flowFault

@@ -4,8 +4,5 @@ use mathlib.Core.Bool.{or-false}
 use Rattle.walk_point.proofs.past.Statement.{statement}
 use Rattle.walk_point.proofs.past.Tie as tie
 
-returns : tie.Need-returns
-returns c = sym (or-false _)
-
 pub past-spec : {M : Type 1} → statement M
-past-spec = tie.close (tie.spec returns)
+past-spec = tie.close (tie.spec (λ c. sym (or-false _)))

@@ -20,20 +20,29 @@ returns c =
 returns-2 : tie.Need-returns-2
 returns-2 c =
     let a = c .before .before .before .before .before .before .args in (
-      refused-image (now (a .image)) _ _ (c .before .before .read .ensures) (sym (c .before .is-done .ensures) ∙ not-true _ (c .if2 .taken)) (c .before .before .before .if1 .left),
+      refused-image (now (a .image)) _ _ (c .before .before .read .ensures) (sym (c .before .is-done .ensures) ∙ not-true _ (c .if2 .taken))
+          (c .before .before .before .if1 .left),
       record { long = refl; rest = λ k i. refl },
     )
 
 judge-blocks-requires : tie.Need-judge-blocks-requires
 judge-blocks-requires c κs =
-    let a = c .before .before .before .before .before .before .before .before .args in
-    (ready (now (a .image)) _ (c .before .before .before .before .read .ensures) (sym (c .before .before .before .is-done .ensures) ∙ not-false _ (c .before .before .if2 .left)), c .before .before .before .before .before .if1 .left)
+    let a = c .before .before .before .before .before .before .before .before .args in (
+      ready (now (a .image)) _ (c .before .before .before .before .read .ensures) (sym (c .before .before .before .is-done .ensures)
+          ∙ not-false _ (c .before .before .if2 .left)),
+      c .before .before .before .before .before .if1 .left,
+    )
 
 returns-3 : tie.Need-returns-3
 returns-3 c =
     let a = c .before .before .before .before .before .before .before .before .before .before .before .args in
-    let r = c .before .before .judge-blocks .ensures in
-    (judged-image (now (a .image)) _ _ _ _ (c .before .before .before .before .before .before .before .read .ensures) (c .before .before .before .before .block-part .ensures) (sym (c .before .before .before .before .before .before .is-done .ensures) ∙ not-false _ (c .before .before .before .before .before .if2 .left)) (c .before .before .before .before .before .before .before .before .if1 .left) (r .0), r .1)
+    let r = c .before .before .judge-blocks .ensures in (
+      judged-image (now (a .image)) _ _ _ _ (c .before .before .before .before .before .before .before .read .ensures)
+          (c .before .before .before .before .block-part .ensures) (sym (c .before .before .before .before .before .before .is-done .ensures)
+          ∙ not-false _ (c .before .before .before .before .before .if2 .left)) (c .before .before .before .before .before .before .before .before .if1 .left)
+          (r .0),
+      r .1,
+    )
 
 pub judge-spec : {M : Type 1} → statement M
 judge-spec =

@@ -12,15 +12,19 @@ use Rattle.walk_search.proofs.judge_blocks.Tie as tie
 returns : tie.Need-returns
 returns c =
     let s = c .before .before .before .before .before .before in (
-      ap (λ (f : BlockFault). Block f (c .before .before .before .first-refused .result)) (c .block-fault-at .ensures) ∙ first-refused-is (under (s .args .header)) (now (s .args .blocks)) _ (c .before .before .before .first-refused .ensures) (c .before .if1 .taken),
+      ap (λ (f : BlockFault). Block f (c .before .before .before .first-refused .result)) (c .block-fault-at .ensures)
+          ∙ first-refused-is (under (s .args .header)) (now (s .args .blocks)) _ (c .before .before .before .first-refused .ensures) (c .before .if1 .taken),
       record { long = refl; rest = λ k i. refl },
     )
 
 returns-2 : tie.Need-returns-2
 returns-2 c =
     let s = c .before .before .before .before .before .before .before .before .before in
-    let r = c .before .before .judge-walks .ensures in
-    (r .0 ∙ none-refused-is (under (s .args .header)) (now (s .args .blocks)) _ (c .before .before .before .before .before .before .first-refused .ensures) (c .before .before .before .before .if1 .left), r .1)
+    let r = c .before .before .judge-walks .ensures in (
+      r .0 ∙ none-refused-is (under (s .args .header)) (now (s .args .blocks)) _ (c .before .before .before .before .before .before .first-refused .ensures)
+          (c .before .before .before .before .if1 .left),
+      r .1,
+    )
 
 pub judge-blocks-spec : {M : Type 1} → statement M
 judge-blocks-spec =

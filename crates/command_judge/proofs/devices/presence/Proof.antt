@@ -19,9 +19,15 @@ presence-spec =
     (λ c. search needs) (λ c κs. tt)
     (λ c. search needs) (λ c κs. tt)
     (λ c. let a = c .before .before .args in arm (λ (d : Device). devicePresence d (a .drive) (a .x) (a .y)) (c .enum-told .given .1) refl)
-    (λ c. let a = c .before .before .before .args in arm (λ (d : Device). devicePresence d (a .drive) (a .x) (a .y)) (c .before .enum-told2 .given .1) (c .pin .ensures))
-    (λ c. let a = c .before .before .before .args in arm (λ (d : Device). devicePresence d (a .drive) (a .x) (a .y)) (c .before .enum-told3 .given .1) (c .pin2 .ensures))
-    (λ c. let a = c .before .before .before .args in arm (λ (d : Device). devicePresence d (a .drive) (a .x) (a .y)) (c .before .enum-told4 .given .1) (c .pin3 .ensures))
-    (λ c. let a = c .before .before .before .args in arm (λ (d : Device). devicePresence d (a .drive) (a .x) (a .y)) (c .before .enum-told5 .given .1) (c .pin4 .ensures))
-    (λ c. let a = c .before .before .before .args in arm (λ (d : Device). devicePresence d (a .drive) (a .x) (a .y)) (c .before .enum-told6 .given .1) (c .pin5 .ensures))
-    (λ c. let a = c .before .before .before .args in arm (λ (d : Device). devicePresence d (a .drive) (a .x) (a .y)) (c .before .enum-told7 .given .1) (c .not-on-637-plus .ensures)))
+    (λ c. let a = c .before .before .before .args in
+    arm (λ (d : Device). devicePresence d (a .drive) (a .x) (a .y)) (c .before .enum-told2 .given .1) (c .pin .ensures))
+    (λ c. let a = c .before .before .before .args in
+    arm (λ (d : Device). devicePresence d (a .drive) (a .x) (a .y)) (c .before .enum-told3 .given .1) (c .pin2 .ensures))
+    (λ c. let a = c .before .before .before .args in
+    arm (λ (d : Device). devicePresence d (a .drive) (a .x) (a .y)) (c .before .enum-told4 .given .1) (c .pin3 .ensures))
+    (λ c. let a = c .before .before .before .args in
+    arm (λ (d : Device). devicePresence d (a .drive) (a .x) (a .y)) (c .before .enum-told5 .given .1) (c .pin4 .ensures))
+    (λ c. let a = c .before .before .before .args in
+    arm (λ (d : Device). devicePresence d (a .drive) (a .x) (a .y)) (c .before .enum-told6 .given .1) (c .pin5 .ensures))
+    (λ c. let a = c .before .before .before .args in
+    arm (λ (d : Device). devicePresence d (a .drive) (a .x) (a .y)) (c .before .enum-told7 .given .1) (c .not-on-637-plus .ensures)))

@@ -43,13 +43,24 @@ in-range-spec =
     (λ c. let a = c .before .before .before .args in arm (λ (q : Ranges). inRange q (a .count) (a .c)) (c .enum-told2 .given .1) refl)
     (λ c. let a = c .before .before .before .args in arm (λ (q : Ranges). inRange q (a .count) (a .c)) (c .enum-told3 .given .1) refl)
     (λ c. let a = c .before .before .before .args in arm (λ (q : Ranges). inRange q (a .count) (a .c)) (c .enum-told4 .given .1) refl)
-    (λ c. let a = c .before .before .before .before .args in arm (λ (q : Ranges). inRange q (a .count) (a .c)) (c .before .enum-told5 .given .1) (c .level-jump .ensures))
-    (λ c. let a = c .before .before .before .before .args in arm (λ (q : Ranges). inRange q (a .count) (a .c)) (c .before .enum-told6 .given .1) (c .bit-jump .ensures))
-    (λ c. let a = c .before .before .before .before .args in arm (λ (q : Ranges). inRange q (a .count) (a .c)) (c .before .enum-told7 .given .1) (c .condition-jump .ensures))
-    (λ c. let a = c .before .before .before .args in arm (λ (q : Ranges). inRange q (a .count) (a .c)) (c .enum-told8 .given .1) (ap not (zero-bits (a .c .value) (c .before .before .struct-told .given .1 .1 .1 .1 .1 .0 .1))))
-    (λ c. let a = c .before .before .before .before .args in arm (λ (q : Ranges). inRange q (a .count) (a .c)) (c .before .enum-told9 .given .1) (c .flag-run .ensures))
-    (λ c. let a = c .before .before .before .before .args in arm (λ (q : Ranges). inRange q (a .count) (a .c)) (c .before .enum-told10 .given .1) (c .axis-target .ensures))
-    (λ c. let a = c .before .before .before .before .args in arm (λ (q : Ranges). inRange q (a .count) (a .c)) (c .before .enum-told11 .given .1) (c .mode-axis .ensures))
-    (λ c. let a = c .before .before .before .before .args in arm (λ (q : Ranges). inRange q (a .count) (a .c)) (c .before .enum-told12 .given .1) (c .mode-ramp .ensures))
-    (λ c. let a = c .before .before .before .before .args in arm (λ (q : Ranges). inRange q (a .count) (a .c)) (c .before .enum-told13 .given .1) (c .up-to .ensures))
-    (λ c. let a = c .before .before .before .before .args in arm (λ (q : Ranges). inRange q (a .count) (a .c)) (c .before .enum-told14 .given .1) (c .up-to2 .ensures)))
+    (λ c. let a = c .before .before .before .before .args in
+    arm (λ (q : Ranges). inRange q (a .count) (a .c)) (c .before .enum-told5 .given .1) (c .level-jump .ensures))
+    (λ c. let a = c .before .before .before .before .args in
+    arm (λ (q : Ranges). inRange q (a .count) (a .c)) (c .before .enum-told6 .given .1) (c .bit-jump .ensures))
+    (λ c. let a = c .before .before .before .before .args in
+    arm (λ (q : Ranges). inRange q (a .count) (a .c)) (c .before .enum-told7 .given .1) (c .condition-jump .ensures))
+    (λ c. let a = c .before .before .before .args in
+    arm (λ (q : Ranges). inRange q (a .count) (a .c)) (c .enum-told8 .given .1)
+    (ap not (zero-bits (a .c .value) (c .before .before .struct-told .given .1 .1 .1 .1 .1 .0 .1))))
+    (λ c. let a = c .before .before .before .before .args in
+    arm (λ (q : Ranges). inRange q (a .count) (a .c)) (c .before .enum-told9 .given .1) (c .flag-run .ensures))
+    (λ c. let a = c .before .before .before .before .args in
+    arm (λ (q : Ranges). inRange q (a .count) (a .c)) (c .before .enum-told10 .given .1) (c .axis-target .ensures))
+    (λ c. let a = c .before .before .before .before .args in
+    arm (λ (q : Ranges). inRange q (a .count) (a .c)) (c .before .enum-told11 .given .1) (c .mode-axis .ensures))
+    (λ c. let a = c .before .before .before .before .args in
+    arm (λ (q : Ranges). inRange q (a .count) (a .c)) (c .before .enum-told12 .given .1) (c .mode-ramp .ensures))
+    (λ c. let a = c .before .before .before .before .args in
+    arm (λ (q : Ranges). inRange q (a .count) (a .c)) (c .before .enum-told13 .given .1) (c .up-to .ensures))
+    (λ c. let a = c .before .before .before .before .args in
+    arm (λ (q : Ranges). inRange q (a .count) (a .c)) (c .before .enum-told14 .given .1) (c .up-to2 .ensures)))

@@ -1,4 +1,4 @@
--- `image::reader::accepts` meets its contract: after k turns the first k rows let the header pass.
+-- `image_header::reader::accepts` meets its contract: after k turns the first k rows let the header pass.
 use borrow.Author.Needs.{needs}
 use mathlib.Core.Path.{_≡_, refl, ap, _∙_}
 use Prim.Native.Nat.{ℕ, _-_, _≤_}

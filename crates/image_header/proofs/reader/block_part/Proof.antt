@@ -1,4 +1,4 @@
--- `image::reader::block_part` meets its contract: the header that it hands on is the image's.
+-- `image_header::reader::block_part` meets its contract: the header that it hands on is the image's.
 use borrow.Author.Needs.{needs}
 use Rattle.image_header.proofs.reader.block_part.Statement.{statement}
 use Rattle.image_header.proofs.reader.block_part.Tie as tie

@@ -1,4 +1,4 @@
--- `image::reader::check_count` meets its contract, test by test.
+-- `image_header::reader::check_count` meets its contract, test by test.
 use borrow.Author.Needs.{needs}
 use mathlib.Core.Path.{sym, _∙_}
 use lib.ListN.{getD}

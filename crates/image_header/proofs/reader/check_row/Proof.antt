@@ -1,4 +1,4 @@
--- `image::reader::check_row` meets its contract: each arm has its row's tests, and there is no row past the last.
+-- `image_header::reader::check_row` meets its contract: each arm has its row's tests, and there is no row past the last.
 use borrow.Author.Needs.{needs}
 use mathlib.Core.Path.{sym, ap, _∙_}
 use mathlib.Core.Bool.{Bool, cond}
@@ -21,7 +21,8 @@ returns-4 c = rw (c .before .before .match .keys4) (c .fails-unless4 .ensures �
 
 returns-7 : tie.Need-returns-7
 unfolding checked
-returns-7 c = sym (ap (λ (ts : List Test). check ts (headerFrom (c .before .args .t2))) (List·getD-eq-default headerRows [] (past 6 (c .before .args .row) (c .match .rest))))
+returns-7 c = sym (ap (λ (ts : List Test). check ts (headerFrom (c .before .args .t2)))
+    (List·getD-eq-default headerRows [] (past 6 (c .before .args .row) (c .match .rest))))
 
 pub check-row-spec : {M : Type 1} → statement M
 unfolding checked

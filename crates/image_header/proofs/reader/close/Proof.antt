@@ -1,4 +1,4 @@
--- `image::reader::close` meets its contract: the refusal of the numbers comes before that of the length.
+-- `image_header::reader::close` meets its contract: the refusal of the numbers comes before that of the length.
 use borrow.Author.Needs.{needs}
 use mathlib.Core.Path.{sym, ap, _∙_}
 use borrow.Author.Tests.{not-true, not-false}
@@ -13,7 +13,8 @@ returns c =
     let st = c .before .before .before .before .before .before .before in
     let o = c .before .before .before .first-refusal in
     let h = c .before .before .before .before .before .header-from .ensures in
-    let told = o .ensures ∙ ap (firstRefusal (st .args .s .result)) (c .before .before .before .before .judge-length .ensures ∙ ap (λ (x : Header). lengthResult (st .args .s .at) (x .count) (st .args .length)) h) in
+    let told = o .ensures ∙ ap (firstRefusal (st .args .s .result)) (c .before .before .before .before .judge-length .ensures
+    ∙ ap (λ (x : Header). lengthResult (st .args .s .at) (x .count) (st .args .length)) h) in
     let d = c .before .before .is-done in
     rw (← told, sym (d .ensures) ∙ not-true (d .result) (c .before .if1 .taken)) (c .refuse .ensures)
 
@@ -23,7 +24,8 @@ returns-2 c =
     let st = c .before .before .before .before .before .before in
     let o = c .before .before .first-refusal in
     let h = c .before .before .before .before .header-from .ensures in
-    let told = o .ensures ∙ ap (firstRefusal (st .args .s .result)) (c .before .before .before .judge-length .ensures ∙ ap (λ (x : Header). lengthResult (st .args .s .at) (x .count) (st .args .length)) h) in
+    let told = o .ensures ∙ ap (firstRefusal (st .args .s .result)) (c .before .before .before .judge-length .ensures
+    ∙ ap (λ (x : Header). lengthResult (st .args .s .at) (x .count) (st .args .length)) h) in
     let d = c .before .is-done in
     rw (← told, sym (d .ensures) ∙ not-false (d .result) (c .if1 .left), ← h)
 

@@ -1,10 +1,7 @@
--- `image::reader::count_in_range` meets its contract: its tests are the definition's.
+-- `image_header::reader::count_in_range` meets its contract: its tests are the definition's.
 use mathlib.Core.Path.{refl}
 use Rattle.image_header.proofs.reader.count_in_range.Statement.{statement}
 use Rattle.image_header.proofs.reader.count_in_range.Tie as tie
 
-returns : tie.Need-returns
-returns c = refl
-
 pub count-in-range-spec : {M : Type 1} → statement M
-count-in-range-spec = tie.close (tie.spec returns)
+count-in-range-spec = tie.close (tie.spec (λ c. refl))

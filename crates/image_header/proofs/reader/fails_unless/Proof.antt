@@ -1,4 +1,4 @@
--- `image::reader::fails_unless` meets its contract, by its test.
+-- `image_header::reader::fails_unless` meets its contract, by its test.
 use Rattle.image_header.proofs.reader.fails_unless.Statement.{statement}
 use Rattle.image_header.proofs.reader.fails_unless.Tie as tie
 

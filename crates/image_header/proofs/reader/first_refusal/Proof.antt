@@ -1,4 +1,4 @@
--- `image::reader::first_refusal` meets its contract, by its test.
+-- `image_header::reader::first_refusal` meets its contract, by its test.
 use borrow.Author.Needs.{needs}
 use mathlib.Core.Path.{sym, _∙_}
 use Rattle.image_header.specs.Scan.{firstRefusal}

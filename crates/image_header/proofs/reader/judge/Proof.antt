@@ -1,4 +1,4 @@
--- `image::reader::judge` meets its contract, by what the row finds.
+-- `image_header::reader::judge` meets its contract, by what the row finds.
 use borrow.Author.Needs.{needs}
 use native.Mathlib.Omega.{arith}
 use mathlib.Core.Path.{sym, ap, _∙_}

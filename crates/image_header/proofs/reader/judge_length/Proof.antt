@@ -1,4 +1,4 @@
--- `image::reader::judge_length` meets its contract, by its tests: each is read as what it says of the length.
+-- `image_header::reader::judge_length` meets its contract, by its tests: each is read as what it says of the length.
 use Prim.Native.Nat.{_+_, _*_}
 use native.Mathlib.Omega.{arith}
 use borrow.Author.Needs.{needs}

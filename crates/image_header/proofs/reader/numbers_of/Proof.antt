@@ -1,4 +1,4 @@
--- `image::reader::numbers_of` meets its contract, number by number.
+-- `image_header::reader::numbers_of` meets its contract, number by number.
 use mathlib.Core.Path.{refl}
 use borrow.Author.Needs.{needs}
 use Rattle.image_header.proofs.reader.numbers_of.Statement.{statement}

@@ -1,4 +1,4 @@
--- `image::reader::part_of` meets its contract: the blocks of an image that is read begin within it, and are all that follows.
+-- `image_header::reader::part_of` meets its contract: the blocks of an image that is read begin within it, and are all that follows.
 use borrow.Author.Needs.{needs}
 use mathlib.Core.Bool.{true, false}
 use denote.Ref.{now}

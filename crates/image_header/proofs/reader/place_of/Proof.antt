@@ -1,4 +1,4 @@
--- `image::reader::place_of` meets its contract: after j turns the bytes of the first j numbers are counted, two at most for each.
+-- `image_header::reader::place_of` meets its contract: after j turns the bytes of the first j numbers are counted, two at most for each.
 use borrow.Author.Needs.{needs}
 use mathlib.Core.Path.{_≡_, refl, ap, _∙_}
 use Prim.Native.Nat.{_-_, _*_, _≤_}

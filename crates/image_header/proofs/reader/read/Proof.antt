@@ -1,4 +1,4 @@
--- `image::reader::read` meets its contract: the numbers take at most two bytes each, and fit their widths, as `close` asks.
+-- `image_header::reader::read` meets its contract: the numbers take at most two bytes each, and fit their widths, as `close` asks.
 use borrow.Author.Needs.{needs}
 use mathlib.Core.Path.{ap, _∙_}
 use denote.Ref.{now}
@@ -10,9 +10,6 @@ use Rattle.image_header.proofs.Accepted.{scan-narrow}
 use Rattle.image_header.proofs.Scanning.{at-most, image-near}
 use Rattle.image_header.proofs.reader.read.Statement.{statement}
 use Rattle.image_header.proofs.reader.read.Tie as tie
-
-read-rows-requires : tie.Need-read-rows-requires
-read-rows-requires c κs = search needs
 
 close-requires : tie.Need-close-requires
 close-requires c κs =
@@ -26,4 +23,4 @@ returns c =
     c .close .ensures ∙ ap (λ (s : Scan). closed s (length l)) (c .before .read-rows .ensures)
 
 pub read-spec : {M : Type 1} → statement M
-read-spec = tie.close (tie.spec read-rows-requires close-requires returns)
+read-spec = tie.close (tie.spec (λ c κs. search needs) close-requires returns)

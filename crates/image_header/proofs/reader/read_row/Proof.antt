@@ -1,4 +1,4 @@
--- `image::reader::read_row` meets its contract: a refusal stays, else what `number::read` finds is taken.
+-- `image_header::reader::read_row` meets its contract: a refusal stays, else what `image_number::read` finds is taken.
 use borrow.Author.Needs.{needs}
 use mathlib.Core.Path.{sym, _∙_}
 use denote.Ref.{now}
@@ -13,7 +13,8 @@ returns : tie.Need-returns
 returns c =
     let st = c .before .before .before in
     let l = now (st .args .image) in
-    sym (stays (length l) (fromImage l) (st .args .row) (st .args .s) (sym (c .before .is-done .ensures) ∙ not-true (c .before .is-done .result) (c .if1 .taken)))
+    sym (stays (length l) (fromImage l) (st .args .row) (st .args .s) (sym (c .before .is-done .ensures)
+    ∙ not-true (c .before .is-done .result) (c .if1 .taken)))
 
 returns-2 : tie.Need-returns-2
 returns-2 c =

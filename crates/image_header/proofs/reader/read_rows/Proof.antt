@@ -1,4 +1,4 @@
--- `image::reader::read_rows` meets its contract. The loop's invariant: the scan is that of the rows passed.
+-- `image_header::reader::read_rows` meets its contract. The loop's invariant: the scan is that of the rows passed.
 use borrow.Author.Needs.{needs}
 use mathlib.Core.Path.{_≡_, _∙_}
 use Prim.Native.Nat.{_≤_, _-_}

@@ -1,4 +1,4 @@
--- `image::reader::same` meets its contract: after k turns the first k numbers are compared.
+-- `image_header::reader::same` meets its contract: after k turns the first k numbers are compared.
 use borrow.Author.Needs.{needs}
 use mathlib.Core.Path.{_≡_, refl, ap, _∙_}
 use mathlib.Core.List.{List}

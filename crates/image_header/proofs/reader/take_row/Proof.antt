@@ -1,4 +1,4 @@
--- `image::reader::take_row` meets its contract, by what was found.
+-- `image_header::reader::take_row` meets its contract, by what was found.
 use borrow.Author.Needs.{needs}
 use Rattle.image_header.specs.Scan.{taken}
 use Rattle.image_header.proofs.reader.take_row.Statement.{statement}

@@ -4,9 +4,6 @@ use Rattle.state.specs.State.{freshValues}
 use Rattle.state.proofs.Values.fresh.Statement.{statement}
 use Rattle.state.proofs.Values.fresh.Tie as tie
 
-returns : tie.Need-returns
-unfolding freshValues
-returns c = refl
-
 pub fresh-spec : {M : Type 1} → statement M
-fresh-spec = tie.close (tie.spec returns)
+unfolding freshValues
+fresh-spec = tie.close (tie.spec (λ c. refl))

@@ -8,7 +8,8 @@ use Rattle.walk_flow.proofs.Flow.of.Tie as tie
 
 returns : tie.Need-returns
 unfolding flowOf
-returns c = c .flow-by .ensures ∙ ap (λ (r : Row). flowBy (r .flow) (c .before .before .args .c .x) (c .before .before .args .c .word)) (c .before .find .ensures)
+returns c = c .flow-by .ensures ∙ ap (λ (r : Row). flowBy (r .flow) (c .before .before .args .c .x) (c .before .before .args .c .word))
+    (c .before .find .ensures)
 
 pub of-spec : {M : Type 1} → statement M
 of-spec =

@@ -25,15 +25,22 @@ returns : tie.Need-returns Inv-loop μ-loop
 returns c =
     let v = c .before .before .before .before .before .before .before .loop in
     let s = c .before .before .before .before .before .before .before .before .before .before in
-    first-bad (under (s .args .header)) (now (s .args .blocks)) (s .pre .0) (now (s .args .marks)) (s .pre .1) (v .i) (v .inv .1) (c .before .before .before .before .if1 .taken)
-    (fault-bad (under (s .args .header)) (now (s .args .blocks)) (v .i) _ _ (c .before .before .before .point-at .ensures) (c .before .before .fault-at .ensures) (sym (c .before .is-bad .ensures) ∙ c .if2 .taken))
+    first-bad (under (s .args .header)) (now (s .args .blocks)) (s .pre .0) (now (s .args .marks)) (s .pre .1) (v .i) (v .inv .1)
+    (c .before .before .before .before .if1 .taken)
+    (fault-bad (under (s .args .header)) (now (s .args .blocks)) (v .i) _ _ (c .before .before .before .point-at .ensures)
+    (c .before .before .fault-at .ensures) (sym (c .before .is-bad .ensures) ∙ c .if2 .taken))
 
 loop-again : tie.Need-loop-again Inv-loop μ-loop
 loop-again c =
     let v = c .before .before .before .loop in
     let s = c .before .before .before .before .before .before in
-    let s = c .before .before .before .before .before .before in
-    (omega arith, least-kept _ _ _ _ (v .i) _ (v .inv .1) (⊎-elim (λ w m t. clash (sym t ∙ fault-bad (under (s .args .header)) (now (s .args .blocks)) (v .i) _ _ (w .1 .ensures) (w .2 .ensures) (sym (w .3 .ensures) ∙ w .4 .left))) (λ w m t. m (w .left)) (c .if1 .came)))
+    let s = c .before .before .before .before .before .before in (
+      omega arith,
+      least-kept _ _ _ _ (v .i) _ (v .inv .1)
+          (⊎-elim (λ w m t. clash (sym t
+          ∙ fault-bad (under (s .args .header)) (now (s .args .blocks)) (v .i) _ _ (w .1 .ensures) (w .2 .ensures) (sym (w .3 .ensures)
+          ∙ w .4 .left))) (λ w m t. m (w .left)) (c .if1 .came)),
+    )
 
 returns-2 : tie.Need-returns-2 Inv-loop μ-loop
 returns-2 c =

@@ -7,7 +7,12 @@ use Rattle.walk_search.proofs.search.verdict_by.Tie as tie
 
 returns-2 : tie.Need-returns-2
 unfolding verdictBy
-returns-2 c = rw (le-ltb _ _ (c .before .before .before .if1 .left), lt-ltb _ _ (c .before .before .if2 .taken), ← c .before .point-at .ensures, ← c .fault-at .ensures)
+returns-2 c = rw (
+  le-ltb _ _ (c .before .before .before .if1 .left),
+  lt-ltb _ _ (c .before .before .if2 .taken),
+  ← c .before .point-at .ensures,
+  ← c .fault-at .ensures,
+)
 
 pub verdict-by-spec : {M : Type 1} → statement M
 unfolding verdictBy

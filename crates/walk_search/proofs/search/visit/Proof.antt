@@ -43,7 +43,8 @@ visit-spec =
     let flow = c .before .before .before .before .before .before .flow-at in
     let qs = indices (leadsTo (at .result) (flow .result)) in
     let k = c .before .before .before .before .loop .k in
-    let l : k < length qs = let n = c .before .before .before .before .before .count .ensures in let m = c .before .before .before .loop-test in omega (arith, indices-long (leadsTo (at .result) (flow .result))) in
+    let l : k < length qs = let n = c .before .before .before .before .before .count .ensures in let m = c .before .before .before .loop-test in
+    omega (arith, indices-long (leadsTo (at .result) (flow .result))) in
     let inside = number-inside h bs (s .pre .0 .most) (s .pre .0 .begins) in
     let next = next-is h bs (s .args .p) (at .result) (flow .result) (at .ensures) (flow .ensures) in
     let i = touch-inside (nextOf h bs) (rootOf h) inside _ _ (s .pre .1 .0) (s .pre .1 .1 .1) qs next _ (rw (c .successor .ensures) (kth-in qs k l)) in
@@ -56,9 +57,17 @@ visit-spec =
     let v = c .before .before .before .before .before .before .before .loop in
     let n = c .before .before .before .before .before .before .before .before .count .ensures in
     let m = c .before .before .before .before .before .before .loop-test in
-    let l : v .k < length qs = omega (arith, indices-long (leadsTo (c .before .before .before .before .before .before .before .before .before .before .point-at .result) flow)) in
-    let touch = c .before .before .touch in
-    (touch .ensures ∙ (λ ι. touched (c .before .before .before .successor .ensures ι) (v .inv .0 ι)) ∙ sym (touched-more qs (v .k) l _), omega arith, touch .kept .0 ∙ v .inv .2))
+    let l : v .k < length qs = omega (
+      arith,
+      indices-long
+          (leadsTo (c .before .before .before .before .before .before .before .before .before .before .point-at .result) flow),
+    ) in
+    let touch = c .before .before .touch in (
+      touch .ensures ∙ (λ ι. touched (c .before .before .before .successor .ensures ι) (v .inv .0 ι))
+          ∙ sym (touched-more qs (v .k) l _),
+      omega arith,
+      touch .kept .0 ∙ v .inv .2,
+    ))
     (λ c. let s = c .before .before .before .before .before .before .before in omega (arith, s .pre .1 .0 .long, s .pre .1 .1 .0, c .before .loop .inv .2))
     (λ c. simp length-set (c .before .loop .inv .2))
     (λ c.

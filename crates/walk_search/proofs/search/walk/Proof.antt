@@ -14,7 +14,8 @@ use Rattle.walk_search.proofs.search.walk.Statement.{statement}
 use Rattle.walk_search.proofs.search.walk.Tie as tie
 
 abbrev Inv-loop : tie.InvT-loop
-Inv-loop header blocks marks₀ dirty₀ cursor₀ marks dirty cursor = Going (nextOf (under header) blocks) (rootOf (under header)) marks cursor × (cursor ≤ marksLength) × Paged marks dirty cursor
+Inv-loop header blocks marks₀ dirty₀ cursor₀ marks dirty cursor = Going (nextOf (under header) blocks) (rootOf (under header)) marks cursor
+    × (cursor ≤ marksLength) × Paged marks dirty cursor
 
 abbrev μ-loop : tie.MeasureT-loop
 μ-loop header blocks marks₀ dirty₀ cursor₀ marks dirty cursor = (marksLength + 1) * undone marks + (marksLength - cursor)
@@ -33,15 +34,18 @@ loop-again-2 c =
 
 visit-requires : tie.Need-visit-requires Inv-loop μ-loop
 visit-requires c κs =
-    let v = c .before .before .before .before .before .before .before .loop in
-    (c .before .before .before .before .before .before .before .before .before .before .pre .0, (v .inv .0, (c .before .before .before .before .before .before .loop-test .taken, c .before .before .if3 .taken)))
+    let v = c .before .before .before .before .before .before .before .loop in (
+      c .before .before .before .before .before .before .before .before .before .before .pre .0,
+      (v .inv .0, (c .before .before .before .before .before .before .loop-test .taken, c .before .before .if3 .taken)),
+    )
 
 loop-less-3 : tie.Need-loop-less-3 Inv-loop μ-loop
 loop-less-3 c =
     let s = c .before .before .before .before .before .before .before .before .before .before .before .before .before in
     let v = c .before .before .before .before .before .before .before .before .before .before .loop in
     let i = number-inside (under (s .args .header)) (now (s .args .blocks)) (s .pre .0 .most) (s .pre .0 .begins) in
-    let k = visit-keeps _ _ i (v .marks) (v .dirty) (v .cursor) (v .inv .0) (c .before .before .before .before .before .if3 .taken) (v .inv .2) _ (c .before .before .visit .ensures) in
+    let k = visit-keeps _ _ i (v .marks) (v .dirty) (v .cursor) (v .inv .0) (c .before .before .before .before .before .if3 .taken) (v .inv .2) _
+    (c .before .before .visit .ensures) in
     omega (arith, k .less, k .low)
 
 loop-again-3 : tie.Need-loop-again-3 Inv-loop μ-loop
@@ -49,7 +53,8 @@ loop-again-3 c =
     let s = c .before .before .before .before .before .before .before .before .before .before .before .before .before in
     let v = c .before .before .before .before .before .before .before .before .before .before .loop in
     let i = number-inside (under (s .args .header)) (now (s .args .blocks)) (s .pre .0 .most) (s .pre .0 .begins) in
-    let k = visit-keeps _ _ i (v .marks) (v .dirty) (v .cursor) (v .inv .0) (c .before .before .before .before .before .if3 .taken) (v .inv .2) _ (c .before .before .visit .ensures) in
+    let k = visit-keeps _ _ i (v .marks) (v .dirty) (v .cursor) (v .inv .0) (c .before .before .before .before .before .if3 .taken) (v .inv .2) _
+    (c .before .before .visit .ensures) in
     (k .going, omega (arith, k .low, v .inv .1), k .paged)
 
 loop-again-4 : tie.Need-loop-again-4 Inv-loop μ-loop
