@@ -52,10 +52,10 @@ pub record Ready (task : Task) : Type 0 where
 
 pub ready : (s : State) → GoodState s → (t : ℕ) → t < taskCount → Ready (taskAt s t)
 ready s g t l =
-    let k = g .task t l in
-    let b = k .block in
+    let good = g .task t l in
+    let b = good .block in
     let n = g .header .count .1 in
-    record { block = omega arith; depth = k .depth; turns = wait-fits _ _ _ (g .header .model) (k .wait) .1 }
+    record { block = omega arith; depth = good .depth; turns = wait-fits _ _ _ (g .header .model) (good .wait) .1 }
 
 -- ---- the tests in their order
 

@@ -68,10 +68,10 @@ room-passes : (at count b room : ℕ) → b ≡ blockLength * count → at + b �
 unfolding roomResult
 room-passes at count b room e h = rw (le-ltb b (blockLength * count) (omega arith), le-ltb (blockLength * count) b (omega arith), le-ltb room (at + b) h)
 
-pub fitted-is : (s : Scan) (b room : ℕ) → done (s .result) ≡ true → b ≡ blockLength * scannedHeader s .count → s .at + b ≤ room
+pub judged-write-is : (s : Scan) (b room : ℕ) → done (s .result) ≡ true → b ≡ blockLength * scannedHeader s .count → s .at + b ≤ room
     → judgedWrite s b room ≡ record { result = Done; length = s .at + b }
 unfolding judgedWrite writtenWith
-fitted-is s b room d e h =
+judged-write-is s b room d e h =
     rw (both-pass (s .result) (roomResult (s .at) (scannedHeader s .count) b room) d, room-passes (s .at) (scannedHeader s .count) b room e h)
 
 pub fitted-fine : (s : Scan) (b room : ℕ) → done (judgedWrite s b room .result) ≡ true → Fits s b room
@@ -86,7 +86,7 @@ fitted-fine s b room h = go (done o) refl
     go true e =
         let p = neither (s .result) (roomResult (s .at) (scannedHeader s .count) b room) e in
         let r = room-right (s .at) (scannedHeader s .count) b room (p .1) in
-        record { judged = p .0; long = r .0; fits = r .1; is = fitted-is s b room (p .0) (r .0) (r .1) }
+        record { judged = p .0; long = r .0; fits = r .1; is = judged-write-is s b room (p .0) (r .0) (r .1) }
 
 -- what the writer may rely on once nothing was refused
 module _ (numbers blocks : List ℕ) (room : ℕ) (ok : done (written numbers (length blocks) room .result) ≡ true) where

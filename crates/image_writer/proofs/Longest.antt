@@ -19,7 +19,7 @@ use Rattle.image_header.specs.Longest.{greatest, sizeUpTo, longestImage}
 use Rattle.image_header.proofs.Longest.{Sized, one-byte, two-bytes, image-end}
 use Rattle.image_writer.specs.Writer.{givenNumbers, roomResult, writtenWith, judgedWrite, written}
 use Rattle.image_writer.specs.declared.Written.{Written}
-use Rattle.image_writer.proofs.Judged.{judged-numbers, fitted-fine, fitted-is}
+use Rattle.image_writer.proofs.Judged.{judged-numbers, fitted-fine, judged-write-is}
 
 -- the bytes of a number are no more than one that is as great or greater may take
 size-of : (at v most : ℕ) → v ≤ most → (t : Bool) → ltb v 128 ≡ t → at + length (numberBytes v) ≤ at + sizeUpTo most
@@ -50,7 +50,7 @@ pub room-enough : (numbers : List ℕ) (b room : ℕ) → longestImage ≤ room 
 unfolding written
 room-enough numbers b room r ok e =
     let l = ends numbers ok in
-    ap (λ (w : Written). done (w .result)) (fitted-is (scan 0 (givenNumbers numbers) rowCount) b room ok e (omega arith))
+    ap (λ (w : Written). done (w .result)) (judged-write-is (scan 0 (givenNumbers numbers) rowCount) b room ok e (omega arith))
 
 -- header numbers at their greatest and the most blocks are written in just that room
 pub longest-written : written greatest (blockLength * mostBlocks) longestImage ≡ record { result = Done; length = longestImage }

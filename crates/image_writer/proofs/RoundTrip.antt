@@ -25,7 +25,7 @@ use Rattle.num_le.specs.LittleEndian.{Bytes}
 use Rattle.image_header.proofs.Numbers.{numbers-of-header, same-numbers}
 use Rattle.image_header.proofs.Accepted.{place, value, Accepted, accepted-header}
 use Rattle.image_header.proofs.HeaderGood.{header-is}
-use Rattle.image_writer.proofs.Judged.{judged-numbers, small-numbers, placed, fitted-is, written-fine, put-there}
+use Rattle.image_writer.proofs.Judged.{judged-numbers, small-numbers, placed, judged-write-is, written-fine, put-there}
 use Rattle.image_number.proofs.RoundTrip.{There, number-back, number-only}
 use Rattle.image_header.proofs.Read.{closed-is, read-fine, scanOf}
 use Rattle.image_header.proofs.Scanning.{takes}
@@ -211,7 +211,7 @@ module _ (image : List ℕ) (bytes : Bytes image) (ok : headerOf image .result �
       let e : s .at + length (blocksOf image) ≡ length image = omega arith in
       let w : written numbers (length (blocksOf image)) (length out) ≡ record { result = Done; length = length image } =
       ap (λ (x : Scan). judgedWrite x (length (blocksOf image)) (length out)) written-scan
-      ∙ fitted-is s (length (blocksOf image)) (length out) (read-fine image fine .scanned) b (omega arith)
+      ∙ judged-write-is s (length (blocksOf image)) (length out) (read-fine image fine .scanned) b (omega arith)
       ∙ ap (λ (n : ℕ). record { result = Done; length = n }) e in
       (w, sym (put-there numbers (blocksOf image) out (ap (λ (r : Written). done (r .result)) w)) ∙ ap (λ (x : List ℕ). overlaid x out) image-back)
 

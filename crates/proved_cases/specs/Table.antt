@@ -8,7 +8,7 @@ use Rattle.image_number.specs.Number.{numberAt}
 use Rattle.image_number.specs.declared.Number.{Number}
 use Rattle.image_number.specs.declared.Number.the-variants.{Value, EndsEarly, NotShortest}
 use Rattle.image_result.specs.ImageResult.{resultNumber}
-use Rattle.image_result.specs.declared.ImageResult.the-variants as outcome
+use Rattle.image_result.specs.declared.ImageResult.the-variants as result
 use Rattle.command_operands.specs.Operands.{command}
 use Rattle.command_operands.specs.declared.Command.{Command}
 use Rattle.walk.specs.Verdict.{verdictOf, verdictNumber, verdictPlace, verdictTask, verdictDepth}
@@ -105,8 +105,8 @@ stepAnswerOf a = refusal (answerNumber a) (answerPlace a) (answerTask a) (answer
 
 abbrev pub numberReply : Number → Reply
 numberReply (Value v next) = value v
-numberReply EndsEarly = noNumber (resultNumber (outcome.EndsEarly 0))
-numberReply NotShortest = noNumber (resultNumber (outcome.NotShortest 0))
+numberReply EndsEarly = noNumber (resultNumber (result.EndsEarly 0))
+numberReply NotShortest = noNumber (resultNumber (result.NotShortest 0))
 
 -- what a command of BIAS may read on a 637 where all inputs are low and no wait is pending
 abbrev pub low : Context

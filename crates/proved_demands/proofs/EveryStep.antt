@@ -100,13 +100,13 @@ module _ (image b : List ℕ) (x : Inputs) where
     abbrev s : State
     s = decoded b
 
-    abbrev k : Task
-    k = taskAt s (x .task)
+    abbrev task : Task
+    task = taskAt s (x .task)
 
     good : isState b ≡ true → GoodState s
     good is = state-good b own is
 
-    to-task : Held b x → stepped image b x ≡ handed (taskStep image s x k)
+    to-task : Held b x → stepped image b x ≡ handed (taskStep image s x task)
     unfolding step
     to-task h =
         of-buffer image b x (h .asked .task) (h .asked .levels)
@@ -114,75 +114,76 @@ module _ (image b : List ℕ) (x : Inputs) where
         ∙ ap handed (rw (lt-ltb (x .task) taskCount (h .asked .task), eq-eqb (length (x .levels)) inputsLength (h .asked .levels)))
 
     -- refused by 18 or 17: the state is put back as it was
-    put-back : Held b x → (a : Answer) → taskStep image s x k ≡ engine.refuse s a → Gives (answerFor None a) b
+    put-back : Held b x → (a : Answer) → taskStep image s x task ≡ engine.refuse s a → Gives (answerFor None a) b
     unfolding handed
     put-back h a e =
         given-by (answerFor None a) b (to-task h ∙ ap handed e ∙ (λ ι. record { answer = answerFor None a; buffer = encode-decode b own (h .state) ι }))
 
     module _ (r : Ready image b x) where
       abbrev e : Effect
-      e = effectOf (x .levels) (contextOf s k x) (commandOf image s x) (s .values)
+      e = effectOf (x .levels) (contextOf s task x) (commandOf image s x) (s .values)
 
-      performs : stepped image b x ≡ handed (performed s x k e)
+      performs : stepped image b x ≡ handed (performed s x task e)
       unfolding taskStep
-      performs = to-task (r .runs .held) ∙ ap handed (rw (eq-eqb (k .status) runs (r .runs .running), r .fits))
+      performs = to-task (r .runs .held) ∙ ap handed (rw (eq-eqb (task .status) runs (r .runs .running), r .fits))
 
       -- the command's number is 0 where it does not halt its task
-      carried : answerTo (e .outcome) (pointOf (x .task) k) ≡ Done
-          → Gives (answerFor (carriedOut (blocksOf image) s x k .request) Done) (encoded (carriedOut (blocksOf image) s x k .state))
+      carried : answerTo (e .outcome) (pointOf (x .task) task) ≡ Done
+          → Gives (answerFor (carriedOut (blocksOf image) s x task .request) Done) (encoded (carriedOut (blocksOf image) s x task .state))
       unfolding handed performed
-      carried z = given-by _ _ (performs ∙ (λ ι. record { answer = answerFor (e .request) (z ι); buffer = encoded (carriedOut (blocksOf image) s x k .state) }))
+      carried z = given-by _ _ (performs
+          ∙ (λ ι. record { answer = answerFor (e .request) (z ι); buffer = encoded (carriedOut (blocksOf image) s x task .state) }))
 
       task-good : GoodState s
       task-good = good (r .runs .held .state)
 
-      rule : Law (commandOf image s x .code) (commandOf image s x) (contextOf s k x) (s .values) e
+      rule : Law (commandOf image s x .code) (commandOf image s x) (contextOf s task x) (s .values) e
       rule = law image bytes s task-good x (r .runs .held .asked .task) (r .runs .running) (r .fits)
 
       reason-of : (q : Cause) → e .outcome ≡ outcome.Halt q → ReasonHere image b x q
       reason-of q i =
           let fitting = fit-here image bytes s task-good x (r .runs .held .asked .task) (r .runs .running) (r .fits) in
-          subst (Halting (commandOf image s x) (s .values) (k .time)) i (rule .outcome .halt (s .header .count) (fitting .ranges))
+          subst (Halting (commandOf image s x) (s .values) (task .time)) i (rule .outcome .halt (s .header .count) (fitting .ranges))
 
       -- 17 lets a pending wait stand at a wait alone
-      wait-here : isSet (k .time) ≡ true → isWait (commandOf image s x .code) ≡ true
+      wait-here : isSet (task .time) ≡ true → isWait (commandOf image s x .code) ≡ true
       unfolding fits
       wait-here t =
-          let here = both (isLoaded (headerOf image) (s .header)) (blockFits (termsHeld s) (blocksOf image) (x .task) k && waitFits (blocksOf image) k)
+          let here = both (isLoaded (headerOf image) (s .header)) (blockFits (termsHeld s) (blocksOf image) (x .task) task && waitFits (blocksOf image) task)
           (r .fits) in
-          let waiting = both (blockFits (termsHeld s) (blocksOf image) (x .task) k) (waitFits (blocksOf image) k) (here .1) .1 in
+          let waiting = both (blockFits (termsHeld s) (blocksOf image) (x .task) task) (waitFits (blocksOf image) task) (here .1) .1 in
           sym (ap (λ (u : Bool). not u || isWait (commandOf image s x .code)) t) ∙ waiting
 
-      halting : (q : Cause) → e .outcome ≡ outcome.Halt q → Gives (answerFor None (Halted q (pointOf (x .task) k))) (encoded (haltedState s x))
+      halting : (q : Cause) → e .outcome ≡ outcome.Halt q → Gives (answerFor None (Halted q (pointOf (x .task) task))) (encoded (haltedState s x))
       unfolding handed performed
       halting q i =
           let still = rule .still (ap isHalt i) in
-          let time = unpending (commandOf image s x) (s .values) (k .time) (reason-of q i) wait-here in
-          let turns = no-turns (s .header .drive .model) (k .time) (k .turns) (task-good .task (x .task) (r .runs .held .asked .task) .wait) time in
+          let time = unpending (commandOf image s x) (s .values) (task .time) (reason-of q i) wait-here in
+          let turns = no-turns (s .header .drive .model) (task .time) (task .turns) (task-good .task (x .task) (r .runs .held .asked .task) .wait) time in
           given-by _ _ (performs
           ∙ (λ ι. record {
-            answer = answerFor (still .1 ι) (answerTo (i ι) (pointOf (x .task) k));
+            answer = answerFor (still .1 ι) (answerTo (i ι) (pointOf (x .task) task));
             buffer = encoded (record {
               values = noted (x .task) (x .start) (still .0 ι);
               header = s .header;
               tasks =
-                  tasksAfter (s .header .start) (x .task) k (i ι) (s .tasks);
+                  tasksAfter (s .header .start) (x .task) task (i ι) (s .tasks);
             });
           })
           ∙ (λ ι. record {
-            answer = answerFor None (Halted q (pointOf (x .task) k));
+            answer = answerFor None (Halted q (pointOf (x .task) task));
             buffer = encoded (record {
               values = noted (x .task) (x .start) (s .values);
               header = s .header;
               tasks =
-                  set (s .tasks) (x .task) (status-alone k time turns ι);
+                  set (s .tasks) (x .task) (status-alone task time turns ι);
             });
           }))
 
       -- a command without a reason does not halt
       going : ((q : Cause) → ReasonHere image b x q → ⊥)
-          → Gives (answerFor (carriedOut (blocksOf image) s x k .request) Done) (encoded (carriedOut (blocksOf image) s x k .state))
-      going n = ⊎-elim (λ h. absurd (n (h .0) (reason-of (h .0) (h .1)))) (λ h. carried (h .0)) (halt-or-done (e .outcome) (pointOf (x .task) k))
+          → Gives (answerFor (carriedOut (blocksOf image) s x task .request) Done) (encoded (carriedOut (blocksOf image) s x task .state))
+      going n = ⊎-elim (λ h. absurd (n (h .0) (reason-of (h .0) (h .1)))) (λ h. carried (h .0)) (halt-or-done (e .outcome) (pointOf (x .task) task))
 
     -- ---- what a way says is what the step gives
 
@@ -191,10 +192,10 @@ module _ (image b : List ℕ) (x : Inputs) where
     gives _ _ (Way.noTask l) = given-by _ _ (no-task image b x l)
     gives _ _ (Way.badInputs l n) = given-by _ _ (bad-inputs image b x l n)
     gives _ _ (Way.noState q is) = given-by _ _ (of-buffer image b x (q .task) (q .levels) ∙ no-state image b x is)
-    gives _ _ (Way.notRunning h n) = put-back h NotRunning (rw (ne-eqb (k .status) runs n))
-    gives _ _ (Way.differs h f) = put-back (h .held) (Differs (pointOf (x .task) k)) (rw (eq-eqb (k .status) runs (h .running), f))
+    gives _ _ (Way.notRunning h n) = put-back h NotRunning (rw (ne-eqb (task .status) runs n))
+    gives _ _ (Way.differs h f) = put-back (h .held) (Differs (pointOf (x .task) task)) (rw (eq-eqb (task .status) runs (h .running), f))
     gives _ _ (Way.done r n) = going r n
-    gives _ _ (Way.halts r q h) = halting r q (halts-for (x .levels) (contextOf s k x) (commandOf image s x) (s .values) h)
+    gives _ _ (Way.halts r q h) = halting r q (halts-for (x .levels) (contextOf s task x) (commandOf image s x) (s .values) h)
 
     -- ---- a step goes some way
 
@@ -209,19 +210,19 @@ module _ (image b : List ℕ) (x : Inputs) where
     executed-way : Ready image b x → Some
     executed-way r =
         ⊎-elim (λ h. goes (Way.halts r (h .0) (reason-of r (h .0) (h .1))))
-        (λ h. goes (Way.done r (λ q w. clash (ap isHalt (sym (halts-for (x .levels) (contextOf s k x) (commandOf image s x) (s .values) w)) ∙ h .1))))
-        (halt-or-done (e r .outcome) (pointOf (x .task) k))
+        (λ h. goes (Way.done r (λ q w. clash (ap isHalt (sym (halts-for (x .levels) (contextOf s task x) (commandOf image s x) (s .values) w)) ∙ h .1))))
+        (halt-or-done (e r .outcome) (pointOf (x .task) task))
 
-    running-way : Running b x → (t : Bool) → fits image (termsHeld s) (x .task) k ≡ t → Some
+    running-way : Running b x → (t : Bool) → fits image (termsHeld s) (x .task) task ≡ t → Some
     running-way h true f = executed-way (record { runs = h; fits = f })
     running-way h false f = goes (Way.differs h f)
 
-    held-way : Held b x → (t : Bool) → eqb (k .status) runs ≡ t → Some
-    held-way h true f = running-way (record { held = h; running = eqb-true _ _ f }) (fits image (termsHeld s) (x .task) k) refl
+    held-way : Held b x → (t : Bool) → eqb (task .status) runs ≡ t → Some
+    held-way h true f = running-way (record { held = h; running = eqb-true _ _ f }) (fits image (termsHeld s) (x .task) task) refl
     held-way h false f = goes (Way.notRunning h (eqb-false _ _ f))
 
     asked-way : Asked x → (t : Bool) → isState b ≡ t → Some
-    asked-way q true is = held-way (record { asked = q; state = is }) (eqb (k .status) runs) refl
+    asked-way q true is = held-way (record { asked = q; state = is }) (eqb (task .status) runs) refl
     asked-way q false is = goes (Way.noState q is)
 
     some-way : Some

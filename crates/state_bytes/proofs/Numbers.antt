@@ -16,7 +16,7 @@ use Rattle.num_arith.specs.Wrap.{word, wrap}
 use Rattle.num_arith.proofs.Cut.{word-fits, word-same, wrap-same}
 use Rattle.num_le.specs.LittleEndian.{Bytes, leBytes}
 use Rattle.state_bytes.specs.Bytes.{leNumberAt, signedAt, signedBytes, concatenated}
-use Rattle.state_bytes.proofs.Puts.{length-runs}
+use Rattle.state_bytes.proofs.Puts.{length-concatenated}
 
 -- a number read where its bytes are
 pub number : (n : ℕ) {s : List ℕ} {at : ℕ} (v : ℕ) → v < 256 ^ n → Has s at (leBytes n v) → leNumberAt n s at ≡ v
@@ -42,7 +42,7 @@ unfolding concatenated
 each f m long zero h k lt = absurd (omega arith)
 each f m long (suc n) {s} {at} h k lt =
     below-more (λ (j : ℕ). Has s (at + m * j) (f j)) n (each f m long n (left (concatenated n f) (f n) h))
-    (right (concatenated n f) (f n) (m * n) (length-runs f m long n) h) k (omega arith)
+    (right (concatenated n f) (f n) (m * n) (length-concatenated f m long n) h) k (omega arith)
 
 -- ---- the other way
 
@@ -71,4 +71,4 @@ pub run : (f : ℕ → List ℕ) (m : ℕ) → ((k : ℕ) → length (f k) ≡ m
 unfolding concatenated
 run f m long zero s at h = nil
 run f m long (suc n) s at h =
-    join (concatenated n f) (f n) (m * n) (length-runs f m long n) (run f m long n s at (λ k lt. h k (omega arith))) (h n (omega arith))
+    join (concatenated n f) (f n) (m * n) (length-concatenated f m long n) (run f m long n s at (λ k lt. h k (omega arith))) (h n (omega arith))

@@ -77,24 +77,26 @@ puts-all s at i n l x a b h e = e ∙ ap (puts s at) (take-all i l (omega arith)
 
 -- ---- runs
 
-pub runs-none : (f : ℕ → List ℕ) (s : List ℕ) (at : ℕ) → s ≡ puts s at (concatenated 0 f)
+pub concatenated-none : (f : ℕ → List ℕ) (s : List ℕ) (at : ℕ) → s ≡ puts s at (concatenated 0 f)
 unfolding puts concatenated
-runs-none f s at = refl
+concatenated-none f s at = refl
 
 module _ (f : ℕ → List ℕ) (m : ℕ) (each : (k : ℕ) → length (f k) ≡ m) where
-  pub length-runs : (n : ℕ) → length (concatenated n f) ≡ m * n
+  pub length-concatenated : (n : ℕ) → length (concatenated n f) ≡ m * n
   unfolding concatenated
-  length-runs zero = omega arith
-  length-runs (suc n) = length-append (concatenated n f) (f n) ∙ let a = each n in let b = length-runs n in let g = mul-suc m n in omega arith
+  length-concatenated zero = omega arith
+  length-concatenated (suc n) = length-append (concatenated n f) (f n) ∙ let a = each n in let b = length-concatenated n in let g = mul-suc m n in omega arith
 
   -- a turn of a loop that puts the bytes of each element
-  pub runs-more : (s : List ℕ) (at i : ℕ) (l : List ℕ) → l ≡ puts s at (concatenated i f) → puts l (at + m * i) (f i) ≡ puts s at (concatenated (i + 1) f)
+  pub concatenated-more : (s : List ℕ) (at i : ℕ) (l : List ℕ) → l ≡ puts s at (concatenated i f)
+      → puts l (at + m * i) (f i) ≡ puts s at (concatenated (i + 1) f)
   unfolding concatenated
-  runs-more s at i l e =
+  concatenated-more s at i l e =
       ap (λ (x : List ℕ). puts x (at + m * i) (f i)) e
-      ∙ behind s at (m * i) (concatenated i f) (f i) (length-runs i)
+      ∙ behind s at (m * i) (concatenated i f) (f i) (length-concatenated i)
       ∙ ap (λ (k : ℕ). puts s at (concatenated k f)) (sym (add-one i))
 
 -- all turns
-pub runs-all : (f : ℕ → List ℕ) (s : List ℕ) (at i n : ℕ) (l : List ℕ) → i ≤ n → n ≤ i → l ≡ puts s at (concatenated i f) → l ≡ puts s at (concatenated n f)
-runs-all f s at i n l a b e = let g : i ≡ n = omega arith in rw g at e
+pub concatenated-all : (f : ℕ → List ℕ) (s : List ℕ) (at i n : ℕ) (l : List ℕ) → i ≤ n → n ≤ i → l ≡ puts s at (concatenated i f)
+    → l ≡ puts s at (concatenated n f)
+concatenated-all f s at i n l a b e = let g : i ≡ n = omega arith in rw g at e

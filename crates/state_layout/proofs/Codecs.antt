@@ -19,7 +19,7 @@ use Rattle.image_header.specs.GoodHeader.{GoodHeader}
 use Rattle.image_header.specs.declared.Header.{Header}
 use Rattle.num_le.specs.LittleEndian.{Bytes, leBytes}
 use Rattle.state_bytes.specs.Bytes.{leNumberAt, signedAt, signedBytes}
-use Rattle.state_bytes.proofs.Puts.{length-runs}
+use Rattle.state_bytes.proofs.Puts.{length-concatenated}
 use Rattle.logic.proofs.Has.{Has}
 use Rattle.state_bytes.proofs.Numbers.{number, signed, each, run, number-below, of-number, of-signed}
 use Rattle.state_bytes.proofs.Tables.{table-is, length-table, getD-table}
@@ -42,7 +42,7 @@ use Rattle.state_layout.proofs.Bounds.{TaskFits}
 
 pub variables-long : (v : List ℤ) → length (variableBytes v) ≡ variablesLength
 unfolding variableBytes
-variables-long v = length-runs (λ (k : ℕ). signedBytes (getD v k (pos 0))) 4 (λ k. refl) cells
+variables-long v = length-concatenated (λ (k : ℕ). signedBytes (getD v k (pos 0))) 4 (λ k. refl) cells
 
 pub variables-back : (l : List ℕ) (at : ℕ) (v : List ℤ) → length v ≡ cells → ((i : ℕ) → SFits w32 (getD v i (pos 0))) → Has l at (variableBytes v)
     → variablesIn l at ≡ v
@@ -147,7 +147,7 @@ starts-back l at s p m x = record-back startWidths (taskAt s plc .start ∷ task
 
 pub stack-long : (l : List ℕ) → length (stackBytes l) ≡ 2 * mostDepth
 unfolding stackBytes
-stack-long l = length-runs (λ (i : ℕ). leBytes 2 (getD l i 0)) 2 (λ i. refl) mostDepth
+stack-long l = length-concatenated (λ (i : ℕ). leBytes 2 (getD l i 0)) 2 (λ i. refl) mostDepth
 
 stack-back : (l : List ℕ) (at : ℕ) (v : List ℕ) → length v ≡ mostDepth → ((i : ℕ) → i < mostDepth → getD v i 0 < 65536) → Has l at (stackBytes v)
     → stackIn l at ≡ v

@@ -1,5 +1,5 @@
--- `bias_run::run_steps` meets its contract: what is left of the steps, from the buffer as it is, ends where all of them from the first buffer end. The measure is
--- how many steps there can still be.
+-- `bias_run::run_steps` meets its contract: what is left of the steps, from the buffer as it is, ends where all of them from the first buffer end. The measure
+-- is how many steps there can still be.
 use borrow.Author.Needs.{needs}
 use borrow.Author.Tests.{not-true}
 use denote.Ref.{now}

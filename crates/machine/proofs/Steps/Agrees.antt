@@ -47,8 +47,8 @@ module _ (image : List ℕ) where
     abbrev t : ℕ
     t = x .task
 
-    abbrev k : Task
-    k = taskAt s t
+    abbrev task : Task
+    task = taskAt s t
 
     abbrev p : Thread
     p = threadOf image m x
@@ -57,16 +57,16 @@ module _ (image : List ℕ) where
     c = commandOf image s x
 
     done-same : Ran image s m x → (e : Effect) → Allows (flowOf (hd image) c) (e .outcome) → timeless (c .code) (e .outcome) ≡ true
-        → SameStep (performed s x k e) (does m x p e)
+        → SameStep (performed s x task e) (does m x p e)
     unfolding performed does
     done-same r e f w = record {
       agree = record {
         header = g .header;
         both = rw (g .header) (turned image ok (s .tasks) (m .threads) (g .both) t (r .task) (r .running) (e .outcome) f w);
-        values = noted-alike s x k e;
+        values = noted-alike s x task e;
       };
       request = refl;
-      answer = answers-same (e .outcome) t k p (g .both .same t (r .task) .block (r .running)) (r .depth);
+      answer = answers-same (e .outcome) t task p (g .both .same t (r .task) .block (r .running)) (r .depth);
     }
 
     pub step-same : SameStep (step image s x) (referenceStep image m x)

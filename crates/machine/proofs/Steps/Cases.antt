@@ -102,46 +102,46 @@ module _ (image : List ℕ) where
     abbrev t : ℕ
     t = x .task
 
-    abbrev k : Task
-    k = taskAt s t
+    abbrev own : Task
+    own = taskAt s t
 
     abbrev p : Thread
     p = getD (m .threads) t idle
 
     abbrev c : Command
-    c = commandAt bs (k .block)
+    c = commandAt bs (own .block)
 
-    here : Reaches h bs (pointOf t k)
+    here : Reaches h bs (pointOf t own)
     here = g .both .sound t l .reach r
 
-    same : SameTask k p
+    same : SameTask own p
     same = g .both .same t l
 
     -- 17 lets every step of a run pass
-    fits-here : fits image (termsHeld s) t k ≡ true
+    fits-here : fits image (termsHeld s) t own ≡ true
     unfolding fits
     fits-here =
         rw (
           ok .read,
           g .header,
           is-same (h .header),
-          ok .blocks (k .block) (within image ok (pointOf t k) here .block),
-          ok .fine (pointOf t k) here,
+          ok .blocks (own .block) (within image ok (pointOf t own) here .block),
+          ok .fine (pointOf t own) here,
           g .both .sound t l .wait r,
         )
 
     carried-here : rowOf (c .code) .carried ≡ true
-    carried-here = used-carried h (c .code) t (passing image ok (pointOf t k) here .allowed)
+    carried-here = used-carried h (c .code) t (passing image ok (pointOf t own) here .allowed)
 
-    depth-here : k .depth ≡ length (p .returns)
-    depth-here = sym (length-returns (k .stack) (k .depth)) ∙ ap length (same .returns r)
+    depth-here : own .depth ≡ length (p .returns)
+    depth-here = sym (length-returns (own .stack) (own .depth)) ∙ ap length (same .returns r)
 
     -- what the command comes to
     abbrev e : Effect
     e = effectHere s x
 
-    law : Law (c .code) c (contextOf s k x) (s .values) e
-    law = every-law (x .levels) (contextOf s k x) c (s .values) carried-here
+    law : Law (c .code) c (contextOf s own x) (s .values) e
+    law = every-law (x .levels) (contextOf s own x) c (s .values) carried-here
 
     in-flow : Allows (flowOf h c) (e .outcome)
     unfolding flowOf
@@ -154,7 +154,7 @@ module _ (image : List ℕ) where
     not-lost (Call a) f = refl
     not-lost Return f =
         some (p .returns)
-        (λ e. eqb-false (k .depth) 0 (sym (return-deep (pointOf t k) (flowOf h c) f) ∙ passing image ok (pointOf t k) here .called) (depth-here ∙ e))
+        (λ e. eqb-false (own .depth) 0 (sym (return-deep (pointOf t own) (flowOf h c) f) ∙ passing image ok (pointOf t own) here .called) (depth-here ∙ e))
       where
         some : (xs : List ℕ) → (length xs ≡ 0 → ⊥) → lost Return xs ≡ false
         some [] n = absurd (n refl)
@@ -167,7 +167,7 @@ module _ (image : List ℕ) where
     -- the reference machine sees the same wait and values
     effect-same : effectOf (x .levels)
         (record { drive = headerOf image .header .drive; start = level (x .start); reached = level (x .reached); time = p .time; turns = p .turns })
-        (commandAt (blocksOf image) (k .block)) (m .values)
+        (commandAt (blocksOf image) (own .block)) (m .values)
         ≡ e
     effect-same = rw (← same .time r, ← same .turns r, ← g .values, g .header)
 
@@ -179,18 +179,18 @@ module _ (image : List ℕ) where
     unfolding acts
     acts-is =
         rw (
-          lt-ltb (p .block) (h .header .count) (subst (λ (b : ℕ). b < h .header .count) (same .block r) (within image ok (pointOf t k) here .block)),
+          lt-ltb (p .block) (h .header .count) (subst (λ (b : ℕ). b < h .header .count) (same .block r) (within image ok (pointOf t own) here .block)),
           ← same .block r,
           carried-here,
         )
         (ap (tries m x p) effect-same ∙ tries-is)
 
-    ran-here : step image s x ≡ performed s x k e → referenceStep image m x ≡ acts image m x p → Case s m x
+    ran-here : step image s x ≡ performed s x own e → referenceStep image m x ≡ acts image m x p → Case s m x
     ran-here i j = Case.ran (record {
       task = l;
       running = r;
       depth = depth-here;
-      passes = passing image ok (pointOf t k) here;
+      passes = passing image ok (pointOf t own) here;
       law = law;
       engine = i;
       reference = j ∙ acts-is;

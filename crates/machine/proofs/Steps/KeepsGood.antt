@@ -201,8 +201,8 @@ module _ (image : List ℕ) (bytes : Bytes image) (s : State) (g : GoodState s) 
   abbrev t : ℕ
   t = x .task
 
-  abbrev k : Task
-  k = taskAt s t
+  abbrev own : Task
+  own = taskAt s t
 
   abbrev h : Header
   h = s .header
@@ -211,24 +211,24 @@ module _ (image : List ℕ) (bytes : Bytes image) (s : State) (g : GoodState s) 
   bs = blocksOf image
 
   abbrev p : Point
-  p = pointOf t k
+  p = pointOf t own
 
   abbrev c : Command
-  c = commandAt bs (k .block)
+  c = commandAt bs (own .block)
 
   abbrev e : Effect
-  e = effectOf (x .levels) (contextOf s k x) c (s .values)
+  e = effectOf (x .levels) (contextOf s own x) c (s .values)
 
-  known : GoodTask h k
+  known : GoodTask h own
   known = g .task t l
 
   -- the block, by 5 to 8 and 23, and at its point by 9 to 12
-  block-fits : (eqb (blockNumber (under h) bs (k .block)) 0 ≡ true) × (eqb (faultNumber (faultAt (under h) bs p)) 0 ≡ true)
+  block-fits : (eqb (blockNumber (under h) bs (own .block)) 0 ≡ true) × (eqb (faultNumber (faultAt (under h) bs p)) 0 ≡ true)
   unfolding fits
   block-fits =
-      let a = both (isLoaded (headerOf image) h) (blockFits (under h) bs t k && waitFits bs k) pass in
-      let b = both (blockFits (under h) bs t k) (waitFits bs k) (a .1) in
-      both (eqb (blockNumber (under h) bs (k .block)) 0) (eqb (faultNumber (faultAt (under h) bs p)) 0) (b .0)
+      let a = both (isLoaded (headerOf image) h) (blockFits (under h) bs t own && waitFits bs own) pass in
+      let b = both (blockFits (under h) bs t own) (waitFits bs own) (a .1) in
+      both (eqb (blockNumber (under h) bs (own .block)) 0) (eqb (faultNumber (faultAt (under h) bs p)) 0) (b .0)
 
   fault-free : faultAt (under h) bs p ≡ Fine
   fault-free = no-fault (faultAt (under h) bs p) (eqb-true _ 0 (block-fits .1))
@@ -244,50 +244,51 @@ module _ (image : List ℕ) (bytes : Bytes image) (s : State) (g : GoodState s) 
 
   pub fit-here : Fit (h .count) c
   unfolding commandAt
-  fit-here = fit h (blockAt bs (k .block)) (bytes-at image bytes (k .block)) (eqb-true _ 0 (block-fits .0))
+  fit-here = fit h (blockAt bs (own .block)) (bytes-at image bytes (own .block)) (eqb-true _ 0 (block-fits .0))
 
-  pub law : Law (c .code) c (contextOf s k x) (s .values) e
-  law = every-law (x .levels) (contextOf s k x) c (s .values) (used-carried (under h) (c .code) t (passed .allowed))
+  pub law : Law (c .code) c (contextOf s own x) (s .values) e
+  law = every-law (x .levels) (contextOf s own x) c (s .values) (used-carried (under h) (c .code) t (passed .allowed))
 
   tasks : GoodTasks h (s .tasks)
   tasks = record { three = g .three; task = g .task; first = g .first }
 
-  kept-start : t ≡ bias → k .start ≡ h .start
+  kept-start : t ≡ bias → own .start ≡ h .start
   kept-start i = rw i (g .first)
 
-  here : (k′ : Task) → GoodTask h k′ → k′ .start ≡ k .start → GoodTasks h (set (s .tasks) t k′)
-  here k′ d i = put-good h (s .tasks) t k′ tasks l d (λ j. i ∙ kept-start j)
+  here : (own′ : Task) → GoodTask h own′ → own′ .start ≡ own .start → GoodTasks h (set (s .tasks) t own′)
+  here own′ d i = put-good h (s .tasks) t own′ tasks l d (λ j. i ∙ kept-start j)
 
-  goes-on : (b : ℕ) → b < h .count → GoodTasks h (set (s .tasks) t (goTo b k))
-  goes-on b i = here (goTo b k) (go-good h k known b i) refl
+  goes-on : (b : ℕ) → b < h .count → GoodTasks h (set (s .tasks) t (goTo b own))
+  goes-on b i = here (goTo b own) (go-good h own known b i) refl
 
   -- another task starts, or the own one does
   starts : (u a : ℕ) → Allows (flowOf (under h) c) (Start u a) → Dec (u ≡ t)
-      → GoodTasks h (set (set (s .tasks) t (goTo (k .block + 1) k)) u (startAnew (h .start) u a))
+      → GoodTasks h (set (set (s .tasks) t (goTo (own .block + 1) own)) u (startAnew (h .start) u a))
   starts u a m (no n) =
       let w = next _ (start-in p (flowOf (under h) c) u a m) in
-      put-good h (set (s .tasks) t (goTo (k .block + 1) k)) u (startAnew (h .start) u a)
-      (goes-on (k .block + 1) (next _ (start-on p (flowOf (under h) c) u a m n) .block)) (w .task) (start-good h u a (w .block) (g .header .start))
+      put-good h (set (s .tasks) t (goTo (own .block + 1) own)) u (startAnew (h .start) u a)
+      (goes-on (own .block + 1) (next _ (start-on p (flowOf (under h) c) u a m n) .block)) (w .task) (start-good h u a (w .block) (g .header .start))
       (λ i. rw i refl)
   starts u a m (yes i) =
       let w = next _ (start-in p (flowOf (under h) c) u a m) in
-      rw (i, set-set (s .tasks) t (goTo (k .block + 1) k) (startAnew (h .start) t a))
+      rw (i, set-set (s .tasks) t (goTo (own .block + 1) own) (startAnew (h .start) t a))
       (put-good h (s .tasks) t (startAnew (h .start) t a) tasks l (start-good h t a (w .block) (g .header .start)) (λ j. rw j refl))
 
-  turned : (o : Outcome) → Allows (flowOf (under h) c) o → Staying (h .drive .model) o → GoodTasks h (tasksAfter (h .start) t k o (s .tasks))
-  turned GoOn m w = goes-on (k .block + 1) (next _ (on-in p (flowOf (under h) c) m) .block)
-  turned (Stay time turns) m w = here (stayWith time turns k) (stay-good h k known time turns w) refl
+  turned : (o : Outcome) → Allows (flowOf (under h) c) o → Staying (h .drive .model) o → GoodTasks h (tasksAfter (h .start) t own o (s .tasks))
+  turned GoOn m w = goes-on (own .block + 1) (next _ (on-in p (flowOf (under h) c) m) .block)
+  turned (Stay time turns) m w = here (stayWith time turns own) (stay-good h own known time turns w) refl
   turned (Jump a) m w = goes-on a (next _ (jump-in p (flowOf (under h) c) a m) .block)
   turned (Call a) m w =
-      let d = leb-false mostDepth (k .depth) (sym (call-deep p (flowOf (under h) c) a m) ∙ passed .shallow) in
-      here (callTo a k) (call-good h k known a (next _ (call-in p (flowOf (under h) c) a m) .block) (next _ (behind-in p (flowOf (under h) c) a m) .block) d)
+      let d = leb-false mostDepth (own .depth) (sym (call-deep p (flowOf (under h) c) a m) ∙ passed .shallow) in
+      here (callTo a own) (call-good h own known a (next _ (call-in p (flowOf (under h) c) a m) .block) (next _ (behind-in p (flowOf (under h) c) a m) .block)
+      d)
       refl
   turned Return m w =
-      here (returnFrom k) (return-good h k known (eqb-false (k .depth) 0 (sym (return-deep p (flowOf (under h) c) m) ∙ passed .called))) refl
+      here (returnFrom own) (return-good h own known (eqb-false (own .depth) 0 (sym (return-deep p (flowOf (under h) c) m) ∙ passed .called))) refl
   turned (Start u a) m w = starts u a m (ℕ-discrete u t)
-  turned Restart m w = here (restarted k) (restart-good h k known) refl
-  turned End m w = here (stopped ended k) (stop-good h k known ended (omega arith)) refl
-  turned (Halt q) m w = here (stopped halted k) (stop-good h k known halted (omega arith)) refl
+  turned Restart m w = here (restarted own) (restart-good h own known) refl
+  turned End m w = here (stopped ended own) (stop-good h own known ended (omega arith)) refl
+  turned (Halt q) m w = here (stopped halted own) (stop-good h own known halted (omega arith)) refl
 
   keeps-values : (v : Values) → GoodValues v → GoodValues (keeps t (x .start) v)
   keeps-values v d = go (eqb t bias)
@@ -296,13 +297,13 @@ module _ (image : List ℕ) (bytes : Bytes image) (s : State) (g : GoodState s) 
       go true = notes-good v d (level (x .start)) (level-level (x .start))
       go false = d
 
-  pub performed-good : GoodState (performed s x k e .state)
+  pub performed-good : GoodState (performed s x own e .state)
   unfolding performed flowOf
   performed-good =
       let d = turned (e .outcome) (law .outcome .flow) (law .outcome .wait (h .count) fit-here (known .wait)) in
       record {
         header = g .header;
-        values = subst GoodValues (sym (noted-alike s x k e)) (keeps-values (e .values) (law .values (h .count) fit-here (g .values)));
+        values = subst GoodValues (sym (noted-alike s x own e)) (keeps-values (e .values) (law .values (h .count) fit-here (g .values)));
         three = d .three;
         task = d .task;
         first = d .first;

@@ -173,8 +173,8 @@ module _ (image : List ℕ) (ok : Accepted image) (s : State) (m : Machine) (g :
     abbrev t : ℕ
     t = x .task
 
-    abbrev k : Task
-    k = taskAt s t
+    abbrev task : Task
+    task = taskAt s t
 
     abbrev c : Command
     c = commandOf image s x
@@ -183,7 +183,7 @@ module _ (image : List ℕ) (ok : Accepted image) (s : State) (m : Machine) (g :
     o = effectHere image s x .outcome
 
     abbrev b : ℕ
-    b = k .block
+    b = task .block
 
     module _ (r : Ran image s m x) where
       flows : Flows (c .code) (rowOf (c .code) .flow)
@@ -197,11 +197,11 @@ module _ (image : List ℕ) (ok : Accepted image) (s : State) (m : Machine) (g :
       present : t < length (s .tasks)
       present = let e = g .both .three in let l = r .task in omega arith
 
-      tasks-are : step image s x .state .tasks ≡ tasksAfter (s .header .start) t k o (s .tasks)
+      tasks-are : step image s x .state .tasks ≡ tasksAfter (s .header .start) t task o (s .tasks)
       unfolding performed
       tasks-are = ap (λ (q : StepOut). q .state .tasks) (r .engine)
 
-      answer-is : step image s x .answer ≡ answerTo o (pointOf t k)
+      answer-is : step image s x .answer ≡ answerTo o (pointOf t task)
       unfolding performed
       answer-is = ap (λ (q : StepOut). q .answer) (r .engine)
 
@@ -219,7 +219,7 @@ module _ (image : List ℕ) (ok : Accepted image) (s : State) (m : Machine) (g :
 
       calls-are : callsAfter image s x calls ≡ countF (flowOf (hd image) c) t b calls
       unfolding callsAfter
-      calls-are = rw (answer-is, counts-flow (hd image) c flows t b calls) (executed-count calls t b (pointOf t k) (flowOf (hd image) c) o in-flow)
+      calls-are = rw (answer-is, counts-flow (hd image) c flows t b calls) (executed-count calls t b (pointOf t task) (flowOf (hd image) c) o in-flow)
 
       counted : Counts (callsAfter image s x calls) (referenceStep image m x .machine .threads)
       counted =
@@ -233,26 +233,26 @@ module _ (image : List ℕ) (ok : Accepted image) (s : State) (m : Machine) (g :
       part4 e =
           let f = return-flow (hd image) c flows e in
           let i = return-only o (subst (λ (q : Flow). Allows q o) f in-flow) in
-          let z : eqb (k .depth) 0 ≡ false = subst (λ (q : Flow). noCall q (k .depth) ≡ false) f (r .passes .called) in
-          rw (tasks-are, i, getD-set-same (s .tasks) t (returnFrom k) noTask present)
+          let z : eqb (task .depth) 0 ≡ false = subst (λ (q : Flow). noCall q (task .depth) ≡ false) f (r .passes .called) in
+          rw (tasks-are, i, getD-set-same (s .tasks) t (returnFrom task) noTask present)
           (latest-is (calls t) _ _ (n t ∙ sym (g .both .same t (r .task) .returns (r .running))
-          ∙ returns-return (k .stack) (k .depth) (eqb-false (k .depth) 0 z)))
+          ∙ returns-return (task .stack) (task .depth) (eqb-false (task .depth) 0 z)))
 
       part6 : (u : ℕ) → (u ≡ t → ⊥)
           → (taskAt (step image s x .state) u ≡ taskAt s u) ⊎ ((executed (step image s x .answer) ≡ true) × (starts (c .code) u ≡ true))
       part6 u d =
           ⊎-elim (λ e. inl (rw tasks-are e))
           (λ i. inr (rw (answer-is, i .1) refl, start-code (hd image) c flows u (i .0) (subst (Allows (flowOf (hd image) c)) (i .1) in-flow)))
-          (other-task (s .header .start) t k o (s .tasks) u d)
+          (other-task (s .header .start) t task o (s .tasks) u d)
 
       ranged : Ranged (hd image .header .count) c
       unfolding commandAt
       ranged = in-ranges (hd image .header) (blockAt (body image) b)
-          (ok .blocks b (within image ok (pointOf t k) (g .both .sound t (r .task) .reach (r .running)) .block))
+          (ok .blocks b (within image ok (pointOf t task) (g .both .sound t (r .task) .reach (r .running)) .block))
 
       -- the step's own task, where one record was put in its place
-      stays-put : (k′ : Task) → tasksAfter (s .header .start) t k o (s .tasks) ≡ set (s .tasks) t k′ → taskAt (step image s x .state) t ≡ k′
-      stays-put k′ e = ap (λ (ts : List Task). getD ts t noTask) (tasks-are ∙ e) ∙ getD-set-same (s .tasks) t k′ noTask present
+      stays-put : (task′ : Task) → tasksAfter (s .header .start) t task o (s .tasks) ≡ set (s .tasks) t task′ → taskAt (step image s x .state) t ≡ task′
+      stays-put task′ e = ap (λ (ts : List Task). getD ts t noTask) (tasks-are ∙ e) ∙ getD-set-same (s .tasks) t task′ noTask present
 
       header-is : step image s x .state .header ≡ s .header
       unfolding performed
@@ -261,29 +261,29 @@ module _ (image : List ℕ) (ok : Accepted image) (s : State) (m : Machine) (g :
       stopped-by : (o ≡ End) ⊎ ((j : Cause) × (o ≡ Halt j)) → Stopped image s x
       stopped-by (inl e) =
           let q = end-code (hd image) c flows t (r .passes .own) (subst (Allows (flowOf (hd image) c)) e in-flow) in
-          Stopped.byItself (q .0) (q .1) (answer-is ∙ rw e refl) (stays-put (stopped ended k) (rw e refl))
+          Stopped.byItself (q .0) (q .1) (answer-is ∙ rw e refl) (stays-put (stopped ended task) (rw e refl))
       stopped-by (inr (j, e)) =
           let q = r .law .still (rw e refl) in
-          Stopped.byRefusal j (subst (Halting c (s .values) (k .time)) e (r .law .outcome .halt (hd image .header .count) ranged)) (answer-is ∙ rw e refl)
-          (values-are ∙ ap (noted t (x .start)) (q .0)) (stays-put (stopped halted k) (rw e refl)) (request-is ∙ q .1)
+          Stopped.byRefusal j (subst (Halting c (s .values) (task .time)) e (r .law .outcome .halt (hd image .header .count) ranged)) (answer-is ∙ rw e refl)
+          (values-are ∙ ap (noted t (x .start)) (q .0)) (stays-put (stopped halted task) (rw e refl)) (request-is ∙ q .1)
 
       part5 : (u : ℕ) → u < taskCount → taskAt s u .status ≡ runs → (taskAt (step image s x .state) u .status ≡ runs → ⊥) → (u ≡ t) × Stopped image s x
       part5 u l a z = go (ℕ-discrete u t)
         where
-          among : (u : ℕ) → u < taskCount → u < length (set (s .tasks) t (goTo (k .block + 1) k))
-          among u l = let e = length-set (s .tasks) t (goTo (k .block + 1) k) in let f = g .both .three in omega arith
+          among : (u : ℕ) → u < taskCount → u < length (set (s .tasks) t (goTo (task .block + 1) task))
+          among u l = let e = length-set (s .tasks) t (goTo (task .block + 1) task) in let f = g .both .three in omega arith
 
           stayed : (u ≡ t → ⊥) → taskAt (step image s x .state) u .status ≡ runs
           stayed d =
               subst (λ (q : Task). q .status ≡ runs) (sym (ap (λ (ts : List Task). getD ts u noTask) tasks-are))
               (⊎-elim (λ e. subst (λ (q : Task). q .status ≡ runs) (sym e) a)
-              (λ i. rw (i .1, getD-set-same (set (s .tasks) t (goTo (k .block + 1) k)) u (startAnew (s .header .start) u (i .0)) noTask (among u l)) refl)
-              (other-task (s .header .start) t k o (s .tasks) u d))
+              (λ i. rw (i .1, getD-set-same (set (s .tasks) t (goTo (task .block + 1) task)) u (startAnew (s .header .start) u (i .0)) noTask (among u l)) refl)
+              (other-task (s .header .start) t task o (s .tasks) u d))
 
           go : Dec (u ≡ t) → (u ≡ t) × Stopped image s x
           go (yes e) = (
             e,
-            stopped-by (own-task (s .header .start) t k o (s .tasks) present (r .running)
+            stopped-by (own-task (s .header .start) t task o (s .tasks) present (r .running)
                 (λ i. z (subst (λ (w : ℕ). taskAt (step image s x .state) w .status ≡ runs) (sym e) (rw tasks-are i)))),
           )
           go (no d) = absurd (z (stayed d))

@@ -5,7 +5,7 @@ use lib.ListN.{getD}
 use Rattle.limits.specs.Limits.{mostDepth}
 use Rattle.num_le.specs.LittleEndian.{leBytes}
 use Rattle.state_bytes.specs.Bytes.{puts, concatenated}
-use Rattle.state_bytes.proofs.Puts.{runs-none, runs-more, runs-all}
+use Rattle.state_bytes.proofs.Puts.{concatenated-none, concatenated-more, concatenated-all}
 use Rattle.state_layout.specs.Codecs.{stackBytes}
 use borrow.Author.Needs.{needs}
 use Rattle.state_encode.proofs.put_stack.Statement.{statement}
@@ -23,7 +23,8 @@ loop-again c =
     let l = c .before .before .before .before .loop in (
       search needs,
       c .put-word .ensures
-          ∙ runs-more (λ (j : ℕ). leBytes 2 (getD (st .args .stack .now) j 0)) 2 (λ j. refl) (st .args .b .now) (st .args .at) (l .i) (l .b) (l .inv .1),
+          ∙ concatenated-more (λ (j : ℕ). leBytes 2 (getD (st .args .stack .now) j 0)) 2 (λ j. refl) (st .args .b .now) (st .args .at) (l .i) (l .b)
+          (l .inv .1),
     )
 
 returns : tie.Need-returns Inv-loop μ-loop
@@ -31,7 +32,8 @@ unfolding stackBytes
 returns c =
     let st = c .before .before in
     let l = c .before .loop in
-    runs-all (λ (j : ℕ). leBytes 2 (getD (st .args .stack .now) j 0)) (st .args .b .now) (st .args .at) (l .i) mostDepth (l .b) (l .inv .0) (c .loop-test .left)
+    concatenated-all (λ (j : ℕ). leBytes 2 (getD (st .args .stack .now) j 0)) (st .args .b .now) (st .args .at) (l .i) mostDepth (l .b) (l .inv .0)
+    (c .loop-test .left)
     (l .inv .1)
 
 pub put-stack-spec : {M : Type 1} → statement M
@@ -40,7 +42,7 @@ put-stack-spec =
     (tie.spec
     Inv-loop
     μ-loop
-    (λ c. (search needs, runs-none _ _ _))
+    (λ c. (search needs, concatenated-none _ _ _))
     (λ c. search needs)
     (λ c. search needs)
     (λ c. search needs)

@@ -7,7 +7,7 @@ use mir.Syntax.{w32}
 use mir.Facts.{toZ-ofZ}
 use Rattle.limits.specs.Limits.{cells}
 use Rattle.state_bytes.specs.Bytes.{puts, concatenated, signedBytes}
-use Rattle.state_bytes.proofs.Puts.{runs-none, runs-more, runs-all}
+use Rattle.state_bytes.proofs.Puts.{concatenated-none, concatenated-more, concatenated-all}
 use Rattle.state_layout.specs.Codecs.{variableBytes}
 use borrow.Author.Needs.{needs}
 use Rattle.state_encode.proofs.put_variables.Statement.{statement}
@@ -27,7 +27,7 @@ loop-again c =
       search needs,
       c .put-signed .ensures
           ∙ ap (λ (y : ℤ). puts (l .b) (st .args .at + 4 * l .k) (signedBytes y)) z
-          ∙ runs-more (λ (j : ℕ). signedBytes (getD (st .args .variables .now) j (pos 0))) 4 (λ j. refl) (st .args .b .now) (st .args .at) (l .k) (l .b)
+          ∙ concatenated-more (λ (j : ℕ). signedBytes (getD (st .args .variables .now) j (pos 0))) 4 (λ j. refl) (st .args .b .now) (st .args .at) (l .k) (l .b)
           (l .inv .1),
     )
 
@@ -36,7 +36,7 @@ unfolding variableBytes
 returns c =
     let st = c .before .before in
     let l = c .before .loop in
-    runs-all (λ (j : ℕ). signedBytes (getD (st .args .variables .now) j (pos 0))) (st .args .b .now) (st .args .at) (l .k) cells (l .b) (l .inv .0)
+    concatenated-all (λ (j : ℕ). signedBytes (getD (st .args .variables .now) j (pos 0))) (st .args .b .now) (st .args .at) (l .k) cells (l .b) (l .inv .0)
     (c .loop-test .left) (l .inv .1)
 
 pub put-variables-spec : {M : Type 1} → statement M
@@ -45,7 +45,7 @@ put-variables-spec =
     (tie.spec
     Inv-loop
     μ-loop
-    (λ c. (search needs, runs-none _ _ _))
+    (λ c. (search needs, concatenated-none _ _ _))
     (λ c. search needs)
     (λ c. search needs)
     (λ c. search needs)
