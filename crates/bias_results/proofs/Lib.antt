@@ -1,1 +1,1 @@
-pub mod MotionBack
+pub mod RequestBack

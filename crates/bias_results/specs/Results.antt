@@ -7,7 +7,7 @@ use Rattle.image_result.specs.ImageResult.{resultNumber, resultPlace, done}
 use Rattle.walk.specs.Verdict.{verdictNumber, verdictPlace, verdictTask, verdictDepth}
 use Rattle.walk.specs.declared.Verdict.{Verdict}
 use Rattle.image_writer.specs.declared.Written.{Written}
-use Rattle.machine.specs.Numbers.{answerNumber, answerPlace, answerTask, answerDepth, motionNumber, motionAxis, motionMode}
+use Rattle.machine.specs.Numbers.{answerNumber, answerPlace, answerTask, answerDepth, requestNumber, requestAxis, requestMode}
 use Rattle.machine.specs.declared.Request.{Request}
 use Rattle.machine.specs.declared.Answer.{Answer}
 use Rattle.bias_results.specs.declared.BiasVerdict.{BiasVerdict}
@@ -52,10 +52,10 @@ answerFor m a = record {
   number = answerNumber a;
   task = answerTask a;
   depth = answerDepth a;
-  motion = motionNumber m;
-  position = motionAxis m .position;
-  speed = motionAxis m .speed;
-  acceleration = motionAxis m .acceleration;
-  deceleration = motionAxis m .deceleration;
-  mode = motionMode m;
+  motion = requestNumber m;
+  position = requestAxis m .position;
+  speed = requestAxis m .speed;
+  acceleration = requestAxis m .acceleration;
+  deceleration = requestAxis m .deceleration;
+  mode = requestMode m;
 }

@@ -6,7 +6,7 @@ use machine::Request;
 use state::Axis;
 use walk::Verdict;
 ghost use mathlib.Core.Path.{_≡_};
-ghost use Rattle.machine.specs.Numbers.{causeNumber, answerNumber, answerPlace, answerTask, answerDepth, motionNumber, stopAxis, motionAxis, motionMode};
+ghost use Rattle.machine.specs.Numbers.{causeNumber, answerNumber, answerPlace, answerTask, answerDepth, requestNumber, stopAxis, requestAxis, requestMode};
 ghost use Rattle.bias_results.specs.Results.{numbered, verdictFor, writtenFor, noStateAnswer, answerFor};
 
 // 16: the lent buffer is no state.
@@ -93,18 +93,18 @@ pub fn no_state() -> BiasAnswer
 pub fn answer(motion: Request, a: Answer) -> BiasAnswer
     ensures { λ r. ⌜ r ≡ answerFor motion a ⌝ }
 {
-    let axis = axis_of(motion);
+    let axis = request_axis(motion);
     BiasAnswer {
         place: place_of(a) as u64,
         number: number_of(a),
         task: task_of(a) as u32,
         depth: depth_of(a) as u32,
-        motion: motion_of(motion),
+        motion: request_number(motion),
         position: axis.position,
         speed: axis.speed as u32,
         acceleration: axis.acceleration as u32,
         deceleration: axis.deceleration as u32,
-        mode: mode_of(motion) as u32,
+        mode: request_mode(motion) as u32,
     }
 }
 
@@ -173,8 +173,8 @@ fn depth_of(a: Answer) -> u8
 }
 
 // The number of a motion request.
-fn motion_of(m: Request) -> u32
-    ensures { λ r. ⌜ r ≡ motionNumber m ⌝ }
+fn request_number(m: Request) -> u32
+    ensures { λ r. ⌜ r ≡ requestNumber m ⌝ }
 {
     match m {
         Request::None => 0,
@@ -199,8 +199,8 @@ fn stop_axis(deceleration: u16) -> Axis
 }
 
 // The parameters that a request carries.
-fn axis_of(m: Request) -> Axis
-    ensures { λ r. ⌜ r ≡ motionAxis m ⌝ }
+fn request_axis(m: Request) -> Axis
+    ensures { λ r. ⌜ r ≡ requestAxis m ⌝ }
 {
     match m {
         Request::None => stop_axis(0),
@@ -213,8 +213,8 @@ fn axis_of(m: Request) -> Axis
 }
 
 // A stop's mode.
-fn mode_of(m: Request) -> u8
-    ensures { λ r. ⌜ r ≡ motionMode m ⌝ }
+fn request_mode(m: Request) -> u8
+    ensures { λ r. ⌜ r ≡ requestMode m ⌝ }
 {
     match m {
         Request::None => 0,

@@ -15,15 +15,15 @@ every test [] = true
 every test (r ∷ rs) = test (r .code) (r .columns) && every test rs
 
 -- two tests that agree
-abbrev pub same : Bool → Bool → Bool
-same true b = b
-same false b = not b
+abbrev pub sameTest : Bool → Bool → Bool
+sameTest true b = b
+sameTest false b = not b
 
-pub same-is : (a b : Bool) → T (same a b) → a ≡ b
-same-is true true t = refl
-same-is true false t = absurd t
-same-is false true t = absurd t
-same-is false false t = refl
+pub same-test-is : (a b : Bool) → T (sameTest a b) → a ≡ b
+same-test-is true true t = refl
+same-test-is true false t = absurd t
+same-test-is false true t = absurd t
+same-test-is false false t = refl
 
 -- a code has no row, or its row passes the test
 pub every-row : (test : ℕ → Row → Bool) (rs : List Coded) → T (every test rs) → (code : ℕ)

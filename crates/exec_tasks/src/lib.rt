@@ -104,7 +104,7 @@ fn put(mut tasks: [Task; TASKS], t: u8, task: Task) -> [Task; TASKS]
     tasks
 }
 
-// The tasks after the outcome of a command that task t executed at task; `first` is the program start.
+// The tasks after the outcome of a command that task t, whose record is `task`, executed; `first` is the program start.
 pub fn after(first: u16, t: u8, task: Task, outcome: Outcome, tasks: [Task; TASKS]) -> [Task; TASKS]
     requires { ⌜ task .block < mostBlocks ⌝ }
     requires { ⌜ DepthAllows (task .depth) outcome ⌝ }

@@ -222,9 +222,9 @@ module _ (numbers blocks out : List ℕ) (ok : written numbers (length blocks) (
   abbrev image : List ℕ
   image = take (written numbers (length blocks) (length out) .length) (outAfter numbers blocks out)
 
-  pub header-back : (headerOf image .result ≡ Done)
+  pub header-as-written : (headerOf image .result ≡ Done)
       × (headerOf image .header ≡ headerFrom numbers)
-  header-back = let r = read-what-was-written numbers blocks out ok .read in (r .result, r .header)
+  header-as-written = let r = read-what-was-written numbers blocks out ok .read in (r .result, r .header)
 
   pub blocks-back : blocksOf image ≡ blocks
   blocks-back = read-what-was-written numbers blocks out ok .read .body

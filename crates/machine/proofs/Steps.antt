@@ -2,7 +2,7 @@ pub mod Reached
 pub mod Alike
 pub mod TasksAfter
 pub mod Notes
-pub mod Cases
+pub mod Together
 pub mod Agrees
 pub mod Parts
 pub mod KeepsGood

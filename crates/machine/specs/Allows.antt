@@ -1,4 +1,4 @@
--- Which outcomes a flow allows: what `flow` says that a command may continue with, and what the command's effect comes to. That every effect's
+-- Which outcomes a flow allows: what a command's flow says that it may continue with, and what the command's effect comes to. That every effect's
 -- outcome is in its flow is a law (proofs/Rows/EveryLaw.antt).
 use Prim.Native.Nat.{ℕ}
 use Rattle.walk_flow.specs.declared.Flow.{Flow}

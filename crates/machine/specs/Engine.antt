@@ -60,7 +60,7 @@ restarted task = taskWith runs (task .start) (task .start) 0 emptyStack 0 0
 abbrev pub stopped : ℕ → Task → Task
 stopped status task = taskWith status (task .block) (task .start) (task .depth) (task .stack) 0 0
 
--- ---- the three tasks after a command's outcome, for the task t that is at k; `first` is the program start
+-- ---- the three tasks after a command's outcome, for the task t with this record; `first` is the program start
 
 abbrev pub tasksAfter : ℕ → ℕ → Task → Outcome → List Task → List Task
 tasksAfter first t task GoOn l = set l t (goTo (task .block + 1) task)
@@ -131,7 +131,7 @@ abbrev pub isLoaded : HeaderRead → Header → Bool
 isLoaded r h = done (r .result) && sameHeader (r .header) h
 
 abbrev pub blockFits : Terms → List ℕ → ℕ → Task → Bool
-blockFits h bs t task = eqb (blockNumber h bs (task .block)) 0 && eqb (faultNumber (faultAt h bs (pointOf t task))) 0
+blockFits terms bs t task = eqb (blockNumber terms bs (task .block)) 0 && eqb (faultNumber (faultAt terms bs (pointOf t task))) 0
 
 abbrev pub isWait : ℕ → Bool
 isWait code = eqb code 0x59 || eqb code 0x5A
@@ -141,10 +141,10 @@ waitFits bs task = not (isSet (task .time)) || isWait (commandAt bs (task .block
 
 -- of an image whose header was read as r and whose blocks are bs
 abbrev pub fitsAs : HeaderRead → List ℕ → Terms → ℕ → Task → Bool
-fitsAs r bs h t task = isLoaded r (h .header) && (blockFits h bs t task && waitFits bs task)
+fitsAs r bs terms t task = isLoaded r (terms .header) && (blockFits terms bs t task && waitFits bs task)
 
 unfoldable pub fits : List ℕ → Terms → ℕ → Task → Bool
-fits image h t task = fitsAs (headerOf image) (blocksOf image) h t task
+fits image terms t task = fitsAs (headerOf image) (blocksOf image) terms t task
 
 -- the command at the task's block
 abbrev pub carriedOut : List ℕ → State → Inputs → Task → StepOut

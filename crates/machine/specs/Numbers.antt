@@ -50,31 +50,31 @@ answerDepth (Halted q p) = p .depth
 
 -- ---- requests
 
-abbrev pub motionNumber : Request → ℕ
-motionNumber None = 0
-motionNumber (MoveTo a) = 1
-motionNumber (MoveBy a) = 2
-motionNumber (Forward a) = 3
-motionNumber (Backward a) = 4
-motionNumber (Stop mode ramp) = 5
+abbrev pub requestNumber : Request → ℕ
+requestNumber None = 0
+requestNumber (MoveTo a) = 1
+requestNumber (MoveBy a) = 2
+requestNumber (Forward a) = 3
+requestNumber (Backward a) = 4
+requestNumber (Stop mode ramp) = 5
 
 -- a deceleration and no other parameter
 abbrev pub stopAxis : ℕ → Axis
 stopAxis deceleration = record { position = pos 0; speed = 0; acceleration = 0; deceleration = deceleration }
 
 -- the parameters that a request carries: none, a move's four, or a stop's deceleration
-abbrev pub motionAxis : Request → Axis
-motionAxis None = stopAxis 0
-motionAxis (MoveTo a) = a
-motionAxis (MoveBy a) = a
-motionAxis (Forward a) = a
-motionAxis (Backward a) = a
-motionAxis (Stop mode ramp) = stopAxis ramp
+abbrev pub requestAxis : Request → Axis
+requestAxis None = stopAxis 0
+requestAxis (MoveTo a) = a
+requestAxis (MoveBy a) = a
+requestAxis (Forward a) = a
+requestAxis (Backward a) = a
+requestAxis (Stop mode ramp) = stopAxis ramp
 
-abbrev pub motionMode : Request → ℕ
-motionMode None = 0
-motionMode (MoveTo a) = 0
-motionMode (MoveBy a) = 0
-motionMode (Forward a) = 0
-motionMode (Backward a) = 0
-motionMode (Stop mode ramp) = mode
+abbrev pub requestMode : Request → ℕ
+requestMode None = 0
+requestMode (MoveTo a) = 0
+requestMode (MoveBy a) = 0
+requestMode (Forward a) = 0
+requestMode (Backward a) = 0
+requestMode (Stop mode ramp) = mode

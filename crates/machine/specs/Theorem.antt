@@ -1,5 +1,5 @@
 -- What is proved of steps on values: the theorem over every list of steps (demand 3, parts 1 to 6 in docs/PROMISES.md; part 7 is `exactly` in
--- walk/proofs/Verdicts/OfImage.antt), proved as `every-run` in proofs/Runs/EveryRun.antt; and that a step keeps good states, proved as `keeps-good` in
+-- walk/proofs/Verdicts/OfImage.antt), proved as `every-value-run` in proofs/Runs/EveryRun.antt; and that a step keeps good states, proved as `keeps-good` in
 -- proofs/Steps/KeepsGood.antt.
 use Prim.Native.Nat.{ℕ, _<_}
 use mathlib.Core.Path.{_≡_}

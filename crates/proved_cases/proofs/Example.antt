@@ -31,7 +31,7 @@ use Rattle.machine.specs.declared.StepOut.{StepOut}
 use Rattle.machine.specs.Run.{outs, stateAfter}
 use Rattle.machine.specs.Theorem.{ValueRun, loaded}
 use Rattle.machine.specs.declared.Answer.{Answer}
-use Rattle.machine.proofs.Runs.EveryRun.{every-run}
+use Rattle.machine.proofs.Runs.EveryRun.{every-value-run}
 use Rattle.proved_cases.specs.Example.{program as image, steps, exampleAnswers, Place, places}
 
 abbrev answersOf : List StepOut → List Answer
@@ -76,7 +76,7 @@ accepted = sym (fast-is image marksLength) ∙ computed .verdict
 
 -- the theorem, of these steps
 pub holds : ValueRun image steps
-holds = every-run image marksLength accepted steps
+holds = every-value-run image marksLength accepted steps
 
 pub answered : answersOf (outs image (loaded image) steps) ≡ exampleAnswers
 answered = computed .exampleAnswers

@@ -191,7 +191,7 @@ module _ (image : List ℕ) (bytes : Bytes image) where
 module _ (image : List ℕ) (n : ℕ) (bytes : Bytes image) (ok : verdictOf image n ≡ verdict.Accepted) where
   -- the theorem on values
   of-values : (xs : List Inputs) → values.ValueRun image xs
-  of-values xs = machine.every-run image n ok xs
+  of-values xs = machine.every-value-run image n ok xs
 
   loaded-good : GoodState (loaded image)
   unfolding stateAfter

@@ -3,23 +3,23 @@
 use libc::STDERR_FILENO;
 use libc::STDIN_FILENO;
 ghost use mathlib.Core.Path.{_≡_};
-ghost use Rattle.verdict.specs.Arguments.{askedBy};
+ghost use Rattle.verdict.specs.Arguments.{purposeOf};
 
 // What the program is asked for.
-pub enum Asked {
+pub enum Purpose {
     Judge,
     Usage,
 }
 
 // What an input has past the room for an image is left unread: the verdict is the same without it (crates/text_verdict/proofs/Beginning.antt).
 fn main() {
-    match asked_by(os::arg_count()) {
-        Asked::Judge => {
+    match purpose_of(os::arg_count()) {
+        Purpose::Judge => {
             let mut image = text_verdict::input();
             let n = io::read_full(STDIN_FILENO, &mut image);
             text_verdict::judge(&image[..n]);
         }
-        Asked::Usage => {
+        Purpose::Usage => {
             io::write_all(
                 STDERR_FILENO,
                 b"usage: verdict < IMAGE\nreads a program image from standard input and prints the line of its verdict\n",
@@ -29,11 +29,11 @@ fn main() {
 }
 
 // What so many arguments ask for, the program's own name among them.
-fn asked_by(arguments: usize) -> Asked
-    ensures { λ r. ⌜ r ≡ askedBy arguments ⌝ }
+fn purpose_of(arguments: usize) -> Purpose
+    ensures { λ r. ⌜ r ≡ purposeOf arguments ⌝ }
 {
     if 1 < arguments {
-        return Asked::Usage;
+        return Purpose::Usage;
     }
-    Asked::Judge
+    Purpose::Judge
 }

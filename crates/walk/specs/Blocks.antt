@@ -27,12 +27,12 @@ commandAt bs b = operands (blockAt bs b)
 
 -- what is wrong with block b by itself
 abbrev pub blockFaultAt : Terms → List ℕ → ℕ → BlockFault
-blockFaultAt h bs b = blockFault (h .header) (blockAt bs b)
+blockFaultAt terms bs b = blockFault (terms .header) (blockAt bs b)
 
 -- its number: 5 to 8 or 23, 0 for none
 abbrev pub blockNumber : Terms → List ℕ → ℕ → ℕ
-blockNumber h bs b = blockFaultNumber (blockFaultAt h bs b)
+blockNumber terms bs b = blockFaultNumber (blockFaultAt terms bs b)
 
 -- what the command at a point breaks there
 unfoldable pub faultAt : Terms → List ℕ → Point → Fault
-faultAt h bs p = faultOf h (commandAt bs (p .block)) p
+faultAt terms bs p = faultOf terms (commandAt bs (p .block)) p

@@ -18,29 +18,31 @@ use Rattle.walk.specs.declared.Verdict.the-variants as verdict
 
 -- some walk reaches a 51 of another task's mode there
 abbrev pub ForeignAt : Terms → List ℕ → Point → Type 0
-ForeignAt h bs p = Reaches h bs p × (isForeign (faultAt h bs p) ≡ true)
+ForeignAt terms bs p = Reaches terms bs p × (isForeign (faultAt terms bs p) ≡ true)
 
 -- some walk reaches a point there that is bad by 9 to 12
 abbrev pub BadAt : Terms → List ℕ → Point → Type 0
-BadAt h bs p = Reaches h bs p × (isBad (faultAt h bs p) ≡ true)
+BadAt terms bs p = Reaches terms bs p × (isBad (faultAt terms bs p) ≡ true)
 
 -- no walk reaches a foreign 51
 abbrev pub NoForeign : Terms → List ℕ → Type 0
-NoForeign h bs = (p : Point) → ForeignAt h bs p → ⊥
+NoForeign terms bs = (p : Point) → ForeignAt terms bs p → ⊥
 
-pub data IsWalksVerdict (h : Terms) (bs : List ℕ) : Verdict → Type 0 where
+pub data IsWalksVerdict (terms : Terms) (bs : List ℕ) : Verdict → Type 0 where
   -- accepted: no walk reaches anything wrong
-  accepted : NoForeign h bs → ((p : Point) → BadAt h bs p → ⊥) → IsWalksVerdict h bs verdict.Accepted
+  accepted : NoForeign terms bs → ((p : Point) → BadAt terms bs p → ⊥) → IsWalksVerdict terms bs verdict.Accepted
   -- 7: a walk reaches a foreign 51 at this block, and none at a block before it
-  foreign : (p : Point) → ForeignAt h bs p → ((q : Point) → ForeignAt h bs q → p .block ≤ q .block) → IsWalksVerdict h bs (verdict.Foreign (p .block))
+  foreign : (p : Point) → ForeignAt terms bs p → ((q : Point) → ForeignAt terms bs q → p .block ≤ q .block)
+      → IsWalksVerdict terms bs (verdict.Foreign (p .block))
   -- 9 to 12: no walk reaches a foreign 51; one reaches this bad point, and none a bad point before it
-  bad : NoForeign h bs → (p : Point) → BadAt h bs p → ((q : Point) → BadAt h bs q → before q p ≡ false) → IsWalksVerdict h bs (verdict.Bad (faultAt h bs p) p)
+  bad : NoForeign terms bs → (p : Point) → BadAt terms bs p → ((q : Point) → BadAt terms bs q → before q p ≡ false)
+      → IsWalksVerdict terms bs (verdict.Bad (faultAt terms bs p) p)
 
 -- ---- the verdict on an image with marks of n bytes
 
 -- block b by itself passes 5 to 8 and 23
 abbrev pub BlockPasses : Terms → List ℕ → ℕ → Type 0
-BlockPasses h bs b = blockNumber h bs b ≡ 0
+BlockPasses terms bs b = blockNumber terms bs b ≡ 0
 
 -- what a verdict says of an image: 13, then the header and the length, then the first block that is refused, then the walks
 pub data IsVerdict (image : List ℕ) (n : ℕ) : Verdict → Type 0 where

@@ -42,10 +42,10 @@ unless PastEnd f = End
 
 -- what the command at a point continues with there
 unfoldable pub flowAt : Terms → List ℕ → Point → Flow
-flowAt h bs p = unless (faultAt h bs p) (flowOf h (commandAt bs (p .block)))
+flowAt terms bs p = unless (faultAt terms bs p) (flowOf terms (commandAt bs (p .block)))
 
 unfoldable pub successors : Terms → List ℕ → Point → List Point
-successors h bs p = leadsTo p (flowAt h bs p)
+successors terms bs p = leadsTo p (flowAt terms bs p)
 
 unfoldable pub indices : List Point → List ℕ
 indices [] = []
@@ -53,4 +53,4 @@ indices (p ∷ ps) = indexOf p ∷ indices ps
 
 -- by number
 unfoldable pub nextOf : Terms → List ℕ → ℕ → List ℕ
-nextOf h bs i = indices (successors h bs (pointAt i))
+nextOf terms bs i = indices (successors terms bs (pointAt i))

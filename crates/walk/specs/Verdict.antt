@@ -24,7 +24,7 @@ use Rattle.walk.specs.declared.Verdict.the-variants as verdict
 
 -- the first point's number
 abbrev pub rootOf : Terms → ℕ
-rootOf h = indexOf (point bias (h .header .start) 0)
+rootOf terms = indexOf (point bias (terms .header .start) 0)
 
 -- the most points that follow one
 abbrev pub mostFollowing : ℕ
@@ -35,29 +35,29 @@ abbrev pub fuel : ℕ
 fuel = (mostFollowing + 1) * marksLength + 1
 
 unfoldable pub reached : Terms → List ℕ → List ℕ
-reached h bs = closure (nextOf h bs) fuel (rootOf h ∷ []) []
+reached terms bs = closure (nextOf terms bs) fuel (rootOf terms ∷ []) []
 
 unfoldable pub leastForeign : Terms → List ℕ → List ℕ → ℕ
-leastForeign h bs is = least (λ i. isForeign (faultAt h bs (pointAt i))) (λ i. pointAt i .block) mostBlocks is
+leastForeign terms bs is = least (λ i. isForeign (faultAt terms bs (pointAt i))) (λ i. pointAt i .block) mostBlocks is
 
 unfoldable pub leastBad : Terms → List ℕ → List ℕ → ℕ
-leastBad h bs is = least (λ i. isBad (faultAt h bs (pointAt i))) (λ i. i) marksLength is
+leastBad terms bs is = least (λ i. isBad (faultAt terms bs (pointAt i))) (λ i. i) marksLength is
 
 -- by the least foreign block, or else the least bad point; a number past all blocks, or all points, is none
 unfoldable pub verdictBy : Terms → List ℕ → ℕ → ℕ → Verdict
-verdictBy h bs foreign bad =
+verdictBy terms bs foreign bad =
     cond (ltb foreign mostBlocks) (verdict.Foreign foreign)
-    (cond (ltb bad marksLength) (verdict.Bad (faultAt h bs (pointAt bad)) (pointAt bad)) verdict.Accepted)
+    (cond (ltb bad marksLength) (verdict.Bad (faultAt terms bs (pointAt bad)) (pointAt bad)) verdict.Accepted)
 
 unfoldable pub walksVerdict : Terms → List ℕ → Verdict
-walksVerdict h bs = verdictBy h bs (leastForeign h bs (reached h bs)) (leastBad h bs (reached h bs))
+walksVerdict terms bs = verdictBy terms bs (leastForeign terms bs (reached terms bs)) (leastBad terms bs (reached terms bs))
 
 -- ---- the blocks
 
 -- n blocks judged upwards from block b, then the walks
 unfoldable pub blocksVerdict : Terms → List ℕ → ℕ → ℕ → Verdict
-blocksVerdict h bs b zero = walksVerdict h bs
-blocksVerdict h bs b (suc n) = cond (eqb (blockNumber h bs b) 0) (blocksVerdict h bs (b + 1) n) (verdict.Block (blockFaultAt h bs b) b)
+blocksVerdict terms bs b zero = walksVerdict terms bs
+blocksVerdict terms bs b (suc n) = cond (eqb (blockNumber terms bs b) 0) (blocksVerdict terms bs (b + 1) n) (verdict.Block (blockFaultAt terms bs b) b)
 
 -- ---- the image
 

@@ -50,36 +50,36 @@ latest bs code (p ∷ path) = cond (eqb (commandAt bs (p .block) .code) code) (a
 
 -- where a task starts: BIAS at the program start, the PLC at its latest 54's block, mathematics at its latest 90's
 unfoldable pub startOf : Terms → List ℕ → ℕ → List Point → Named
-startOf h bs task path =
-    cond (eqb task bias) (at (h .header .start))
+startOf terms bs task path =
+    cond (eqb task bias) (at (terms .header .start))
     (cond (eqb task plc) (latest bs 0x54 path)
     (cond (eqb task mathematics) (latest bs 0x90 path) none))
 
 -- ---- steps and walks
 
 -- one step from the point p, where the command c is, of a walk that has passed `path`, p included
-pub data WalkStep (h : Terms) (bs : List ℕ) (path : List Point) (p : Point) (c : Command) : Point → Type 0 where
-  next : goesOn (c .code) (p .task) ≡ true → WalkStep h bs path p c (point (p .task) (p .block + 1) (p .depth))
-  stay : stays (c .code) ≡ true → WalkStep h bs path p c p
-  jump : jumps (c .code) ≡ true → WalkStep h bs path p c (point (p .task) (c .word) (p .depth))
+pub data WalkStep (terms : Terms) (bs : List ℕ) (path : List Point) (p : Point) (c : Command) : Point → Type 0 where
+  next : goesOn (c .code) (p .task) ≡ true → WalkStep terms bs path p c (point (p .task) (p .block + 1) (p .depth))
+  stay : stays (c .code) ≡ true → WalkStep terms bs path p c p
+  jump : jumps (c .code) ≡ true → WalkStep terms bs path p c (point (p .task) (c .word) (p .depth))
   -- 52: into the sub-program, one deeper; and to the block behind the call, at its own depth
-  call : c .code ≡ 0x52 → WalkStep h bs path p c (point (p .task) (c .word) (p .depth + 1))
-  behind : c .code ≡ 0x52 → WalkStep h bs path p c (point (p .task) (p .block + 1) (p .depth))
+  call : c .code ≡ 0x52 → WalkStep terms bs path p c (point (p .task) (c .word) (p .depth + 1))
+  behind : c .code ≡ 0x52 → WalkStep terms bs path p c (point (p .task) (p .block + 1) (p .depth))
   -- 54, 57, 90 that start another task: to the named block of that task at depth 0 (and on, by `next`)
-  start : (u : ℕ) → starts (c .code) u ≡ true → (u ≡ p .task → ⊥) → WalkStep h bs path p c (point u (c .word) 0)
+  start : (u : ℕ) → starts (c .code) u ≡ true → (u ≡ p .task → ⊥) → WalkStep terms bs path p c (point u (c .word) 0)
   -- that start their own: to the named block at depth 0, and nowhere else. (Forbidden by 9 today, as the boxes stand.)
-  own : starts (c .code) (p .task) ≡ true → WalkStep h bs path p c (point (p .task) (c .word) 0)
+  own : starts (c .code) (p .task) ≡ true → WalkStep terms bs path p c (point (p .task) (c .word) 0)
   -- mode 0 of 51 returns to the task's start at depth 0
-  restart : (a : ℕ) → c .code ≡ 0x51 → c .x ≡ 0 → startOf h bs (p .task) path ≡ at a → WalkStep h bs path p c (point (p .task) a 0)
+  restart : (a : ℕ) → c .code ≡ 0x51 → c .x ≡ 0 → startOf terms bs (p .task) path ≡ at a → WalkStep terms bs path p c (point (p .task) a 0)
 
 -- a walk that has passed `path` and is now at a point. BIAS begins it at the program start, inside no call; it goes on only where nothing is broken:
 -- neither from a bad point nor from a foreign 51
-pub data Walk (h : Terms) (bs : List ℕ) : List Point → Point → Type 0 where
-  begin : Walk h bs [] (point bias (h .header .start) 0)
-  onward : {path : List Point} {p : Point} (q : Point) → Walk h bs path p → faultAt h bs p ≡ Fine
-      → WalkStep h bs (p ∷ path) p (commandAt bs (p .block)) q → Walk h bs (p ∷ path) q
+pub data Walk (terms : Terms) (bs : List ℕ) : List Point → Point → Type 0 where
+  begin : Walk terms bs [] (point bias (terms .header .start) 0)
+  onward : {path : List Point} {p : Point} (q : Point) → Walk terms bs path p → faultAt terms bs p ≡ Fine
+      → WalkStep terms bs (p ∷ path) p (commandAt bs (p .block)) q → Walk terms bs (p ∷ path) q
 
 -- some walk ends there
-pub record Reaches (h : Terms) (bs : List ℕ) (p : Point) : Type 0 where
+pub record Reaches (terms : Terms) (bs : List ℕ) (p : Point) : Type 0 where
   pub path : List Point
-  pub walk : Walk h bs path p
+  pub walk : Walk terms bs path p

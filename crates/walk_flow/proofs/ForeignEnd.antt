@@ -9,12 +9,12 @@ use borrow.Author.Tests.{eqb-true, eqb-false, eq-eqb, ne-eqb, not-true}
 use Rattle.logic.proofs.Choice.{clash, both}
 use Rattle.command_table.specs.Rows.{isEnding, noRow, rows, rowIn, rowOf}
 use Rattle.command_table.specs.declared.Row.{Row}
-use Rattle.command_table.proofs.EveryRow.{every, every-row, same, same-is}
+use Rattle.command_table.proofs.EveryRow.{every, every-row, sameTest, same-test-is}
 use Rattle.command_operands.specs.declared.Command.{Command}
 use Rattle.walk_flow.specs.Permission.{foreign}
 
 only51 : ℕ → Row → Bool
-only51 code r = same (isEnding (r .flow)) (eqb code 0x51)
+only51 code r = sameTest (isEnding (r .flow)) (eqb code 0x51)
 
 all-rows : T (every only51 rows)
 unfolding only51 rows
@@ -27,7 +27,7 @@ ends-51 = refl
 -- the flow of an end is that of 51
 ends-is : (code : ℕ) → isEnding (rowOf code .flow) ≡ eqb code 0x51
 unfolding rowOf only51
-ends-is code = ⊎-elim none (λ e. same-is _ _ (subst T (sym e) tt)) (every-row only51 rows all-rows code)
+ends-is code = ⊎-elim none (λ e. same-test-is _ _ (subst T (sym e) tt)) (every-row only51 rows all-rows code)
   where
     unlike : rowIn rows code ≡ noRow → code ≡ 0x51 → ⊥
     unlike n e = clash (sym ends-51 ∙ ap (λ (k : ℕ). isEnding (rowIn rows k .flow)) (sym e) ∙ ap (λ (r : Row). isEnding (r .flow)) n)

@@ -31,7 +31,7 @@ flowBy kind.StartMathematics x word = Start mathematics word
 flowBy kind.Ending x word = endingBy x
 
 unfoldable pub flowOf : Terms → Command → Flow
-flowOf t c = flowBy (rowOf (c .code) .flow) (c .x) (c .word)
+flowOf terms c = flowBy (rowOf (c .code) .flow) (c .x) (c .word)
 
 -- The blocks that a command at block b of a task may continue with, each of which 12 judges. The block behind a call counts at the call, a start
 -- block where it is named. Starting its own task, a command has nothing behind it: it goes on at the named block alone. (By the boxes no command

@@ -17,4 +17,4 @@ abbrev pub boxes : ℕ → List Bool
 boxes tasks = eqb (tasks / B % 2) 1 ∷ eqb (tasks / P % 2) 1 ∷ eqb (tasks / M % 2) 1 ∷ []
 
 unfoldable pub permitted : Terms → ℕ → ℕ → Bool
-permitted t code task = getD (boxes (rowOf code .tasks)) task false
+permitted terms code task = getD (boxes (rowOf code .tasks)) task false

@@ -1,5 +1,5 @@
--- What a program is judged under: its header. Flows, permission and faults take this record, and with them walks, verdicts and steps, so that what is
--- judged under is named in one place.
+-- What a program is judged under: its header. Flows, permission and what a point breaks take this record, and with them walks, verdicts and steps, so that what
+-- is judged under is named in one place.
 use Prim.Native.Nat.{ℕ}
 use mathlib.Core.List.{List}
 use Rattle.image_header.specs.Scan.{headerOf}

@@ -57,6 +57,6 @@ flowFault count p f =
 
 -- the first that the command c breaks at a point
 unfoldable pub faultOf : Terms → Command → Point → Fault
-faultOf t c p =
+faultOf terms c p =
     cond (foreign (p .task) c) Foreign
-    (cond (permitted t (c .code) (p .task)) (flowFault (t .header .count) p (flowOf t c)) Forbidden)
+    (cond (permitted terms (c .code) (p .task)) (flowFault (terms .header .count) p (flowOf terms c)) Forbidden)

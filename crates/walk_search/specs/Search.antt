@@ -21,10 +21,10 @@ pageLength = 128
 abbrev pub pageCount : ℕ
 pageCount = (marksLength + pageLength - 1) / pageLength
 
--- a header with which walks stay within the marks: what the header's own refusals leave
-pub record WalkBounds (h : Terms) : Type 0 where
-  pub most : h .header .count ≤ mostBlocks
-  pub begins : h .header .start < h .header .count
+-- terms under which walks stay within the marks: what the header's own refusals leave
+pub record WalkBounds (terms : Terms) : Type 0 where
+  pub most : terms .header .count ≤ mostBlocks
+  pub begins : terms .header .start < terms .header .count
 
 -- the pages with the cursor: those wholly before it are clean; the last, at whose end it never stands, is dirty
 pub record Paged (marks dirty : List ℕ) (cursor : ℕ) : Type 0 where
@@ -73,9 +73,9 @@ pub record Going (next : ℕ → List ℕ) (root : ℕ) (marks : List ℕ) (curs
   pub past : (p : ℕ) → p < cursor → getD marks p 0 ≡ 1 → ⊥
 
 -- the search is over: the points that walks reach are done, and no other was seen
-pub record Searched (h : Terms) (bs marks : List ℕ) : Type 0 where
+pub record Searched (terms : Terms) (bs marks : List ℕ) : Type 0 where
   pub long : length marks ≡ marksLength
-  pub mark : (p : ℕ) → getD marks p 0 ≡ cond (has (reached h bs) p) 2 0
+  pub mark : (p : ℕ) → getD marks p 0 ≡ cond (has (reached terms bs) p) 2 0
 
 -- the pages after a search: all are clean but the last
 pub record Swept (dirty : List ℕ) : Type 0 where
@@ -91,10 +91,10 @@ pub record Fresh (first : ℕ) (marks : List ℕ) : Type 0 where
 
 -- a block found so far, and the block of point i where a 51 there ends another task: the lesser
 unfoldable pub lowered : Terms → List ℕ → ℕ → ℕ → ℕ
-lowered h bs i found = cond (isForeign (faultAt h bs (pointAt i))) (lesser (pointAt i .block) found) found
+lowered terms bs i found = cond (isForeign (faultAt terms bs (pointAt i))) (lesser (pointAt i .block) found) found
 
 -- the first of the header's blocks that 5 to 8 or 23 refuse, or the count
-pub record FirstRefused (h : Terms) (bs : List ℕ) (b : ℕ) : Type 0 where
-  pub most : b ≤ h .header .count
-  pub before : (a : ℕ) → a < b → blockNumber h bs a ≡ 0
-  pub refused : b < h .header .count → blockNumber h bs b ≡ 0 → ⊥
+pub record FirstRefused (terms : Terms) (bs : List ℕ) (b : ℕ) : Type 0 where
+  pub most : b ≤ terms .header .count
+  pub before : (a : ℕ) → a < b → blockNumber terms bs a ≡ 0
+  pub refused : b < terms .header .count → blockNumber terms bs b ≡ 0 → ⊥

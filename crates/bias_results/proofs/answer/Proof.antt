@@ -8,13 +8,13 @@ use Rattle.bias_results.proofs.answer.Tie as tie
 
 returns : tie.Need-returns
 returns c =
-    let a = c .before .before .before .before .before .before .before .before .before .before .axis-of in
+    let a = c .before .before .before .before .before .before .before .before .before .before .request-axis in
     let p = c .before .before .before .before .before .before .before .before .before .place-of .ensures in
     let n = c .before .before .before .before .before .before .before .before .number-of .ensures in
     let t = c .before .before .before .before .before .before .before .task-of .ensures in
     let d = c .before .before .before .before .before .before .depth-of .ensures in
-    let m = c .before .before .before .before .before .motion-of .ensures in
-    let mode = c .before .mode-of .ensures in
+    let m = c .before .before .before .before .before .request-number .ensures in
+    let mode = c .before .request-mode .ensures in
     let x = a .ensures in
     let q = got w32 {r = a .result .position} (c .struct-told .given .0 .1) refl ∙ (λ ι. x ι .position) in
     λ ι.

@@ -34,10 +34,10 @@ use Rattle.machine.specs.declared.StepOut.{StepOut}
 
 -- ---- part 1
 
-pub answers-are : {os : List StepOut} {ds : List ReferenceOut} → SameHanded os ds
+pub value-answers-are : {os : List StepOut} {ds : List ReferenceOut} → SameHanded os ds
     → map (λ (o : StepOut). o .answer) os ≡ map (λ (d : ReferenceOut). d .answer) ds
-answers-are SameHanded.none = refl
-answers-are (SameHanded.more a m h) = λ ι. a ι ∷ answers-are h ι
+value-answers-are SameHanded.none = refl
+value-answers-are (SameHanded.more a m h) = λ ι. a ι ∷ value-answers-are h ι
 
 pub motions-are : {os : List StepOut} {ds : List ReferenceOut} → SameHanded os ds
     → map (λ (o : StepOut). o .request) os ≡ map (λ (d : ReferenceOut). d .request) ds

@@ -19,7 +19,7 @@ use Rattle.machine.specs.StepRule.{Calls, noCalls, callsAfter, EachStep}
 use Rattle.machine.specs.Theorem.{loaded, EveryValueRun}
 use Rattle.machine.proofs.Runs.Accepted.{Accepted, accepted, hd, body, within}
 use Rattle.machine.proofs.Steps.Reached.{Sound, never-sound}
-use Rattle.machine.proofs.Steps.Cases.{Agree}
+use Rattle.machine.proofs.Steps.Together.{Agree}
 use Rattle.machine.proofs.Steps.Agrees.{step-same}
 use Rattle.image_header.proofs.HeaderGood.{header-good}
 use Rattle.image_result.proofs.Done.{is-done}
@@ -128,8 +128,8 @@ module _ (image : List ℕ) where
   fresh-counts (suc (suc (suc u))) = refl
 
 -- the theorem
-pub every-run : EveryValueRun
-every-run image n e xs =
+pub every-value-run : EveryValueRun
+every-value-run image n e xs =
     let ok = accepted image n e in
     let g = kept image ok (loaded image) (referenceLoaded image) (fresh-agree image) xs in
     record {

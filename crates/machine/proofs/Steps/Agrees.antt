@@ -22,7 +22,7 @@ use Rattle.machine.specs.declared.Outcome.the-variants.{GoOn, Stay, Jump
 use Rattle.machine.proofs.Runs.Accepted.{Accepted, hd}
 use Rattle.machine.proofs.Steps.TasksAfter.{turned}
 use Rattle.machine.proofs.Steps.Notes.{noted-alike}
-use Rattle.machine.proofs.Steps.Cases.{Agree, Ran, Case, effectHere, threadOf, step-case}
+use Rattle.machine.proofs.Steps.Together.{Agree, Ran, Case, effectHere, threadOf, step-case}
 
 -- both answer alike
 answers-same : (o : Outcome) (t : ℕ) (task : Task) (p : Thread) → task .block ≡ p .block → task .depth ≡ length (p .returns)

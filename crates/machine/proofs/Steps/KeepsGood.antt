@@ -54,7 +54,7 @@ use Rattle.machine.proofs.Rows.Operands.{BlockBytes, fit}
 use Rattle.machine.proofs.Rows.Outcomes.{on-in, jump-in, call-in, behind-in, call-deep, return-deep, start-in, start-on}
 use Rattle.machine.proofs.Steps.TasksAfter.{set-set}
 use Rattle.machine.proofs.Steps.Notes.{noted-alike, refused-alike}
-use Rattle.machine.proofs.Steps.Cases.{used-carried}
+use Rattle.machine.proofs.Steps.Together.{used-carried}
 
 -- ---- tasks
 

@@ -41,7 +41,7 @@ use Rattle.state.proofs.Setters.{kept-set}
 use Rattle.machine.proofs.Runs.Accepted.{Accepted, hd, body, within}
 use Rattle.machine.proofs.Steps.Alike.{returns-return}
 use Rattle.machine.proofs.Rows.Codes.{countF, counts-flow, return-flow, start-code, end-code}
-use Rattle.machine.proofs.Steps.Cases.{Agree, Ran, Case, effectHere, threadOf, step-case}
+use Rattle.machine.proofs.Steps.Together.{Agree, Ran, Case, effectHere, threadOf, step-case}
 
 -- ---- open calls and the reference machine's return blocks
 

@@ -25,7 +25,7 @@ use Rattle.machine.specs.declared.Outcome.{Outcome}
 use Rattle.machine.specs.declared.Outcome.the-variants.{GoOn, Stay, Jump, Call, Return, Start, Restart, End, Halt}
 use Rattle.machine.proofs.Rows.EveryLaw.{every-law}
 use Rattle.machine.proofs.Rows.Outcomes.{call-deep, return-deep}
-use Rattle.machine.proofs.Steps.Cases.{used-carried}
+use Rattle.machine.proofs.Steps.Together.{used-carried}
 use Rattle.walk_fault.proofs.NoFault.{no-fault}
 
 module _ (bs : List ℕ) (h : Terms) (t : ℕ) (task : Task) (pass : blockFits h bs t task ≡ true) where

@@ -14,7 +14,7 @@ use Rattle.command_table.specs.Rows.{noRow, rows, rowIn, rowOf}
 use Rattle.command_table.specs.declared.FlowKind.{FlowKind}
 use Rattle.command_table.specs.declared.FlowKind.the-variants as kind
 use Rattle.command_table.specs.declared.Row.{Row}
-use Rattle.command_table.proofs.EveryRow.{every, every-row, same, same-is}
+use Rattle.command_table.proofs.EveryRow.{every, every-row, sameTest, same-test-is}
 use Rattle.command_table.proofs.FlowKinds.{is, isOneOf}
 use Rattle.walk_flow.specs.Terms.{Terms}
 use Rattle.walk_flow.specs.Flow.{flowBy}
@@ -41,23 +41,23 @@ onBy k task = not (isOneOf (kind.Ending ∷ kind.Call ∷ kind.Return ∷ kind.J
 -- a code and its kind of flow: each code that walks name has a kind of its own, and jumps are jumps
 agrees : ℕ → Row → Bool
 agrees code r =
-    same (eqb code 0x51) (is (r .flow) kind.Ending) &&
-    (same (eqb code 0x52) (is (r .flow) kind.Call) &&
-    (same (eqb code 0x53) (is (r .flow) kind.Return) &&
-    (same (eqb code 0x55) (is (r .flow) kind.Jump) &&
-    (same (eqb code 0x57) (is (r .flow) kind.StartBias) &&
-    (same (eqb code 0x54) (is (r .flow) kind.StartPlc) &&
-    (same (eqb code 0x90) (is (r .flow) kind.StartMathematics) &&
-    (same (jumps code) (jumpsBy (r .flow)) &&
-    (same (stays code) (is (r .flow) kind.Wait) &&
+    sameTest (eqb code 0x51) (is (r .flow) kind.Ending) &&
+    (sameTest (eqb code 0x52) (is (r .flow) kind.Call) &&
+    (sameTest (eqb code 0x53) (is (r .flow) kind.Return) &&
+    (sameTest (eqb code 0x55) (is (r .flow) kind.Jump) &&
+    (sameTest (eqb code 0x57) (is (r .flow) kind.StartBias) &&
+    (sameTest (eqb code 0x54) (is (r .flow) kind.StartPlc) &&
+    (sameTest (eqb code 0x90) (is (r .flow) kind.StartMathematics) &&
+    (sameTest (jumps code) (jumpsBy (r .flow)) &&
+    (sameTest (stays code) (is (r .flow) kind.Wait) &&
     not (is (r .flow) kind.Nothing)))))))))
 
 all-agree : T (every agrees rows)
 unfolding agrees rows
 all-agree = tt
 
-agree : {a b : Bool} → same a b ≡ true → a ≡ b
-agree e = same-is _ _ (subst T (sym e) tt)
+agree : {a b : Bool} → sameTest a b ≡ true → a ≡ b
+agree e = same-test-is _ _ (subst T (sym e) tt)
 
 -- what a code that some task may use has to do with its kind of flow
 pub record Flows (code : ℕ) (k : FlowKind) : Type 0 where

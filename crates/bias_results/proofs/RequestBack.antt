@@ -12,18 +12,18 @@ use Rattle.bias_results.specs.declared.BiasAnswer.{BiasAnswer}
 abbrev axisFrom : BiasAnswer → Axis
 axisFrom r = record { position = r .position; speed = r .speed; acceleration = r .acceleration; deceleration = r .deceleration }
 
-abbrev pub motionFrom : BiasAnswer → Request
-motionFrom r =
+abbrev pub requestFrom : BiasAnswer → Request
+requestFrom r =
     cond (eqb (r .motion) 1) (MoveTo (axisFrom r))
     (cond (eqb (r .motion) 2) (MoveBy (axisFrom r))
     (cond (eqb (r .motion) 3) (Forward (axisFrom r))
     (cond (eqb (r .motion) 4) (Backward (axisFrom r))
     (cond (eqb (r .motion) 5) (Stop (r .mode) (r .deceleration)) None))))
 
-pub motion-back : (m : Request) (a : Answer) → motionFrom (answerFor m a) ≡ m
-motion-back None a = refl
-motion-back (MoveTo x) a = refl
-motion-back (MoveBy x) a = refl
-motion-back (Forward x) a = refl
-motion-back (Backward x) a = refl
-motion-back (Stop mode ramp) a = refl
+pub request-back : (m : Request) (a : Answer) → requestFrom (answerFor m a) ≡ m
+request-back None a = refl
+request-back (MoveTo x) a = refl
+request-back (MoveBy x) a = refl
+request-back (Forward x) a = refl
+request-back (Backward x) a = refl
+request-back (Stop mode ramp) a = refl
