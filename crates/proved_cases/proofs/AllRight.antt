@@ -31,7 +31,7 @@ use Rattle.machine.specs.Engine as engine
 use Rattle.machine.specs.Run.{outs, stateAfter}
 use Rattle.walk.proofs.Verdicts.Fast.{closureFast, walksFast, blocksFast, readFast, verdictFast, fast-is}
 use Rattle.proved_cases.specs.Images.{caseA}
-use Rattle.proved_cases.specs.Table.{Question, Reply, answerOf, standings, ask, Entry, table}
+use Rattle.proved_cases.specs.Table.{Question, Reply, answerOf, standings, ask, Entry, caseTable}
 
 -- the answer by the fast twin
 abbrev quick : Question → Reply
@@ -61,8 +61,8 @@ given = map (λ r. quick (r .question))
 abbrev expected : List Entry → List Reply
 expected = map (λ r. r .answer)
 
-computed : given table ≡ expected table
-unfolding table
+computed : given caseTable ≡ expected caseTable
+unfolding caseTable
     wrap.word wrap.wrap ops.quotient
     types.takes types.cycleOf
     homes.inputs homes.outputsWritten homes.homeIn homes.homeOf pins.onBoard pins.presence pins.pinOf
@@ -92,5 +92,5 @@ each [] e r m = absurd m
 each (s ∷ rs) e r (inl i) = rw i (sym (quick-is (s .question)) ∙ ap (λ (answers : List Reply). getD answers 0 (s .answer)) e)
 each (s ∷ rs) e r (inr m) = each rs (ap tail e) r m
 
-pub all-right : (r : Entry) → In r table → ask (r .question) ≡ r .answer
-all-right = each table computed
+pub all-right : (r : Entry) → In r caseTable → ask (r .question) ≡ r .answer
+all-right = each caseTable computed

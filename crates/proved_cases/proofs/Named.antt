@@ -5,7 +5,7 @@ use lib.IntN.{negsuc}
 use Rattle.state.specs.State.{startAxis}
 use Rattle.machine.specs.declared.Request.the-variants.{None, MoveTo}
 use Rattle.proved_cases.specs.Images.{block}
-use Rattle.proved_cases.specs.Table.{Name, Reply, Entry, stand, accepted, table}
+use Rattle.proved_cases.specs.Table.{Name, Reply, Entry, stand, accepted, caseTable}
 use Rattle.proved_cases.specs.Table.Name.{A, B, C, D, E, F, G, H, I, J, K, L, chainOf, marksOf, blockBeforeTask, taskBeforeDepth, onDrive, outputInstead}
 use Rattle.proved_cases.specs.Table.Name.{heldStart, startMark}
 use Rattle.proved_cases.specs.Table.Reply.{refusal, value, noNumber, standing, whole, motions}
@@ -17,7 +17,7 @@ record Told : Type 0 where
 abbrev told : Name → Reply → Told
 told n a = record { name = n; answer = a }
 
-pub named : map (λ (r : Entry). told (r .name) (r .answer)) table
+pub named : map (λ (r : Entry). told (r .name) (r .answer)) caseTable
     ≡ told A accepted ∷ told B (refusal 12 0 0 0) ∷ told C (refusal 3 4 0 0) ∷ told D (refusal 10 0 0 5) ∷ told E (refusal 11 1 0 0) ∷ told F (refusal 9 0 1 0)
     ∷ told G accepted ∷ told H (refusal 7 0 0 0) ∷ told I (refusal 6 0 0 0) ∷ told I accepted
     ∷ told J (standing (stand 0 1000 526) (stand 1 0 0)) ∷ told J (standing (stand 0 1000 1184) (stand 1 0 0))
@@ -33,5 +33,5 @@ pub named : map (λ (r : Entry). told (r .name) (r .answer)) table
     ∷ told (onDrive 2 0 0 (block 114 217 2 0 ∷ [])) (refusal 23 0 0 0) ∷ told (onDrive 3 0 0 (block 110 0 0 0 ∷ [])) (refusal 6 0 0 0)
     ∷ told (outputInstead 217) (refusal 17 0 0 0) ∷ told (outputInstead 8) (refusal 17 0 0 0) ∷ told (outputInstead 13) accepted
     ∷ told heldStart (motions (None ∷ None ∷ None ∷ MoveTo startAxis ∷ [])) ∷ told startMark (motions (None ∷ MoveTo startAxis ∷ None ∷ None ∷ [])) ∷ []
-unfolding table
+unfolding caseTable
 named = refl

@@ -176,8 +176,8 @@ driveRow model b c blocks = entry (onDrive model b c blocks) (verdict (imageWith
 abbrev pub insteadRow : ℕ → Reply → Entry
 insteadRow pin = entry (outputInstead pin) (instead (image (outputSet 12 ∷ blockA ∷ [])) (image (outputSet pin ∷ blockA ∷ [])))
 
-unfoldable pub table : List Entry
-table =
+unfoldable pub caseTable : List Entry
+caseTable =
     -- A: 55 and seven 00: accepted
     entry A (verdict caseA) accepted ∷
     -- B: 50 and seven 00: 12 at block 0
