@@ -31,7 +31,8 @@ enum { CIRCLE = 60, STEPS_ONCE = 10 * (CIRCLE + 1) };
 typedef struct {
     const char *name;
     bias_verdict (*load)(const uint8_t *, size_t, uint8_t *, size_t, uint8_t *, size_t);
-    bias_answer (*step)(const uint8_t *, size_t, uint8_t *, size_t, uint32_t, const uint8_t *, size_t, uint8_t, uint8_t);
+    bias_answer (*step)(const uint8_t *, size_t, uint8_t *, size_t, uint32_t, const uint8_t *, size_t, uint8_t, uint8_t,
+                        uint8_t);
     bias_verdict (*write)(uint32_t, uint32_t, uint32_t, uint32_t, uint32_t, uint32_t, const uint8_t *, size_t, uint8_t *,
                           size_t);
 } side;
@@ -184,7 +185,7 @@ static double time_steps(const side *s, const uint8_t *begin, uint32_t task)
         memcpy(state, begin, sizeof state);
         const double begun = now();
         for (int step = 0; step < STEPS_A_ROUND; step++)
-            answers += s->step(image, image_len, state, sizeof state, task, inputs, sizeof inputs, 0, 0).number;
+            answers += s->step(image, image_len, state, sizeof state, task, inputs, sizeof inputs, 0, 0, 0).number;
         const double taken = (now() - begun) / STEPS_A_ROUND;
         if (taken < best)
             best = taken;
@@ -196,7 +197,7 @@ static void step_once(const uint8_t *begin, uint32_t task)
 {
     memcpy(state, begin, sizeof state);
     for (int step = 0; step < STEPS_ONCE; step++)
-        answers += bias_step(image, image_len, state, sizeof state, task, inputs, sizeof inputs, 0, 0).number;
+        answers += bias_step(image, image_len, state, sizeof state, task, inputs, sizeof inputs, 0, 0, 0).number;
     printf("%d\n", STEPS_ONCE);
 }
 
@@ -470,7 +471,7 @@ static void do_errand(const errand *e)
     if (e->deed == DO_LOAD)
         answers += e->side->load(image, image_len, marks, sizeof marks, state, sizeof state).number;
     else if (e->deed == DO_STEP)
-        answers += e->side->step(image, image_len, state, sizeof state, 0, inputs, sizeof inputs, 0, 0).number;
+        answers += e->side->step(image, image_len, state, sizeof state, 0, inputs, sizeof inputs, 0, 0, 0).number;
     else if (e->deed == DO_WRITE)
         answers += e->side->write(BIAS_FORMAT, 2, 0, 0, 0, count, &blocks[0][0], sizeof(block) * count, image,
                                   sizeof image).number;

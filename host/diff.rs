@@ -115,7 +115,8 @@ fn compare(options: &Options) -> Result<(), String> {
     println!("seed {}, {number} cases, {} steps, {:.1} s", options.seed, tally.steps_done(), begun.elapsed().as_secs_f64());
     let missing = tally.report();
     if missing.is_empty() {
-        println!("no difference; all 57 commands carried out, all numbers 0 to 20 and 23 met");
+        println!("no difference; all 57 commands carried out, all numbers 0 to 20 and 23 met,");
+        println!("58s that passed and that a move held back, halts right behind a move");
         return Ok(());
     }
     Err(format!("not all was met: {}", missing.join(", ")))

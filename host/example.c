@@ -9,20 +9,26 @@
 #include "listing.h"
 
 enum { TASKS = 3, TEXT_ROOM = 96, CHANGES_ROOM = 512, DEFAULT_CYCLES = 3000, EXIT_REFUSED = 1, EXIT_USAGE = 2 };
+enum { WAIT_FOR_POSITION = 0x58 };
 #define DEFAULT_IMAGE "host/feed.img"
 
 /* Where a trace finds the rest of the state (docs/STATE.md). Firmware has no need of these: they may move. */
 enum {
     AT_HEADER = BIAS_STATE_LAYOUT_AT + 1, AT_POSITION = AT_HEADER + 8, AT_SPEED = AT_POSITION + 4,
     AT_ACCELERATION = AT_SPEED + 2, AT_DECELERATION = AT_ACCELERATION + 2, AT_START_MARK = AT_DECELERATION + 2,
-    AT_START_LEVEL = AT_START_MARK + 1, AT_STARTS = AT_START_LEVEL + 1, AT_TASKS = AT_STARTS + 4,
-    IN_TASK_DEPTH = 1, IN_TASK_BLOCK = 2, IN_TASK_STACK = 4,
+    AT_START_LEVEL = AT_START_MARK + 1, AT_MOVED = AT_START_LEVEL + 1, AT_STARTS = AT_MOVED + 1,
+    AT_TASKS = AT_STARTS + 4, IN_TASK_DEPTH = 1, IN_TASK_BLOCK = 2, IN_TASK_STACK = 4,
     IN_TASK_TIME = IN_TASK_STACK + 2 * BIAS_MOST_DEPTH, TASK_LENGTH = IN_TASK_TIME + 8, STATUS_RUNNING = 1
 };
 
 /* A motor turn has 16384 increments (the manual's high resolver resolution). */
 #define INCREMENTS_PER_TURN 16384ull
 #define MICROSECONDS_PER_MINUTE 60000000ull
+
+/* In window is that many increments from the target, or fewer: as in the manual's examples at 25 and 35, commands that
+ * are not carried, so no program sets another. This axis stops right on its target, so any window would do; in the feed
+ * program it comes into this one while it still moves, so that a 58 needs both bits. */
+enum { WINDOW = 400 };
 
 /* An axis without ramps: it moves at the requested speed and stops where it should. A move by a distance counts from the
  * latest target (the manual at 01); an endless move and a stop leave the target where the axis is. */
@@ -32,6 +38,11 @@ typedef struct {
     int endless;
 } axis;
 
+/* What an axis reports. */
+typedef struct {
+    uint8_t ramp_ended, in_window;
+} axis_bits;
+
 /* What the example holds for one program. */
 typedef struct {
     uint8_t *image;
@@ -39,6 +50,7 @@ typedef struct {
     uint8_t state[BIAS_STATE_LENGTH];
     uint8_t inputs[BIAS_INPUTS_LENGTH];
     axis axis;
+    axis_bits given; /* with the steps of this cycle */
     unsigned long cycles, cycle;
     unsigned long steps[TASKS], stays[TASKS], requests;
     int quiet;
@@ -85,10 +97,20 @@ static void axis_request(run *program, const bias_answer *answer)
         a->direction = answer->motion == BIAS_MOTION_ENDLESS_FORWARD ? 1 : -1;
 }
 
+static long long axis_left(const axis *a)
+{
+    return a->target > a->position ? a->target - a->position : a->position - a->target;
+}
+
+static axis_bits axis_report(const axis *a)
+{
+    const axis_bits report = {a->direction == 0, axis_left(a) <= WINDOW};
+    return report;
+}
+
 static void axis_cycle(axis *a)
 {
-    long long left = a->target > a->position ? a->target - a->position : a->position - a->target;
-    if (a->endless || left > a->per_cycle) {
+    if (a->endless || axis_left(a) > a->per_cycle) {
         a->position += a->direction * a->per_cycle;
         a->target = a->endless ? a->position : a->target;
     } else if (a->direction != 0) {
@@ -170,15 +192,22 @@ static void print_request(const bias_answer *answer)
                (unsigned)answer->speed, 5u * (unsigned)answer->acceleration, 5u * (unsigned)answer->deceleration);
 }
 
-/* The block that a task is at, in words. */
+/* The block that a task is at. */
+static const uint8_t *block_at(const run *program, unsigned task, const uint8_t *before)
+{
+    const size_t first = program->image_len - (size_t)BIAS_BLOCK_LENGTH * word(before + AT_HEADER + 6);
+    const unsigned block = word(task_record(before, task) + IN_TASK_BLOCK);
+    return program->image + first + (size_t)BIAS_BLOCK_LENGTH * block;
+}
+
+/* The same in words. */
 static void print_place(const run *program, unsigned task, const uint8_t *before)
 {
     const uint8_t *record = task_record(before, task);
-    const unsigned block = word(record + IN_TASK_BLOCK);
-    const size_t first = program->image_len - (size_t)BIAS_BLOCK_LENGTH * word(before + AT_HEADER + 6);
     char text[TEXT_ROOM];
-    listing_block(program->image + first + (size_t)BIAS_BLOCK_LENGTH * block, text, sizeof text);
-    printf("%7lu  %-4s %5u %5u  %-44s ", program->cycle, listing_task(task), block, record[IN_TASK_DEPTH], text);
+    listing_block(block_at(program, task, before), text, sizeof text);
+    printf("%7lu  %-4s %5u %5u  %-44s ", program->cycle, listing_task(task), word(record + IN_TASK_BLOCK),
+           record[IN_TASK_DEPTH], text);
 }
 
 static void print_line(const run *program, unsigned task, const uint8_t *before, const bias_answer *answer, int stays)
@@ -188,7 +217,9 @@ static void print_line(const run *program, unsigned task, const uint8_t *before,
     parameter_changes(before, program->state, changes);
     task_changes(before, program->state, task, changes);
     print_place(program, task, before);
-    if (stays)
+    if (stays && block_at(program, task, before)[0] == WAIT_FOR_POSITION)
+        printf("stays, ramp ended %u, in window %u", program->given.ramp_ended, program->given.in_window);
+    else if (stays)
         printf("stays");
     else if (program->stays[task] != 0)
         printf("%s%sgoes on after %lu more steps, axis at %lld", changes, changes[0] == '\0' ? "" : "; ",
@@ -218,12 +249,13 @@ static void trace(run *program, unsigned task, const uint8_t *before, const bias
 /* ---- the run ---- */
 
 /* One step of one task. Gives 0 when a refusal came that no accepted program can meet. */
-static int step_task(run *program, unsigned task, int reached)
+static int step_task(run *program, unsigned task)
 {
     uint8_t before[BIAS_STATE_LENGTH];
     memcpy(before, program->state, sizeof before);
     bias_answer answer = bias_step(program->image, program->image_len, program->state, sizeof program->state, task,
-                                   program->inputs, sizeof program->inputs, 0, (uint8_t)reached);
+                                   program->inputs, sizeof program->inputs, 0, program->given.ramp_ended,
+                                   program->given.in_window);
     if (answer.number == BIAS_NOT_RUNNING)
         return 1;
     if (answer.number == BIAS_BAD_INPUTS || answer.number == BIAS_NO_STATE || answer.number == BIAS_OTHER_IMAGE) {
@@ -239,13 +271,17 @@ static int step_task(run *program, unsigned task, int reached)
     return 1;
 }
 
-/* Document 01: BIAS, PLC and mathematics, one command each in a trajectory cycle; then the axis moves. */
+/* Document 01: BIAS, PLC and mathematics, one command each in a trajectory cycle; then the axis moves. Its bits come a
+ * cycle late: it reports before the steps of a cycle, and the steps of the next cycle are given that. So in the cycle
+ * after a start they still speak of the movement before. Nothing is done about it here: the library has a 58 stay. */
 static int run_cycles(run *program)
 {
+    axis_bits report = axis_report(&program->axis);
     for (program->cycle = 0; program->cycle < program->cycles; program->cycle++) {
-        const int reached = program->axis.direction == 0;
+        program->given = report;
+        report = axis_report(&program->axis);
         for (unsigned task = 0; task < TASKS; task++)
-            if (!step_task(program, task, reached))
+            if (!step_task(program, task))
                 return 0;
         axis_cycle(&program->axis);
     }

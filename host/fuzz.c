@@ -231,7 +231,7 @@ static void fuzz_load(void)
 
 typedef struct {
     uint32_t task;
-    uint8_t start, reached;
+    uint8_t start, ramp_ended, in_window;
 } levels;
 
 static bias_answer place_and_step(int at_end, levels given)
@@ -243,7 +243,8 @@ static bias_answer place_and_step(int at_end, levels given)
     region_lock(&image_region);
     region_lock(&inputs_region);
     bias_answer answer = bias_step(image_region.bytes, image_region.length, state_region.bytes, state_region.length,
-                                   given.task, inputs_region.bytes, inputs_region.length, given.start, given.reached);
+                                   given.task, inputs_region.bytes, inputs_region.length, given.start,
+                                   given.ramp_ended, given.in_window);
     region_unlock(&image_region);
     region_unlock(&inputs_region);
     region_check(&state_region, "wrote outside the state");
@@ -291,7 +292,8 @@ static void fresh_run(void)
 
 static void fuzz_step(void)
 {
-    levels given = {(uint32_t)random_below(TASKS), (uint8_t)random_below(2), (uint8_t)random_below(2)};
+    levels given = {(uint32_t)random_below(TASKS), (uint8_t)random_below(2), (uint8_t)random_below(4),
+                    (uint8_t)random_below(4)};
     if (random_below(200) == 0)
         fresh_run();
     image = loaded;
@@ -388,9 +390,9 @@ static void fuzz_huge(void)
     check(verdict.number == BIAS_ENDS_EARLY && verdict.place == 0, "huge marks");
     verdict = bias_load(image.bytes, image.length, marks.bytes, BIAS_MARKS_LENGTH, huge, HUGE);
     check(verdict.number == BIAS_NO_STATE && verdict.place == 0, "a huge state");
-    bias_answer answer = bias_step(image.bytes, image.length, state.bytes, state.length, 0, huge, HUGE, 0, 0);
+    bias_answer answer = bias_step(image.bytes, image.length, state.bytes, state.length, 0, huge, HUGE, 0, 0, 0);
     check(answer.number == BIAS_BAD_INPUTS && answer.place == HUGE, "huge inputs");
-    answer = bias_step(image.bytes, image.length, huge, HUGE, 0, inputs.bytes, BIAS_INPUTS_LENGTH, 0, 0);
+    answer = bias_step(image.bytes, image.length, huge, HUGE, 0, inputs.bytes, BIAS_INPUTS_LENGTH, 0, 0, 0);
     check(answer.number == BIAS_NO_STATE && answer.place == 0, "a huge state to step");
     verdict = bias_write(1, 2, 0, 0, 0, 1, huge, HUGE, out.bytes, sizeof out.bytes);
     check(verdict.number == BIAS_LEFT_OVER && verdict.place == HUGE, "huge blocks");

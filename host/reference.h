@@ -7,7 +7,8 @@
 bias_verdict reference_load(const uint8_t *image, size_t image_len, uint8_t *marks, size_t marks_len, uint8_t *state,
                             size_t state_len);
 bias_answer reference_step(const uint8_t *image, size_t image_len, uint8_t *state, size_t state_len, uint32_t task,
-                           const uint8_t *inputs, size_t inputs_len, uint8_t start_input, uint8_t position_reached);
+                           const uint8_t *inputs, size_t inputs_len, uint8_t start_input, uint8_t ramp_ended,
+                           uint8_t in_window);
 bias_verdict reference_write(uint32_t format, uint32_t type, uint32_t slot_b, uint32_t slot_c, uint32_t start,
                              uint32_t count, const uint8_t *blocks, size_t blocks_len, uint8_t *out, size_t out_len);
 

@@ -39,8 +39,10 @@
  *   1. Read the input pins into inputs, and the start input (which is a pin as well: lend it in both places).
  *   2. Step BIAS, then the PLC and mathematics, each once or more. Waits (59, 5A) count BIAS steps of 1,899 or 844 us, by
  *      the drive type in the image's header and not by your own cycle: step BIAS once in that time.
- *   3. Hand each motion request to the axis when it comes. From that step on, position_reached has to be 0 until the
- *      axis has done what was asked; else a 58 right behind a move passes at once.
+ *   3. Hand each motion request to the axis before the next BIAS step, and give the axis's two bits with each step:
+ *      ramp_ended and in_window. They may come a cycle late: in the first BIAS step behind a move a 58 stays whatever
+ *      they are. From the second BIAS step on they have to be those of the new movement, which is up to you if you step
+ *      BIAS more than once in a cycle of the axis. A stop is no move: behind one they count at once.
  *   4. Carry the output levels from the state buffer to the pins. After a load they are all 0.
  *   5. Note 19 and 20 when they come: they come once, and from then on that task answers 18. No motion is asked for when
  *      a task halts or ends; stopping the axis is up to you.
@@ -76,7 +78,7 @@ extern "C" {
 
 /* The layout number that bias_load writes. bias_step refuses a state with another one by 16, so that a state saved by a
  * release with another layout is never taken for one of this: load anew then. */
-#define BIAS_STATE_LAYOUT 3u
+#define BIAS_STATE_LAYOUT 4u
 
 /* Drive types, and what is in their slots. A 631 has both slots empty; RP-2C8 and RP-SBT are for the 637f alone. */
 enum {
@@ -170,7 +172,8 @@ typedef struct {
 } bias_answer;
 
 /* Judges an image and, when it is accepted, writes the state of a program about to begin: BIAS at the program start, the
- * PLC and mathematics never started, all variables, flags and outputs 0, the start input taken as high before.
+ * PLC and mathematics never started, all variables, flags and outputs 0, the start input taken as high before, no move
+ * before.
  *
  * The first of these is told: 13, 16, the header's numbers by 1, 2, 3, the length by 1 or 4, each block upwards by 5, 6
  * or 23, 7, 8; then what the program can reach, with every condition taken both ways: 7 for a 51 that would end another
@@ -189,17 +192,23 @@ bias_verdict bias_load(const uint8_t *image, size_t image_len,
  *   start_input         the start input's level; anything but 0 is high; looked at in BIAS steps. A move without a start
  *                       mark waits for it to be high in a BIAS step and low in the BIAS step before it (a refused step
  *                       does not count); as load leaves it, it counts as high before
- *   position_reached    anything but 0: the axis has reached its position (58 waits for it)
+ *   ramp_ended          anything but 0: the ramps of the latest movement or stop have ended
+ *   in_window           anything but 0: the position is within the window around the target. The old drive's bit is set
+ *                       at an active limit switch, too (the manual at 58): give it there if a 58 is to go on
+ *                       A 58 passes when both are given and the preceding BIAS step carried out no move (a step that was
+ *                       refused or halted does not count, nor do other tasks' steps); else it stays. With no move since
+ *                       the load the two bits alone decide
  *
  * 15, 16, 18 and 17 are tested in this order, and a step that they refuse leaves the state buffer as it was. 18 is no
  * fault: a task that is not running has nothing to do. 19 and 20 halt the task and, in a BIAS step, note the start
- * input's level; the rest of the state stays. The task stays halted until a 54, 57 or 90 of another task starts it
- * anew. In a run from an accepted load, with image and state left alone, 16 and 17 do not come. */
+ * input's level; the rest of the state stays, and with it whether the BIAS step before was a move. The task stays halted
+ * until a 54, 57 or 90 of another task starts it anew. In a run from an accepted load, with image and state left alone,
+ * 16 and 17 do not come. */
 bias_answer bias_step(const uint8_t *image, size_t image_len,
                       uint8_t *state, size_t state_len,
                       uint32_t task,
                       const uint8_t *inputs, size_t inputs_len,
-                      uint8_t start_input, uint8_t position_reached);
+                      uint8_t start_input, uint8_t ramp_ended, uint8_t in_window);
 
 /* Writes an image: the six header numbers, then the blocks as they are (they are not judged; load the image for that).
  *

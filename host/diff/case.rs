@@ -18,7 +18,8 @@ pub struct Action {
     pub inputs: Vec<(u8, u8)>,
     pub inputs_len: usize,
     pub start: u8,
-    pub reached: u8,
+    pub ramp_ended: u8,
+    pub in_window: u8,
     /// Bytes of the state that somebody else writes before the step.
     pub pokes: Vec<(usize, u8)>,
     /// Whether the state after the step is kept although somebody else wrote it; else the one before is put back.
@@ -34,7 +35,7 @@ impl Action {
         Action { task, inputs_len: INPUTS_LENGTH, state_len: STATE_LENGTH, ..Action::default() }
     }
 
-    fn given(&self) -> Vec<u8> {
+    fn levels(&self) -> Vec<u8> {
         let mut inputs = vec![0; self.inputs_len];
         for (pin, level) in &self.inputs {
             if let Some(byte) = inputs.get_mut(*pin as usize) {
@@ -42,6 +43,10 @@ impl Action {
             }
         }
         inputs
+    }
+
+    fn given<'a>(&self, inputs: &'a [u8]) -> Given<'a> {
+        Given { inputs, start: self.start, ramp_ended: self.ramp_ended, in_window: self.in_window }
     }
 }
 
@@ -87,11 +92,20 @@ pub struct Player {
     pub state: Vec<u8>,
 }
 
+/// Where a task stood before a step.
+#[derive(Clone, Copy)]
+pub struct Stood {
+    pub code: u8,
+    pub block: u16,
+    /// Whether the note of a move was set.
+    pub moved: bool,
+}
+
 /// What a step of the player met.
 pub struct Played {
     pub answer: Answer,
-    /// Code and block where the task stood.
-    pub before: Option<(u8, u16)>,
+    /// Where the task stood, when there is such a thing.
+    pub before: Option<Stood>,
     /// The state after the step, when what is left is another one: what somebody else wrote was taken back.
     pub taken_back: Option<Vec<u8>>,
 }
@@ -113,10 +127,9 @@ impl Player {
         let saved = odd.then(|| self.state.clone());
         self.prepare(action);
         let image = action.lent.as_deref().unwrap_or(image);
-        let before = place_before(image, &mut self.state, action.task);
-        let inputs = action.given();
-        let given = Given { inputs: &inputs, start: action.start, reached: action.reached };
-        let answer = reference::step(image, &mut self.state, action.task, given);
+        let before = stood(image, &mut self.state, action.task);
+        let inputs = action.levels();
+        let answer = reference::step(image, &mut self.state, action.task, action.given(&inputs));
         let refused = matches!(answer.number, NO_STATE | OTHER_IMAGE | BAD_INPUTS);
         let taken_back = match saved {
             Some(saved) if !action.keep || refused => Some(std::mem::replace(&mut self.state, saved)),
@@ -174,25 +187,26 @@ impl Sides {
             self.library = Guarded::of(&prepared.state);
         }
         self.reference.state = saved;
-        let inputs = action.given();
+        let inputs = action.levels();
         let image = action.lent.as_ref().unwrap_or(&self.image);
-        let ours = library::step(image, self.library.inner(), action.task, &inputs, action.start, action.reached);
+        let ours = library::step(image, self.library.inner(), action.task, action.given(&inputs));
         let played = self.reference.play(&self.image, action);
         let after = played.taken_back.as_ref().unwrap_or(&self.reference.state);
-        tally.step(&played.answer, played.before, after, action.task);
+        tally.step(&played.answer, played.before, after, action);
         same_answers(&ours, &played.answer)?;
         same_bytes("state after the step", self.library.seen(), after)?;
         held("wrote outside the state", self.library.intact())?;
-        held("the inputs were written", inputs == action.given())
+        held("the inputs were written", inputs == action.levels())
     }
 }
 
-/// Code and block where the task stands, when there is such a thing.
-fn place_before(image: &[u8], state: &mut [u8], task: u32) -> Option<(u8, u16)> {
+/// Where the task stands, when there is such a thing.
+fn stood(image: &[u8], state: &mut [u8], task: u32) -> Option<Stood> {
     let state = State::of(state)?;
     let (header, blocks) = image::read(image).ok()?;
     let block = if (task as usize) < TASKS { state.block(task as usize) } else { return None };
-    ((block as usize) < header.count).then(|| (image::block(blocks, block as usize)[0], block))
+    let code = || image::block(blocks, block as usize)[0];
+    ((block as usize) < header.count).then(|| Stood { code: code(), block, moved: state.moved() != 0 })
 }
 
 fn same_answers(ours: &Answer, theirs: &Answer) -> Checked {

@@ -1,5 +1,6 @@
 //! The library under test, called through its C border (include/bias.h), with guard bytes around what it may write.
 
+use reference::engine::Given;
 use reference::image::Wanted;
 use reference::{Answer, Verdict};
 
@@ -9,7 +10,7 @@ extern "C" {
     ) -> Verdict;
     fn bias_step(
         image: *const u8, image_len: usize, state: *mut u8, state_len: usize, task: u32, inputs: *const u8,
-        inputs_len: usize, start_input: u8, position_reached: u8,
+        inputs_len: usize, start_input: u8, ramp_ended: u8, in_window: u8,
     ) -> Answer;
     fn bias_write(
         format: u32, kind: u32, slot_b: u32, slot_c: u32, start: u32, count: u32, blocks: *const u8,
@@ -24,12 +25,13 @@ pub fn load(image: &[u8], marks: &mut [u8], state: &mut [u8]) -> Verdict {
     }
 }
 
-pub fn step(image: &[u8], state: &mut [u8], task: u32, inputs: &[u8], start: u8, reached: u8) -> Answer {
+pub fn step(image: &[u8], state: &mut [u8], task: u32, given: Given) -> Answer {
+    let Given { inputs, start, ramp_ended, in_window } = given;
     // SAFETY: as above.
     unsafe {
         bias_step(
             image.as_ptr(), image.len(), state.as_mut_ptr(), state.len(), task, inputs.as_ptr(), inputs.len(), start,
-            reached,
+            ramp_ended, in_window,
         )
     }
 }

@@ -6,7 +6,7 @@ use crate::random::Random;
 use reference::image;
 use reference::number::*;
 use reference::state::{
-    record, State, ACCELERATION, BLOCK, COUNT, DECELERATION, DEPTH, FLAGS, HEADER, LAYOUT_AT, PATH, POSITION,
+    record, State, ACCELERATION, BLOCK, COUNT, DECELERATION, DEPTH, FLAGS, HEADER, LAYOUT_AT, MOVED, PATH, POSITION,
     RECORD_LENGTH, RUNNING, SPEED, START, STARTS, START_LEVEL, START_MARK, STATE_LENGTH, STATUS, TIME, TURNS, UNUSED,
 };
 
@@ -55,7 +55,8 @@ struct Drawing<'a> {
     count: usize,
     player: Player,
     start: u8,
-    reached: u8,
+    ramp_ended: u8,
+    in_window: u8,
     inputs: Vec<(u8, u8)>,
     /// Steps in a row that were refused.
     trouble: usize,
@@ -69,7 +70,8 @@ impl Drawing<'_> {
     fn new(random: &mut Random, image: Vec<u8>, state: Vec<u8>) -> Drawing<'_> {
         let count = image::read(&image).map_or(1, |(header, _)| header.count);
         let start = random.pick(&[0, 1]);
-        Drawing { random, image, count, player: Player { state }, start, reached: 0, inputs: Vec::new(), trouble: 0 }
+        let player = Player { state };
+        Drawing { random, image, count, player, start, ramp_ended: 0, in_window: 0, inputs: Vec::new(), trouble: 0 }
     }
 
     fn alive(&self) -> bool {
@@ -81,7 +83,8 @@ impl Drawing<'_> {
         let mut action = Action::plain(self.task());
         action.inputs = self.inputs.clone();
         action.start = self.start;
-        action.reached = self.reached;
+        action.ramp_ended = self.ramp_ended;
+        action.in_window = self.in_window;
         self.make_odd(&mut action);
         let played = self.player.play(&self.image, &action);
         self.trouble = if played.answer.number == SUCCESS { 0 } else { self.trouble + 1 };
@@ -149,25 +152,37 @@ impl Drawing<'_> {
         bytes
     }
 
+    /// Each level by itself; now and then ramp ended and in window are both high, so that every 58 passes at last.
     fn turn_levels(&mut self) {
         if self.random.chance(30) {
-            self.start = if self.start == 0 { self.random.pick(&HIGH) } else { 0 };
+            self.start = self.turned(self.start);
         }
-        if self.random.chance(30) {
-            self.reached = if self.reached == 0 { self.random.pick(&HIGH) } else { 0 };
+        if self.random.chance(20) {
+            self.ramp_ended = self.turned(self.ramp_ended);
+        }
+        if self.random.chance(20) {
+            self.in_window = self.turned(self.in_window);
+        }
+        if self.random.chance(15) {
+            self.ramp_ended = self.random.pick(&HIGH);
+            self.in_window = self.random.pick(&HIGH);
         }
         if self.random.chance(20) {
             let pins = self.random.below(40);
             self.inputs = (0..pins).map(|_| (self.random.byte(), self.random.pick(&HIGH))).collect();
         }
     }
+
+    fn turned(&mut self, level: u8) -> u8 {
+        if level == 0 { self.random.pick(&HIGH) } else { 0 }
+    }
 }
 
 /// Where the fields of a state stand (docs/STATE.md), the layout number first, and how many bytes each has.
-const FIELDS: [(usize, usize); 17] = [
+const FIELDS: [(usize, usize); 18] = [
     (LAYOUT_AT, 1), (HEADER, 1), (HEADER + 1, 1), (HEADER + 2, 1), (HEADER + 3, 1), (START, 2), (COUNT, 2),
-    (POSITION, 4), (SPEED, 2), (ACCELERATION, 2), (DECELERATION, 2), (START_MARK, 1), (START_LEVEL, 1), (STARTS, 2),
-    (STARTS + 2, 2), (UNUSED, 1), (STATE_LENGTH - 1, 1),
+    (POSITION, 4), (SPEED, 2), (ACCELERATION, 2), (DECELERATION, 2), (START_MARK, 1), (START_LEVEL, 1), (MOVED, 1),
+    (STARTS, 2), (STARTS + 2, 2), (UNUSED, 1), (STATE_LENGTH - 1, 1),
 ];
 
 /// What somebody else might write: one to three fields, mostly near the ends of their ranges.

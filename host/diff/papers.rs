@@ -1,9 +1,9 @@
 //! The papers' own examples: A to L and the chains of calls of document 01 with its answers, or those of change
-//! request 6 where it changes them; those of change requests 2, 3 and 6; starts at the ends of each length of a number;
-//! layout numbers and states of the layout before; and images cut at every length. Done on the library and on the
-//! reference alike.
+//! request 6 where it changes them; those of change requests 2, 3, 4 and 6; starts at the ends of each length of a
+//! number; layout numbers and states of the layout before; and images cut at every length. Done on the library and on
+//! the reference alike.
 
-use crate::case::{Action, Case};
+use crate::case::{Action, Case, Player};
 use crate::program;
 use crate::random::Random;
 use crate::tally::Tally;
@@ -74,10 +74,117 @@ const MARKS: [(usize, [u64; 4]); 3] = [(26_999, [13, 26_999, 0, 0]), (27_000, [0
 const DEPTHS: [(u8, usize, u32); 5] = [(5, 4, 0), (6, 4, 16), (255, 4, 16), (4, 3, 0), (4, 4, 16)];
 
 /// Where the layout number stands and what it is, as docs/STATE.md has them.
-const NUMBERED: (usize, u8) = (1536, 3);
+const NUMBERED: (usize, u8) = (1536, 4);
 
 /// What somebody writes there, and the number of the step on it.
-const LAYOUTS: [(u8, u32); 6] = [(3, 0), (2, 16), (1, 16), (0, 16), (4, 16), (255, 16)];
+const LAYOUTS: [(u8, u32); 7] = [(4, 0), (3, 16), (2, 16), (1, 16), (0, 16), (5, 16), (255, 16)];
+
+/// Where the note of a move stands, as docs/STATE.md has it; the layout before, which had number 3, had none.
+const NOTED: usize = 1557;
+const LAYOUT_BEFORE: u8 = 3;
+
+/// A step with nothing high.
+const LOW: Given<'static> = Given { inputs: &[0; INPUTS_LENGTH], start: 0, ramp_ended: 0, in_window: 0 };
+
+/// One step of a case of change request 4, and what it comes to: number, BIAS's block and the note of a move after it.
+#[derive(Clone, Copy)]
+struct Told {
+    task: u32,
+    start: u8,
+    bits: [u8; 2],
+    inputs_len: usize,
+    /// A byte of the state that somebody else writes before the step; what it leaves is kept unless it was refused.
+    poke: Option<(usize, u8)>,
+    wanted: [u32; 3],
+}
+
+/// A step of a task with both bits given and the start input low.
+const fn by(task: u32, wanted: [u32; 3]) -> Told {
+    Told { task, start: 0, bits: [1, 1], inputs_len: INPUTS_LENGTH, poke: None, wanted }
+}
+
+/// One of BIAS.
+const fn bias(wanted: [u32; 3]) -> Told {
+    by(0, wanted)
+}
+
+/// One of BIAS with these for ramp ended and in window.
+const fn with(bits: [u8; 2], wanted: [u32; 3]) -> Told {
+    Told { bits, ..bias(wanted) }
+}
+
+/// One of BIAS on a state in which somebody else has written a byte.
+const fn on(at: usize, byte: u8, wanted: [u32; 3]) -> Told {
+    Told { poke: Some((at, byte)), ..bias(wanted) }
+}
+
+/// One of BIAS with so many inputs.
+const fn lent_inputs(inputs_len: usize, wanted: [u32; 3]) -> Told {
+    Told { inputs_len, ..bias(wanted) }
+}
+
+/// One of BIAS with the start input high.
+const fn started(wanted: [u32; 3]) -> Told {
+    Told { start: 1, ..bias(wanted) }
+}
+
+/// Change request 4, and the ruling on what it leaves open: a sentence, the blocks' codes and operands, the steps.
+const WAITS: [(&str, &str, &[Told]); 17] = [
+    ("right behind 00 a 58 stays once", "0E 00 58 5502", &[
+        bias([0, 1, 0]), bias([0, 2, 1]), bias([0, 2, 0]), bias([0, 3, 0]), bias([0, 2, 0]), bias([0, 3, 0]),
+    ]),
+    ("right behind 01 a 58 stays once", "0E 01 58 5502", &[
+        bias([0, 1, 0]), bias([0, 2, 1]), bias([0, 2, 0]), bias([0, 3, 0]),
+    ]),
+    ("right behind 03 a 58 stays once", "0E 03 58 5502", &[
+        bias([0, 1, 0]), bias([0, 2, 1]), bias([0, 2, 0]), bias([0, 3, 0]),
+    ]),
+    ("right behind 04 a 58 stays once", "0E 04 58 5502", &[
+        bias([0, 1, 0]), bias([0, 2, 1]), bias([0, 2, 0]), bias([0, 3, 0]),
+    ]),
+    ("right behind a move by the start input's slope a 58 stays once", "00 58 5500", &[
+        bias([0, 0, 0]), started([0, 1, 1]), started([0, 1, 0]), started([0, 2, 0]),
+    ]),
+    ("with no move since load, both bits alone decide: passes at once", "58 5500", &[bias([0, 1, 0])]),
+    ("58 passes when both are true: not by one bit alone", "58 5500", &[
+        with([1, 0], [0, 0, 0]), with([0, 1], [0, 0, 0]), with([0, 0], [0, 0, 0]), with([255, 128], [0, 1, 0]),
+    ]),
+    ("a PLC step between move and 58: it still stays once", "5405 0E 00 58 5503 50 5505", &[
+        bias([0, 1, 0]), bias([0, 2, 0]), bias([0, 3, 1]), by(1, [0, 3, 1]), bias([0, 3, 0]), bias([0, 4, 0]),
+    ]),
+    ("a stop of the PLC between: it still stays once", "5405 0E 00 58 5503 0F01 5505", &[
+        bias([0, 1, 0]), bias([0, 2, 0]), bias([0, 3, 1]), by(1, [0, 3, 1]), bias([0, 3, 0]), bias([0, 4, 0]),
+    ]),
+    ("a step of mathematics between: it still stays once", "9005 0E 00 58 5503 50 5505", &[
+        bias([0, 1, 0]), bias([0, 2, 0]), bias([0, 3, 1]), by(2, [0, 3, 1]), bias([0, 3, 0]), bias([0, 4, 0]),
+    ]),
+    ("steps refused by 15, 16, 17 and 18 between: it still stays once", "0E 00 58 5502", &[
+        bias([0, 1, 0]), bias([0, 2, 1]), lent_inputs(255, [15, 2, 1]), lent_inputs(257, [15, 2, 1]), by(3, [15, 2, 1]),
+        by(1, [18, 2, 1]), on(1024, 2, [16, 2, 1]), on(1538, 3, [17, 2, 1]), bias([0, 2, 0]), bias([0, 3, 0]),
+    ]),
+    ("a move, then 8D by 0 (19) and a step refused by 18, then the PLC's 57 to a 58: it stays once",
+     "5406 0E 00 8D000102 58 5505 5704 5507", &[
+        bias([0, 1, 0]), bias([0, 2, 0]), bias([0, 3, 1]), started([19, 3, 1]), bias([18, 3, 1]), by(1, [0, 4, 1]),
+        bias([0, 4, 0]), bias([0, 5, 0]),
+    ]),
+    ("a move, then 31 by 0 (20), then the PLC's 57 to a 58: it stays once", "5406 0E 00 3101 58 5505 5704 5507", &[
+        bias([0, 1, 0]), bias([0, 2, 0]), bias([0, 3, 1]), bias([20, 3, 1]), by(1, [0, 4, 1]), bias([0, 4, 0]),
+        bias([0, 5, 0]),
+    ]),
+    ("57 leaves the note: a move, then the PLC's 57 to a 58: it stays once", "5406 0E 00 5503 58 5505 5704 5507", &[
+        bias([0, 1, 0]), bias([0, 2, 0]), bias([0, 3, 1]), by(1, [0, 4, 1]), bias([0, 4, 0]), bias([0, 5, 0]),
+    ]),
+    ("a move that waits is no move: the PLC's 57 to a 58, which passes at once", "5406 0E 00 01 58 5505 5704 5507", &[
+        bias([0, 1, 0]), bias([0, 2, 0]), bias([0, 3, 1]), bias([0, 3, 0]), by(1, [0, 4, 0]), bias([0, 5, 0]),
+    ]),
+    ("a stop is no move: a 58 behind 0F or 1F passes at once", "0E 00 0F01 58 0E 03 1F0100FA 58 5500", &[
+        bias([0, 1, 0]), bias([0, 2, 1]), bias([0, 3, 0]), bias([0, 4, 0]), bias([0, 5, 0]), bias([0, 6, 1]),
+        bias([0, 7, 0]), bias([0, 8, 0]),
+    ]),
+    ("the note is 0 or 1, else 16; 1 makes a 58 stay once", "58 5500", &[
+        on(NOTED, 2, [16, 0, 0]), on(NOTED, 255, [16, 0, 0]), on(NOTED, 1, [0, 0, 0]), bias([0, 1, 0]),
+    ]),
+];
 
 fn case(image: Vec<u8>, actions: Vec<Action>) -> Case {
     Case { image, marks_len: MARKS_LENGTH, state_len: STATE_LENGTH, fill: 0x5A, actions }
@@ -120,6 +227,7 @@ pub fn check(tally: &mut Tally) -> Result<(), String> {
         expect_with(marks_len, &format!("A, {marks_len} bytes of marks"), bytes_of(CASES[0].1), wanted, tally)?;
     }
     lent(tally)?;
+    waits(tally)?;
     depths(tally)?;
     layouts(tally)?;
     wait_ends("J, type 2", "02", 527, tally)?;
@@ -155,11 +263,10 @@ fn nested(calls: u8) -> Vec<u8> {
 /// A step on another image than the loaded one.
 fn lent(tally: &mut Tally) -> Result<(), String> {
     let image = bytes_of("010200000002 720C010000000000 5500000000000000");
-    let given = Given { inputs: &[0; INPUTS_LENGTH], start: 0, reached: 0 };
     for (other, wanted) in LENT {
         let mut state = vec![0; STATE_LENGTH];
         reference::load(&image, &mut vec![0; MARKS_LENGTH], &mut state);
-        let Answer { number, place, task, depth, .. } = reference::step(&bytes_of(other), &mut state, 0, given);
+        let Answer { number, place, task, depth, .. } = reference::step(&bytes_of(other), &mut state, 0, LOW);
         let got = [number as u64, place, task as u64, depth as u64];
         if got != wanted {
             return Err(format!("lent {other}: the reference says {got:?}, the papers {wanted:?}"));
@@ -171,10 +278,50 @@ fn lent(tally: &mut Tally) -> Result<(), String> {
     Ok(())
 }
 
+/// An image of a 637 with these blocks, unused bytes left out.
+fn program_of(blocks: &str) -> Vec<u8> {
+    let blocks: Vec<&str> = blocks.split(' ').collect();
+    let mut image = vec![1, 2, 0, 0, 0, blocks.len() as u8];
+    for block in blocks {
+        image.extend(bytes_of(&format!("{block:0<16}")));
+    }
+    image
+}
+
+/// 58 and the note of a move, step by step.
+fn waits(tally: &mut Tally) -> Result<(), String> {
+    for (sentence, blocks, steps) in WAITS {
+        let image = program_of(blocks);
+        let mut player = Player { state: vec![0; STATE_LENGTH] };
+        reference::load(&image, &mut vec![0; MARKS_LENGTH], &mut player.state);
+        let mut actions = Vec::new();
+        for (number, told) in steps.iter().enumerate() {
+            let action = Action {
+                start: told.start,
+                ramp_ended: told.bits[0],
+                in_window: told.bits[1],
+                inputs_len: told.inputs_len,
+                pokes: told.poke.into_iter().collect(),
+                keep: true,
+                ..Action::plain(told.task)
+            };
+            let answer = player.play(&image, &action).answer.number;
+            let block = State::of(&mut player.state).map_or(u32::MAX, |state| state.block(BIAS) as u32);
+            let got = [answer, block, player.state[NOTED] as u32];
+            let wanted = told.wanted;
+            if got != wanted {
+                return Err(format!("{sentence}, step {number}: the reference says {got:?}, the papers {wanted:?}"));
+            }
+            actions.push(action);
+        }
+        case(image, actions).run(tally).map_err(|difference| format!("{sentence}: {}", difference.what))?;
+    }
+    Ok(())
+}
+
 /// A state may be 5 deep; its return entries past the depth are 0.
 fn depths(tally: &mut Tally) -> Result<(), String> {
     let image = bytes_of("010200000002 5000000000000000 5500000000000000");
-    let given = Given { inputs: &[0; INPUTS_LENGTH], start: 0, reached: 0 };
     for (depth, entry, wanted) in DEPTHS {
         let pokes = vec![(record(BIAS) + DEPTH, depth), (record(BIAS) + PATH + 2 * entry, 1)];
         let mut state = vec![0; STATE_LENGTH];
@@ -182,7 +329,7 @@ fn depths(tally: &mut Tally) -> Result<(), String> {
         for (at, byte) in &pokes {
             state[*at] = *byte;
         }
-        let got = reference::step(&image, &mut state, 0, given).number;
+        let got = reference::step(&image, &mut state, 0, LOW).number;
         if got != wanted {
             return Err(format!("a state of depth {depth}, entry {entry}: the reference says {got}"));
         }
@@ -206,29 +353,27 @@ fn layouts(tally: &mut Tally) -> Result<(), String> {
     remade("a loaded state of the layout before", &image, 0, &move_back, 16, tally)?;
     remade("a state of the layout before", &image, 1, &move_back, 16, tally)?;
     let image = alike();
-    remade("a state alike in the layout before", &image, 4, &move_back, 16, tally)?;
+    remade("a state alike in the layout before", &image, 1, &move_back, 16, tally)?;
     let with_number = |state: &mut Vec<u8>| {
         move_back(state);
         state[at] = number;
     };
-    remade("the same with the layout number", &image, 4, &with_number, 17, tally)
+    remade("the same with the layout number", &image, 1, &with_number, 0, tally)
 }
 
-/// As the layout before had it: no layout number, and all behind it one back.
+/// As the layout before had it: its own layout number, no note of a move, and all behind that one back.
 fn move_back(state: &mut Vec<u8>) {
-    state.remove(NUMBERED.0);
+    state.remove(NOTED);
     state.push(0);
+    state[NUMBERED.0] = LAYOUT_BEFORE;
 }
 
-/// A program that stands, 4 steps after its load, in block 0, which block 3 has called, with position 5 and a
-/// deceleration of 257. In the layout before that is, but for the layout number, a state of this one as well: of a 631
-/// with 1,282 blocks, 1,024 the current one.
+/// A program that stands, a step after its load, in block 256, which block 0 has called. In the layout before that is,
+/// but for the layout number, a state of this one as well, of the same program: BIAS runs at block 257, inside no call.
 fn alike() -> Vec<u8> {
-    let mut image = jumps("8002 8004", 512);
-    image[1] = 1;
+    let mut image = jumps("00 8004", 512);
     let first = image.len() - 512 * BLOCK_LENGTH;
-    let blocks = [(256, "550100"), (1, "2005000000"), (2, "230101"), (3, "520000")];
-    for (block, front) in blocks {
+    for (block, front) in [(0, "520001"), (256, "550001")] {
         let bytes = bytes_of(front);
         image[first + BLOCK_LENGTH * block..][..bytes.len()].copy_from_slice(&bytes);
     }
@@ -242,12 +387,12 @@ fn numbered(name: &str, state: &[u8], when: &str) -> Result<(), String> {
 }
 
 /// The state after a load and steps of BIAS on the reference.
-fn begun(name: &str, image: &[u8], steps: usize, given: Given) -> Result<Vec<u8>, String> {
+fn begun(name: &str, image: &[u8], steps: usize) -> Result<Vec<u8>, String> {
     let mut state = vec![0; STATE_LENGTH];
     reference::load(image, &mut vec![0; MARKS_LENGTH], &mut state);
     numbered(name, &state, "the load")?;
     for step in 1..=steps {
-        let got = reference::step(image, &mut state, 0, given).number;
+        let got = reference::step(image, &mut state, 0, LOW).number;
         if got != SUCCESS {
             return Err(format!("{name}: the reference says {got} at step {step}"));
         }
@@ -265,12 +410,11 @@ fn remade(
     wanted: u32,
     tally: &mut Tally,
 ) -> Result<(), String> {
-    let given = Given { inputs: &[0; INPUTS_LENGTH], start: 0, reached: 0 };
-    let state = begun(name, image, steps, given)?;
+    let state = begun(name, image, steps)?;
     let mut lent = state.clone();
     remake(&mut lent);
     let mut left = lent.clone();
-    let got = reference::step(image, &mut left, 0, given).number;
+    let got = reference::step(image, &mut left, 0, LOW).number;
     if got != wanted {
         return Err(format!("{name}: the reference says {got}, the papers {wanted}"));
     }
@@ -292,13 +436,12 @@ fn wait_ends(name: &str, kind: &str, turns: usize, tally: &mut Tally) -> Result<
     let steps = vec![Action::plain(0); turns + 1];
     let mut state = vec![0; STATE_LENGTH];
     reference::load(&image, &mut vec![0; MARKS_LENGTH], &mut state);
-    let given = Given { inputs: &[0; INPUTS_LENGTH], start: 0, reached: 0 };
     for turn in 0..=turns {
         let at = State::of(&mut state).map(|state| state.block(BIAS));
         if at != Some(0) {
             return Err(format!("case {name}: passed before k = {turn}"));
         }
-        reference::step(&image, &mut state, 0, given);
+        reference::step(&image, &mut state, 0, LOW);
     }
     if State::of(&mut state).map(|state| state.block(BIAS)) != Some(1) {
         return Err(format!("case {name}: did not pass at k = {turns}"));
@@ -317,9 +460,8 @@ fn quotient(tally: &mut Tally) -> Result<(), String> {
         image.extend(bytes_of("00 5502000000000000"));
         let mut state = vec![0; STATE_LENGTH];
         reference::load(&image, &mut vec![0; MARKS_LENGTH], &mut state);
-        let given = Given { inputs: &[0; INPUTS_LENGTH], start: 0, reached: 0 };
-        reference::step(&image, &mut state, 0, given);
-        reference::step(&image, &mut state, 0, given);
+        reference::step(&image, &mut state, 0, LOW);
+        reference::step(&image, &mut state, 0, LOW);
         if State::of(&mut state).map(|state| state.variable(1)) != Some(wanted) {
             return Err(format!("case L: {dividend} by {divisor}"));
         }

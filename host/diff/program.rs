@@ -206,7 +206,8 @@ impl Maker<'_> {
         let mut blocks = Vec::new();
         for at in 0..self.sections.len() {
             for number in self.sections[at].first..self.sections[at].behind {
-                blocks.push(self.block_in(at, number));
+                let before = blocks.last().map_or(0x50, |block: &Block| block[0]);
+                blocks.push(self.block_in(at, number, before));
             }
         }
         let main = self.sections[0];
@@ -214,11 +215,17 @@ impl Maker<'_> {
         (start, blocks)
     }
 
-    /// A block for its place: beginnings start the other tasks and set variables, ends turn back.
-    fn block_in(&mut self, section: usize, number: usize) -> Block {
+    /// A block for its place: beginnings start the other tasks and set variables, ends turn back. `before` is the code
+    /// of the block before it.
+    fn block_in(&mut self, section: usize, number: usize, before: u8) -> Block {
         let Section { task, first, behind } = self.sections[section];
         if number + 1 == behind && self.random.chance(98) {
             return self.ending(section);
+        }
+        if task == Some(BIAS) && self.random.chance(75) {
+            if let Some(code) = self.on_the_way(before) {
+                return self.block(code, section);
+            }
         }
         if task == Some(BIAS) && number - first < 8 && self.random.chance(80) {
             return self.beginning(section, number - first);
@@ -235,6 +242,17 @@ impl Maker<'_> {
             }
         }
         self.block(0x50, section)
+    }
+
+    /// What often follows in BIAS: a move behind a 0E; behind a move a 58, or what can halt, a stop or another move.
+    fn on_the_way(&mut self, before: u8) -> Option<u8> {
+        match before {
+            0x0E => Some(self.random.pick(&[0x00, 0x01, 0x03, 0x04])),
+            0x00 | 0x01 | 0x03 | 0x04 => {
+                Some(self.random.pick(&[0x58, 0x58, 0x58, 0x58, 0x58, 0x8D, 0x31, 0x32, 0x33, 0x5A, 0x00, 0x0F]))
+            }
+            _ => None,
+        }
     }
 
     /// One of a program's first blocks: sets a variable to a good parameter, or starts another task.

@@ -78,11 +78,12 @@ impl Shrinking {
 
     /// Steps without pokes, inputs and levels.
     fn plainer_actions(&mut self) -> bool {
-        let edits: [fn(&mut Action); 6] = [
+        let edits: [fn(&mut Action); 7] = [
             |action| action.pokes.clear(),
             |action| action.inputs.clear(),
             |action| action.start = 0,
-            |action| action.reached = 0,
+            |action| action.ramp_ended = 0,
+            |action| action.in_window = 0,
             |action| action.lent = None,
             |action| action.pokes.truncate(action.pokes.len().saturating_sub(1)),
         ];
@@ -184,7 +185,7 @@ impl Shrinking {
 }
 
 fn weight(action: &Action) -> usize {
-    let levels = usize::from(action.start != 0) + usize::from(action.reached != 0);
+    let levels = [action.start, action.ramp_ended, action.in_window].iter().filter(|level| **level != 0).count();
     action.pokes.len() + action.inputs.len() + levels + usize::from(action.lent.is_some())
 }
 
@@ -288,7 +289,8 @@ pub fn print(case: &Case) {
     }
     println!("marks {} bytes, state {} bytes, filled with {:02X}", case.marks_len, case.state_len, case.fill);
     for (number, action) in case.actions.iter().enumerate() {
-        print!("  step {number}: task {} start {} reached {}", action.task, action.start, action.reached);
+        print!("  step {number}: task {} start {}", action.task, action.start);
+        print!(" ramp ended {} in window {}", action.ramp_ended, action.in_window);
         print_rest(action);
         if let Some(lent) = &action.lent {
             print!(" lent {}", digits_of(lent));

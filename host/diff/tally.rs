@@ -1,5 +1,7 @@
-//! What a run has met: loads, steps and writes by number, commands carried out by code and where they went.
+//! What a run has met: loads, steps and writes by number, commands carried out by code and where they went, and what
+//! the note of a move is for.
 
+use crate::case::{Action, Stood};
 use reference::command::codes;
 use reference::number::*;
 use reference::state::State;
@@ -28,6 +30,9 @@ pub struct Tally {
     tasks: [u64; TASKS],
     depths: [u64; MOST_DEPTH + 1],
     motions: [u64; 6],
+    /// 58s that stayed by the note of a move alone, and BIAS steps right behind a move that halted.
+    held_back: u64,
+    halted_behind: u64,
 }
 
 impl Tally {
@@ -40,6 +45,8 @@ impl Tally {
             tasks: [0; TASKS],
             depths: [0; MOST_DEPTH + 1],
             motions: [0; 6],
+            held_back: 0,
+            halted_behind: 0,
         }
     }
 
@@ -55,17 +62,20 @@ impl Tally {
         self.steps.iter().sum()
     }
 
-    /// `before` is code and block where the task stood, `after` the state after the step.
-    pub fn step(&mut self, answer: &Answer, before: Option<(u8, u16)>, after: &[u8], task: u32) {
+    /// `before` is where the task stood, `after` the state after the step.
+    pub fn step(&mut self, answer: &Answer, before: Option<Stood>, after: &[u8], action: &Action) {
         self.steps[answer.number as usize] += 1;
-        let (SUCCESS, Some((code, block))) = (answer.number, before) else {
+        if let Some(stood) = before {
+            self.note_of_a_move(answer, stood, action);
+        }
+        let (SUCCESS, Some(Stood { code, block, .. })) = (answer.number, before) else {
             return;
         };
         let mut after = after.to_vec();
         let Some(state) = State::of(&mut after) else {
             return;
         };
-        let task = task as usize;
+        let task = action.task as usize;
         self.tasks[task] += 1;
         self.depths[state.depth(task)] += 1;
         self.motions[answer.motion as usize] += 1;
@@ -77,7 +87,17 @@ impl Tally {
         }
     }
 
-    /// Prints the whole; gives what was never met: codes and numbers.
+    /// Change request 4: what a step was that the note of a move decides, or that leaves it.
+    fn note_of_a_move(&mut self, answer: &Answer, stood: Stood, action: &Action) {
+        let both = action.ramp_ended != 0 && action.in_window != 0;
+        match answer.number {
+            SUCCESS if stood.code == 0x58 && both && stood.moved => self.held_back += 1,
+            ZERO_DIVISOR | BAD_CONTENT if action.task as usize == BIAS && stood.moved => self.halted_behind += 1,
+            _ => (),
+        }
+    }
+
+    /// Prints the whole; gives what was never met: codes, numbers, and what the note of a move is for.
     pub fn report(&self) -> Vec<String> {
         print_numbers("loads by number", &self.loads);
         print_numbers("writes by number", &self.writes);
@@ -90,6 +110,8 @@ impl Tally {
         for line in cells.chunks(3) {
             println!("  {}", line.join("").trim_end());
         }
+        println!("58s that stayed by the note of a move alone: {}", self.held_back);
+        println!("halts of BIAS right behind a move: {}", self.halted_behind);
         self.missing()
     }
 
@@ -109,7 +131,13 @@ impl Tally {
         };
         let lost_codes = codes().filter(never_done).map(|code| format!("code {code:02X} never carried out"));
         let lost_numbers = numbers().filter(never_met).map(|number| format!("number {number} never met"));
-        lost_codes.chain(lost_numbers).collect()
+        let notes = [
+            (self.ways[0x58].next, "no 58 passed"),
+            (self.held_back, "no 58 stayed by the note of a move alone"),
+            (self.halted_behind, "no halt right behind a move"),
+        ];
+        let lost_notes = notes.into_iter().filter(|note| note.0 == 0).map(|note| note.1.to_string());
+        lost_codes.chain(lost_numbers).chain(lost_notes).collect()
     }
 }
 

@@ -34,10 +34,10 @@ pub unsafe extern "C" fn c_load(
 #[cfg_attr(not(stand_in), export_name = "reference_step")]
 pub unsafe extern "C" fn c_step(
     image: *const u8, image_len: usize, state: *mut u8, state_len: usize, task: u32, inputs: *const u8,
-    inputs_len: usize, start_input: u8, position_reached: u8,
+    inputs_len: usize, start_input: u8, ramp_ended: u8, in_window: u8,
 ) -> Answer {
     unsafe {
-        let given = Given { inputs: lent(inputs, inputs_len), start: start_input, reached: position_reached };
+        let given = Given { inputs: lent(inputs, inputs_len), start: start_input, ramp_ended, in_window };
         step(lent(image, image_len), lent_out(state, state_len), task, given)
     }
 }

@@ -13,7 +13,8 @@ pub struct Turn<'a> {
     pub block: &'a Block,
     pub inputs: &'a [u8],
     pub start: u8,
-    pub reached: bool,
+    pub ramp_ended: bool,
+    pub in_window: bool,
 }
 
 /// Where the task goes on, or which task is started.
@@ -105,10 +106,16 @@ fn control(turn: &Turn) -> Onward {
 /// 58 to 5A.
 fn wait(state: &mut State, turn: &Turn) -> Outcome {
     match turn.block[0] {
-        0x58 if turn.reached => Ok(Onward::Next),
+        0x58 if position_reached(state, turn) => Ok(Onward::Next),
         0x58 => Ok(Onward::Stay),
         _ => wait_time(state, turn),
     }
+}
+
+/// Change request 4, where document 01 has one bit: "The host now gives two bits, ramp ended and in window. 58 passes
+/// when both are true and the preceding BIAS step that was not refused did not carry out a move."
+fn position_reached(state: &State, turn: &Turn) -> bool {
+    turn.ramp_ended && turn.in_window && state.moved() == 0
 }
 
 /// "A wait of T ms reads T at the step that first meets it, with k = 0; k grows by one at each later step of that task

@@ -1,7 +1,7 @@
 //! Step: document 01's refusals 15, 16, 18, 17 in this order, then the command, 19 and 20 included.
 
-use crate::answer::{Answer, Place, Verdict};
-use crate::effect::{perform, Onward, Turn};
+use crate::answer::{Answer, Place, Request, Verdict};
+use crate::effect::{perform, Effect, Onward, Turn};
 use crate::image::{self, Block};
 use crate::number::*;
 use crate::state::{State, ENDED, HALTED, NO_WAIT, RUNNING};
@@ -12,7 +12,8 @@ use crate::{command, walk};
 pub struct Given<'a> {
     pub inputs: &'a [u8],
     pub start: u8,
-    pub reached: u8,
+    pub ramp_ended: u8,
+    pub in_window: u8,
 }
 
 /// Steps one task. A refused step changes nothing.
@@ -56,10 +57,17 @@ fn permitted<'a>(image: &'a [u8], state: &State, place: Place) -> Option<&'a Blo
 /// Does the command, or halts the task: "Both halt the task, record the start level for BIAS, and change nothing else."
 fn carry_out(state: &mut State, place: Place, block: &Block, given: Given) -> Answer {
     let start = u8::from(given.start != 0);
-    let turn = Turn { task: place.task, block, inputs: given.inputs, start, reached: given.reached != 0 };
+    let turn = Turn {
+        task: place.task,
+        block,
+        inputs: given.inputs,
+        start,
+        ramp_ended: given.ramp_ended != 0,
+        in_window: given.in_window != 0,
+    };
     let effect = perform(state, &turn);
     if place.task == BIAS {
-        state.set_start_level(start);
+        note(state, start, &effect);
     }
     match effect {
         Ok(effect) => {
@@ -70,6 +78,16 @@ fn carry_out(state: &mut State, place: Place, block: &Block, given: Given) -> An
             state.set_status(place.task, HALTED);
             Answer::refused(Verdict::at_place(number, place))
         }
+    }
+}
+
+/// What a BIAS step notes for the next one: the start level, and unless it halts whether it carried out a move. Change
+/// request 4 asks about "the preceding BIAS step that was not refused": 19 and 20 are refusals, which "change nothing
+/// else" than task and level, so they leave the note of a move.
+fn note(state: &mut State, start: u8, effect: &Result<Effect, u32>) {
+    state.set_start_level(start);
+    if let Ok(effect) = effect {
+        state.set_moved(u8::from(matches!(effect.request, Request::Move { .. })));
     }
 }
 

@@ -8,8 +8,8 @@ use crate::number::*;
 pub const STATE_LENGTH: usize = 2048;
 
 /// The layout number: each release raises it that moves a byte, so that a state that another one saved is never taken
-/// for one of this. The two layouts before 3 had none; where it stands they had the header's first byte, the format 1.
-pub const LAYOUT: u8 = 3;
+/// for one of this. The first two layouts had none; where it stands they had the header's first byte, the format 1.
+pub const LAYOUT: u8 = 4;
 
 /// Where things stand, each behind the one before it.
 const VARIABLES: usize = 0;
@@ -25,7 +25,8 @@ pub const ACCELERATION: usize = SPEED + 2;
 pub const DECELERATION: usize = ACCELERATION + 2;
 pub const START_MARK: usize = DECELERATION + 2;
 pub const START_LEVEL: usize = START_MARK + 1;
-pub const STARTS: usize = START_LEVEL + 1;
+pub const MOVED: usize = START_LEVEL + 1;
+pub const STARTS: usize = MOVED + 1;
 const RECORDS: usize = STARTS + 2 * (TASKS - 1);
 pub const UNUSED: usize = RECORDS + TASKS * RECORD_LENGTH;
 
@@ -104,7 +105,8 @@ fn header_of(bytes: &[u8; STATE_LENGTH]) -> Option<Header> {
     good.then_some(Header { drive: Drive { kind, slot_b, slot_c }, start, count })
 }
 
-/// "a parameter, level, mark ... out of range, an unused byte not 0", and the start blocks below the count.
+/// "a parameter, level, mark ... out of range, an unused byte not 0", and the start blocks below the count. The note of
+/// a move (change request 4) is 0 or 1, as the start mark and the start level before it are.
 fn values_good(bytes: &[u8; STATE_LENGTH], header: &Header) -> bool {
     together(&bytes[FLAGS..LAYOUT_AT]) <= 1
         && together(&bytes[START_MARK..STARTS]) <= 1
@@ -146,7 +148,8 @@ impl<'a> State<'a> {
     }
 
     /// What load leaves (document 01, "Running"): BIAS at the program start, all else 0 or the least of its range, and
-    /// the preceding start level high.
+    /// the preceding start level high. The note of a move is 0 (change request 4: "With no move since load, both bits
+    /// alone decide").
     pub fn fresh(bytes: &'a mut [u8; STATE_LENGTH], header: &Header) -> State<'a> {
         bytes.fill(0);
         bytes[LAYOUT_AT] = LAYOUT;
@@ -248,6 +251,16 @@ impl<'a> State<'a> {
 
     pub fn set_start_level(&mut self, level: u8) {
         self.bytes[START_LEVEL] = level;
+    }
+
+    /// Whether the preceding BIAS step that was neither refused nor halted carried out a move, 0 or 1 (change request
+    /// 4: "The state must remember whether that step was a start").
+    pub fn moved(&self) -> u8 {
+        self.bytes[MOVED]
+    }
+
+    pub fn set_moved(&mut self, note: u8) {
+        self.bytes[MOVED] = note;
     }
 
     /// The block that a return to the task's start goes to; BIAS's is the program start.

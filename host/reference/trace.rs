@@ -1,5 +1,5 @@
 //! The manual's examples run on the reference: reads lines of an image and records, prints a trace (docs/EXAMPLES.md).
-//! A line is the image and records of eight bytes, both in hexadecimal digits, with a space between them.
+//! A line is the image and records of nine bytes, both in hexadecimal digits, with a space between them.
 
 use reference::answer::{Answer, STOP};
 use reference::engine::Given;
@@ -11,14 +11,15 @@ use std::fmt::Write as _;
 use std::io::{self, BufRead, Write as _};
 
 /// Bytes of a record.
-const RECORD_LENGTH: usize = 8;
+const RECORD_LENGTH: usize = 9;
 
 /// One step of an example, to be done `times` times.
 struct Step {
     times: usize,
     task: u32,
     start: u8,
-    reached: u8,
+    ramp_ended: u8,
+    in_window: u8,
     inputs: [u8; INPUTS_LENGTH],
 }
 
@@ -31,13 +32,21 @@ fn main() -> io::Result<()> {
     io::stdout().write_all(out.as_bytes())
 }
 
-/// A record of steps: how often, the task, the start input, position reached, and four inputs that are high (0: none).
+/// A record of steps: how often, the task, the start input, ramp ended, in window, and four inputs that are high (0:
+/// none).
 fn step_of(record: &[u8]) -> Step {
     let mut inputs = [0; INPUTS_LENGTH];
-    for &pin in &record[4..] {
+    for &pin in &record[5..] {
         inputs[pin as usize] = 1;
     }
-    Step { times: record[0] as usize, task: record[1] as u32, start: record[2], reached: record[3], inputs }
+    Step {
+        times: record[0] as usize,
+        task: record[1] as u32,
+        start: record[2],
+        ramp_ended: record[3],
+        in_window: record[4],
+        inputs,
+    }
 }
 
 fn example(line: &str, out: &mut String) {
@@ -62,6 +71,7 @@ fn example(line: &str, out: &mut String) {
 }
 
 /// A record of no steps puts a byte into the state buffer: its place, low byte first, and the byte; none past the end.
+/// The rest of the record is not looked at.
 fn put(state: &mut [u8], record: &[u8]) {
     if let Some(byte) = state.get_mut(u16::from_le_bytes([record[1], record[2]]) as usize) {
         *byte = record[3];
@@ -71,7 +81,8 @@ fn put(state: &mut [u8], record: &[u8]) {
 /// Does one step and prints its line: who, where, what changed, which request, which answer.
 fn traced(image: &[u8], state: &mut [u8], step: &Step, out: &mut String) {
     let mut before = state.to_vec();
-    let given = Given { inputs: &step.inputs, start: step.start, reached: step.reached };
+    let Step { start, ramp_ended, in_window, .. } = *step;
+    let given = Given { inputs: &step.inputs, start, ramp_ended, in_window };
     let answer = reference::step(image, state, step.task, given);
     let head = fetched(image, &before, step.task);
     let unchanged = before == state;
@@ -124,6 +135,7 @@ fn changes(old: &State, new: &State) -> String {
     note("deceleration", old.deceleration() as i64, new.deceleration() as i64);
     note("mark", old.start_mark() as i64, new.start_mark() as i64);
     note("level", old.start_level() as i64, new.start_level() as i64);
+    note("moved", old.moved() as i64, new.moved() as i64);
     for task in 1..TASKS {
         note(&format!("start of task {task}"), old.start(task) as i64, new.start(task) as i64);
     }

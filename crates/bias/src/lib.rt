@@ -85,10 +85,12 @@ pub extern "C" fn bias_step(
     task: u32,
     inputs: &[u8],
     start: u8,
-    reached: u8,
+    ramp_ended: u8,
+    in_window: u8,
 ) -> BiasAnswer
-    ensures { λ r. ⌜ r ≡ stepped (now (image .entry)) (now (state .entry)) (inputsOf task (now (inputs .entry)) start reached) .answer ⌝ }
-    ensures { λ _. ⌜ now (state .exit) ≡ stepped (now (image .entry)) (now (state .entry)) (inputsOf task (now (inputs .entry)) start reached) .buffer ⌝ }
+    ensures { λ r. ⌜ r ≡ stepped (now (image .entry)) (now (state .entry)) (inputsOf task (now (inputs .entry)) start «ramp_ended» «in_window») .answer ⌝ }
+    ensures { λ _. ⌜ now (state .exit)
+        ≡ stepped (now (image .entry)) (now (state .entry)) (inputsOf task (now (inputs .entry)) start «ramp_ended» «in_window») .buffer ⌝ }
 {
     if task >= TASK_COUNT {
         return bias_results::answer(Request::None, Answer::NoTask(task));
@@ -100,7 +102,7 @@ pub extern "C" fn bias_step(
     if state.len() != STATE_LENGTH {
         return bias_results::no_state();
     }
-    step_buffer(image, state, task, inputs, start, reached)
+    step_buffer(image, state, task, inputs, start, ramp_ended, in_window)
 }
 
 // Steps a task of the state that a buffer holds, if it holds one.
@@ -110,11 +112,13 @@ fn step_buffer(
     task: u32,
     inputs: &[u8],
     start: u8,
-    reached: u8,
+    ramp_ended: u8,
+    in_window: u8,
 ) -> BiasAnswer
     requires { ⌜ length (now state) ≡ stateLength ⌝ }
-    ensures { λ r. ⌜ r ≡ stepState (now (image .entry)) (now (state .entry)) (inputsOf task (now (inputs .entry)) start reached) .answer ⌝ }
-    ensures { λ _. ⌜ now (state .exit) ≡ stepState (now (image .entry)) (now (state .entry)) (inputsOf task (now (inputs .entry)) start reached) .buffer ⌝ }
+    ensures { λ r. ⌜ r ≡ stepState (now (image .entry)) (now (state .entry)) (inputsOf task (now (inputs .entry)) start «ramp_ended» «in_window») .answer ⌝ }
+    ensures { λ _. ⌜ now (state .exit)
+        ≡ stepState (now (image .entry)) (now (state .entry)) (inputsOf task (now (inputs .entry)) start «ramp_ended» «in_window») .buffer ⌝ }
 {
     let b = state_copy::copy_in(state);
     let s = state_decode::decode(&b);
@@ -124,7 +128,7 @@ fn step_buffer(
     if !state_judge::state_is(s) {
         return bias_results::no_state();
     }
-    step_state(image, state, s, task, inputs, start, reached)
+    step_state(image, state, s, task, inputs, start, ramp_ended, in_window)
 }
 
 // Steps a task of a good state, and puts the state after it into the buffer.
@@ -135,14 +139,15 @@ fn step_state(
     task: u32,
     inputs: &[u8],
     start: u8,
-    reached: u8,
+    ramp_ended: u8,
+    in_window: u8,
 ) -> BiasAnswer
     requires { ⌜ length (now state) ≡ stateLength ⌝ }
     requires { ⌜ GoodState s ⌝ }
-    ensures { λ r. ⌜ r ≡ handed (step (now (image .entry)) s (inputsOf task (now (inputs .entry)) start reached)) .answer ⌝ }
-    ensures { λ _. ⌜ now (state .exit) ≡ handed (step (now (image .entry)) s (inputsOf task (now (inputs .entry)) start reached)) .buffer ⌝ }
+    ensures { λ r. ⌜ r ≡ handed (step (now (image .entry)) s (inputsOf task (now (inputs .entry)) start «ramp_ended» «in_window»)) .answer ⌝ }
+    ensures { λ _. ⌜ now (state .exit) ≡ handed (step (now (image .entry)) s (inputsOf task (now (inputs .entry)) start «ramp_ended» «in_window»)) .buffer ⌝ }
 {
-    let out = exec_step::step(image, s, task, inputs, start, reached);
+    let out = exec_step::step(image, s, task, inputs, start, ramp_ended, in_window);
     let request = out.request;
     let answer = out.answer;
     put_state(state, out.state);

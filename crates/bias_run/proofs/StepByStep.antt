@@ -67,7 +67,7 @@ module _ (image : List ℕ) (n : ℕ) (b steps : List ℕ) (r : BiasVerdict) (e 
 
 -- ---- an example: a step of task 258 with two levels, a step of task 1 with none, and a third step that does not stand whole
 
-example : stepsOf (2 ∷ 1 ∷ 0 ∷ 0 ∷ 5 ∷ 6 ∷ 2 ∷ 0 ∷ 7 ∷ 9 ∷ 1 ∷ 0 ∷ 0 ∷ 0 ∷ 3 ∷ 4 ∷ 0 ∷ 0 ∷ 1 ∷ 0 ∷ 0 ∷ 0 ∷ 0 ∷ 0 ∷ 1 ∷ 0 ∷ []) ≡ inputsOf 258 (7 ∷ 9 ∷ []) 5 6
-    ∷ inputsOf 1 [] 3 4 ∷ []
+example : stepsOf (2 ∷ 1 ∷ 0 ∷ 0 ∷ 5 ∷ 6 ∷ 8 ∷ 2 ∷ 0 ∷ 7 ∷ 9 ∷ 1 ∷ 0 ∷ 0 ∷ 0 ∷ 3 ∷ 4 ∷ 10 ∷ 0 ∷ 0 ∷ 1 ∷ 0 ∷ 0 ∷ 0 ∷ 0 ∷ 0 ∷ 0 ∷ 1 ∷ 0 ∷ [])
+    ≡ inputsOf 258 (7 ∷ 9 ∷ []) 5 6 8 ∷ inputsOf 1 [] 3 4 10 ∷ []
 unfolding stepsOf stepsFrom stepAt
 example = refl

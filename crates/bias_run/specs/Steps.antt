@@ -9,13 +9,13 @@ use Rattle.machine.specs.Inputs.{Inputs, inputsOf}
 use Rattle.bias.specs.Load.{load}
 use Rattle.proved_demands.specs.Run.{bufferAfter}
 
--- a step: the task number in four bytes, the start input, position reached, the length of the input levels in two bytes, and the input levels
+-- a step: the task number in four bytes, the start input, ramp ended, in window, the length of the input levels in two bytes, and the input levels
 abbrev pub headLength : ℕ
-headLength = 8
+headLength = 9
 
 -- the length of the input levels of the step at a place
 abbrev pub lengthAt : List ℕ → ℕ → ℕ
-lengthAt s at = leNumberAt 2 s (at + 6)
+lengthAt s at = leNumberAt 2 s (at + 7)
 
 -- where the step behind it begins
 abbrev pub nextAt : List ℕ → ℕ → ℕ
@@ -23,7 +23,8 @@ nextAt s at = at + headLength + lengthAt s at
 
 -- the step at a place
 unfoldable pub stepAt : List ℕ → ℕ → Inputs
-stepAt s at = inputsOf (leNumberAt 4 s at) (take (lengthAt s at) (drop (at + headLength) s)) (getD s (at + 4) 0) (getD s (at + 5) 0)
+stepAt s at =
+    inputsOf (leNumberAt 4 s at) (take (lengthAt s at) (drop (at + headLength) s)) (getD s (at + 4) 0) (getD s (at + 5) 0) (getD s (at + 6) 0)
 
 -- the steps that stand whole one behind the other from a place on, at most k of them
 unfoldable pub stepsFrom : List ℕ → ℕ → ℕ → List Inputs

@@ -14,8 +14,9 @@ ghost use Rattle.proved_demands.specs.Run.{bufferAfter};
 ghost use Rattle.proved_demands.specs.Theorem.{Run};
 ghost use Rattle.bias_run.specs.Steps.{headLength, lengthAt, nextAt, stepAt, stepsOf, afterRun};
 
-// What stands before the input levels of a step: the task number (4 bytes), the start input, position reached, the length of the input levels (2 bytes).
-const HEAD_LENGTH: usize = 8;
+// What stands before the input levels of a step: the task number (4 bytes), the start input, ramp ended, in window, the length of the input levels (2
+// bytes).
+const HEAD_LENGTH: usize = 9;
 
 // Loads an image and, where the load answers 0, carries out the steps that stand whole at the front.
 pub fn bias_run(image: &[u8], marks: &mut [u8], state: &mut [u8], steps: &[u8]) -> BiasVerdict
@@ -67,7 +68,7 @@ fn length_at(steps: &[u8], at: usize) -> usize
     requires { ⌜ at + headLength ≤ length (now steps) ⌝ }
     ensures { λ r. ⌜ r ≡ lengthAt (now (steps .entry)) at ⌝ }
 {
-    let i = at + 6;
+    let i = at + 7;
     num_le::read_u16([steps[i], steps[i + 1]]) as usize
 }
 
@@ -91,8 +92,17 @@ fn step_at(image: &[u8], steps: &[u8], at: usize, state: &mut [u8])
 {
     let task = task_at(steps, at);
     let start = steps[at + 4];
-    let reached = steps[at + 5];
+    let ramp_ended = steps[at + 5];
+    let in_window = steps[at + 6];
     let from = at + HEAD_LENGTH;
     let to = from + length_at(steps, at);
-    bias::bias_step(image, state, task, &steps[from..to], start, reached);
+    bias::bias_step(
+        image,
+        state,
+        task,
+        &steps[from..to],
+        start,
+        ramp_ended,
+        in_window,
+    );
 }

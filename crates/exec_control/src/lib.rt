@@ -13,7 +13,7 @@ ghost use Prim.Native.Nat.{_*_, _<_};
 ghost use lib.Dec.{eqb};
 ghost use Rattle.limits.specs.Limits.{bias, plc, mathematics, mostTime};
 ghost use Rattle.state.specs.Wait.{due};
-ghost use Rattle.machine.specs.Effect.{flows, within, natural, isSet, waits, waitsVariable, timeOf, controlRows, mathematicsRows};
+ghost use Rattle.machine.specs.Effect.{flows, within, natural, isSet, arrived, waits, waitsVariable, timeOf, controlRows, mathematicsRows};
 ghost use Rattle.machine.specs.Effect.{effectIn};
 ghost use Rattle.machine.specs.declared.Outcome.the-variants.{GoOn, Stay, Jump, Call, Return, Start, Restart, End};
 
@@ -94,14 +94,14 @@ fn start_bias(c: Command, v: Values) -> Effect
     exec_effect::flows(v, Outcome::Start(limits::BIAS, c.word))
 }
 
-// 58: on when the position is reached.
+// 58: on when the ramp has ended, the position is in the window and the preceding BIAS step, refused and halted ones apart, was no move.
 fn wait_for_position(context: Context, v: Values) -> Effect
-    ensures { λ r. ⌜ r ≡ flows v (cond (isSet (context .reached)) GoOn (Stay 0 0)) ⌝ }
+    ensures { λ r. ⌜ r ≡ flows v (cond (arrived context v) GoOn (Stay 0 0)) ⌝ }
 {
-    if context.reached == 0 {
-        return exec_effect::flows(v, Outcome::Stay(0, 0));
+    if (context.ramp_ended != 0) & ((context.in_window != 0) & (v.notes.moved == 0)) {
+        return exec_effect::flows(v, Outcome::GoOn);
     }
-    exec_effect::flows(v, Outcome::GoOn)
+    exec_effect::flows(v, Outcome::Stay(0, 0))
 }
 
 // 59: a wait of word x 2 ms.

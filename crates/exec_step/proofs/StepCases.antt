@@ -19,8 +19,8 @@ use Rattle.machine.specs.Effect.{effectOf}
 use Rattle.logic.proofs.Choice.{both}
 use Rattle.image_header.specs.Scan.{headerOf, blocksOf}
 use Rattle.image_header.specs.declared.reader.HeaderRead.{HeaderRead}
-use Rattle.machine.specs.Engine.{noted, tasksAfter, answerTo, pointOf, performed, refuse, fits, contextOf, carriedOut, taskStep, step, isLoaded, blockFits}
-use Rattle.machine.specs.Engine.{waitFits, fitsAs, termsHeld}
+use Rattle.machine.specs.Engine.{movedAfter, noted, tasksAfter, answerTo, pointOf, performed, refuse, fits, contextOf, carriedOut, taskStep, step}
+use Rattle.machine.specs.Engine.{isLoaded, blockFits, waitFits, fitsAs, termsHeld}
 use Rattle.machine.specs.declared.Answer.the-variants.{NoTask, Inputs as BadInputs, NotRunning, Differs}
 use Rattle.machine.specs.declared.Answer.{Answer}
 use Rattle.machine.specs.declared.Effect.{Effect}
@@ -32,17 +32,21 @@ not-not false = refl
 
 -- the parts of what a command comes to
 pub together : (s : State) (t start : ℕ) (task : Task) (e : Effect) (v : Values) (ts : List Task) (a : Answer)
-    → v ≡ noted t start (e .values) → ts ≡ tasksAfter (s .header .start) t task (e .outcome) (s .tasks) → a ≡ answerTo (e .outcome) (pointOf t task)
+    → v ≡ noted t start (movedAfter (e .outcome) (e .request) (e .values .notes .moved)) (e .values)
+    → ts ≡ tasksAfter (s .header .start) t task (e .outcome) (s .tasks) → a ≡ answerTo (e .outcome) (pointOf t task)
     → _≡_ {A = StepOut} (record { state = record { values = v; header = s .header; tasks = ts }; request = e .request; answer = a })
-    (performed s (inputsOf t [] start 0) task e)
+    (performed s (inputsOf t [] start 0 0) task e)
 unfolding performed
 together s t start task e v ts a i j l = rw (i, j, l) refl
 
 -- the effect of a command, with the levels that the code reads
-pub same-effect : (s : State) (x : Inputs) (task : Task) (start reached : ℕ) (c d : Command) → start ≡ level (x .start) → reached ≡ level (x .reached) → c ≡ d
-    → effectOf (x .levels) (record { drive = s .header .drive; start = start; reached = reached; time = task .time; turns = task .turns }) c (s .values)
+pub same-effect : (s : State) (x : Inputs) (task : Task) (start ramp window : ℕ) (c d : Command) → start ≡ level (x .start) → ramp ≡ level (x .rampEnded)
+    → window ≡ level (x .inWindow) → c ≡ d
+    → effectOf (x .levels)
+    (record { drive = s .header .drive; start = start; «ramp_ended» = ramp; «in_window» = window; time = task .time; turns = task .turns })
+    c (s .values)
     ≡ effectOf (x .levels) (contextOf s task x) d (s .values)
-same-effect s x task start reached c d i j e = rw (i, j, e) refl
+same-effect s x task start ramp window c d i j k e = rw (i, j, k, e) refl
 
 -- what a good state's task has room for
 pub record Ready (task : Task) : Type 0 where

@@ -24,9 +24,10 @@ ghost use Rattle.state.specs.State.{taskAt};
 ghost use Rattle.state.specs.GoodState.{GoodState};
 ghost use Rattle.walk_flow.specs.Terms.{under};
 ghost use Rattle.machine.specs.Inputs.{inputsOf};
+ghost use Rattle.machine.specs.Effect.{bit};
 ghost use Rattle.machine.specs.DepthAllows.{DepthAllows};
-ghost use Rattle.machine.specs.Engine.{refuse, isWait, isLoaded, blockFits, waitFits, fitsAs, noted, answerTo, pointOf, performed, carriedOut, taskStep, step};
-ghost use Rattle.machine.specs.Engine.{termsHeld};
+ghost use Rattle.machine.specs.Engine.{refuse, isWait, isLoaded, blockFits, waitFits, fitsAs, isMove, movedAfter, noted, answerTo, pointOf};
+ghost use Rattle.machine.specs.Engine.{performed, carriedOut, taskStep, step, termsHeld};
 
 // A step that is refused: nothing changes, and no motion is asked for.
 fn refuse(state: State, answer: Answer) -> StepOut
@@ -74,13 +75,46 @@ fn answer_to(outcome: Outcome, p: Point) -> Answer
     }
 }
 
-// A BIAS step notes the start input's level.
-fn noted(t: u8, start: u8, v: Values) -> Values
-    ensures { λ r. ⌜ r ≡ noted t start v ⌝ }
+// Whether a request moves the axis, 1 or 0; a stop does not.
+fn move_of(request: Request) -> u8
+    ensures { λ r. ⌜ r ≡ bit (isMove request) ⌝ }
+{
+    match request {
+        Request::None => 0,
+        Request::MoveTo(axis) => 1,
+        Request::MoveBy(axis) => 1,
+        Request::Forward(axis) => 1,
+        Request::Backward(axis) => 1,
+        Request::Stop(mode, deceleration) => 0,
+    }
+}
+
+// The note of a move after a command; a halt leaves the one before.
+fn moved_after(outcome: Outcome, request: Request, before: u8) -> u8
+    ensures { λ r. ⌜ r ≡ movedAfter outcome request before ⌝ }
+{
+    let moved = move_of(request);
+    match outcome {
+        Outcome::GoOn => moved,
+        Outcome::Stay(time, turns) => moved,
+        Outcome::Jump(a) => moved,
+        Outcome::Call(a) => moved,
+        Outcome::Return => moved,
+        Outcome::Start(u, a) => moved,
+        Outcome::Restart => moved,
+        Outcome::End => moved,
+        Outcome::Halt(cause) => before,
+    }
+}
+
+// A BIAS step notes the start input's level and whether it carried out a move.
+fn noted(t: u8, start: u8, moved: u8, v: Values) -> Values
+    ensures { λ r. ⌜ r ≡ noted t start moved v ⌝ }
 {
     if t == limits::BIAS {
         let notes = Notes {
             level: exec_effect::level(start),
+            moved: moved,
         };
         return v.with_notes(notes);
     }
@@ -127,16 +161,17 @@ fn wait_fits(blocks: &[u8], task: Task) -> bool
     (task.time == 0) | is_wait(c.code)
 }
 
-// What a command comes to: the values with the start level noted, the tasks after its outcome, its request, its answer.
+// What a command comes to: the values with the notes of a BIAS step, the tasks after its outcome, its request, its answer.
 fn performed(mut state: State, t: u8, start: u8, task: Task, e: Effect) -> StepOut
     requires { ⌜ task .block < mostBlocks ⌝ }
     requires { ⌜ DepthAllows (task .depth) (e .outcome) ⌝ }
-    ensures { λ r. ⌜ r ≡ performed state (inputsOf t [] start 0) task e ⌝ }
+    ensures { λ r. ⌜ r ≡ performed state (inputsOf t [] start 0 0) task e ⌝ }
 {
     let header = state.header;
     let outcome = e.outcome;
     let request = e.request;
-    let values = noted(t, start, e.values);
+    let moved = moved_after(outcome, request, e.values.notes.moved);
+    let values = noted(t, start, moved, e.values);
     let before = state.tasks;
     let after = exec_tasks::after(header.start, t, task, outcome, before);
     state.values = values;
@@ -155,14 +190,15 @@ fn carry_out(
     t: u8,
     inputs: &[u8],
     start: u8,
-    reached: u8,
+    ramp_ended: u8,
+    in_window: u8,
     task: Task,
 ) -> StepOut
     requires { ⌜ task .block < mostBlocks ⌝ }
     requires { ⌜ task .depth ≤ mostDepth ⌝ }
     requires { ⌜ task .turns < 4294967295 ⌝ }
     requires { ⌜ blockFits (termsHeld s) (now blocks) t task ≡ true ⌝ }
-    ensures { λ r. ⌜ r ≡ carriedOut (now (blocks .entry)) s (inputsOf t (now (inputs .entry)) start reached) task ⌝ }
+    ensures { λ r. ⌜ r ≡ carriedOut (now (blocks .entry)) s (inputsOf t (now (inputs .entry)) start «ramp_ended» «in_window») task ⌝ }
 {
     let c = command_here(blocks, task);
     let header = s.header;
@@ -171,7 +207,8 @@ fn carry_out(
     let context = Context {
         drive: drive,
         start: exec_effect::level(start),
-        reached: exec_effect::level(reached),
+        ramp_ended: exec_effect::level(ramp_ended),
+        in_window: exec_effect::level(in_window),
         time: task.time,
         turns: task.turns,
     };
@@ -180,10 +217,18 @@ fn carry_out(
 }
 
 // 18, then 17, then the command.
-fn task_step(image: &[u8], s: State, t: u8, inputs: &[u8], start: u8, reached: u8) -> StepOut
+fn task_step(
+    image: &[u8],
+    s: State,
+    t: u8,
+    inputs: &[u8],
+    start: u8,
+    ramp_ended: u8,
+    in_window: u8,
+) -> StepOut
     requires { ⌜ GoodState s ⌝ }
     requires { ⌜ t < taskCount ⌝ }
-    ensures { λ r. ⌜ r ≡ taskStep (now (image .entry)) s (inputsOf t (now (inputs .entry)) start reached) (taskAt s t) ⌝ }
+    ensures { λ r. ⌜ r ≡ taskStep (now (image .entry)) s (inputsOf t (now (inputs .entry)) start «ramp_ended» «in_window») (taskAt s t) ⌝ }
 {
     let tasks = s.tasks;
     let task = tasks[t as usize];
@@ -195,13 +240,21 @@ fn task_step(image: &[u8], s: State, t: u8, inputs: &[u8], start: u8, reached: u
     if !fits(read, blocks, s.header, t, task) {
         return refuse(s, Answer::Differs(point_of(t, task)));
     }
-    carry_out(blocks, s, t, inputs, start, reached, task)
+    carry_out(blocks, s, t, inputs, start, ramp_ended, in_window, task)
 }
 
 // One step of a task, on a good state: 15 first, the task number, then the length of the input levels.
-pub fn step(image: &[u8], s: State, task: u32, inputs: &[u8], start: u8, reached: u8) -> StepOut
+pub fn step(
+    image: &[u8],
+    s: State,
+    task: u32,
+    inputs: &[u8],
+    start: u8,
+    ramp_ended: u8,
+    in_window: u8,
+) -> StepOut
     requires { ⌜ GoodState s ⌝ }
-    ensures { λ r. ⌜ r ≡ step (now (image .entry)) s (inputsOf task (now (inputs .entry)) start reached) ⌝ }
+    ensures { λ r. ⌜ r ≡ step (now (image .entry)) s (inputsOf task (now (inputs .entry)) start «ramp_ended» «in_window») ⌝ }
 {
     if task >= limits::TASK_COUNT {
         return refuse(s, Answer::NoTask(task));
@@ -210,5 +263,5 @@ pub fn step(image: &[u8], s: State, task: u32, inputs: &[u8], start: u8, reached
     if n != limits::INPUTS_LENGTH {
         return refuse(s, Answer::Inputs(n));
     }
-    task_step(image, s, task as u8, inputs, start, reached)
+    task_step(image, s, task as u8, inputs, start, ramp_ended, in_window)
 }

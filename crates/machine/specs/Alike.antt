@@ -35,6 +35,7 @@ pub record SameValues (v w : Values) : Type 0 where
   pub deceleration : axisOf firstAxis v .deceleration ≡ axisOf firstAxis w .deceleration
   pub mark : v .motion .mark ≡ w .motion .mark
   pub level : v .notes .level ≡ w .notes .level
+  pub moved : v .notes .moved ≡ w .notes .moved
 
 pub record Alike (s : State) (m : Machine) : Type 0 where
   pub tasks : (t : ℕ) → t < taskCount → SameTask (taskAt s t) (getD (m .threads) t idle)

@@ -95,6 +95,11 @@ started g v = isSet (v .motion .mark) || (isSet (g .start) && eqb (v .notes .lev
 abbrev pub moves : (Axis → Request) → CommandEffect
 moves kind g c v = cond (started g v) (effect (withMark 0 v) (kind (axisOf firstAxis v)) GoOn) (flows v (Stay 0 0))
 
+-- 58 passes when the ramp has ended, the position is in the window, and the preceding BIAS step, refused and halted ones apart, was no move (change
+-- request 4)
+abbrev pub arrived : Context → Values → Bool
+arrived g v = isSet (g .«ramp_ended») && (isSet (g .«in_window») && eqb (v .notes .moved) 0)
+
 -- a wait of T ms: at the first step T is taken with k = 0, at each later one k grows by one
 abbrev pub waits : ℕ → Context → Outcome
 waits time g =
@@ -174,7 +179,7 @@ controlRows =
     effectRow 0x54 (λ g c v. flows v (Start plc (c .word))) ∷  -- p. 126
     effectRow 0x55 (λ g c v. flows v (Jump (c .word))) ∷  -- p. 127
     effectRow 0x57 (λ g c v. flows v (Start bias (c .word))) ∷  -- p. 129
-    effectRow 0x58 (λ g c v. flows v (cond (isSet (g .reached)) GoOn (Stay 0 0))) ∷  -- p. 130
+    effectRow 0x58 (λ g c v. flows v (cond (arrived g v) GoOn (Stay 0 0))) ∷  -- p. 130
     effectRow 0x59 (λ g c v. flows v (waits (2 * c .word) g)) ∷  -- p. 131
     effectRow 0x5A waitsVariable ∷  -- p. 132
     []

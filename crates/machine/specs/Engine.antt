@@ -1,7 +1,7 @@
 -- The engine's step on values (document 01, "Running", and 15, 18, 17, 19, 20): the tests in their order, then the command, with a call stack of
 -- bounded length for each task. 16 is the buffer's.
 use Prim.Native.Nat.{ℕ, _+_, _-_}
-use mathlib.Core.Bool.{Bool, _&&_, _||_, not, cond}
+use mathlib.Core.Bool.{Bool, true, false, _&&_, _||_, not, cond}
 use mathlib.Core.List.{List}
 use lib.Dec.{eqb, ltb}
 use lib.ListN.{length, getD, set}
@@ -22,8 +22,9 @@ use Rattle.state.specs.declared.Values.{Values}
 use Rattle.state.specs.declared.State.{State}
 use Rattle.machine.specs.Inputs.{Inputs, level}
 use Rattle.machine.specs.declared.Context.{Context}
-use Rattle.machine.specs.Effect.{effectOf, isSet}
-use Rattle.machine.specs.declared.Request.the-variants.{None}
+use Rattle.machine.specs.Effect.{effectOf, isSet, bit}
+use Rattle.machine.specs.declared.Request.{Request}
+use Rattle.machine.specs.declared.Request.the-variants.{None, MoveTo, MoveBy, Forward, Backward, Stop}
 use Rattle.machine.specs.declared.Outcome.{Outcome}
 use Rattle.machine.specs.declared.Outcome.the-variants.{GoOn, Stay, Jump, Call, Return, Start, Restart, End, Halt}
 use Rattle.machine.specs.declared.Effect.{Effect}
@@ -95,16 +96,46 @@ answerTo Restart p = Done
 answerTo End p = Done
 answerTo (Halt q) p = Halted q p
 
--- a BIAS step notes the start input's level
-abbrev pub noted : ℕ → ℕ → Values → Values
-noted t start v = cond (eqb t bias) (withNotes (record { level = level start }) v) v
+-- ---- the notes of a BIAS step
+
+-- a request that moves the axis; a stop does not
+abbrev pub isMove : Request → Bool
+isMove None = false
+isMove (MoveTo axis) = true
+isMove (MoveBy axis) = true
+isMove (Forward axis) = true
+isMove (Backward axis) = true
+isMove (Stop mode deceleration) = false
+
+-- 19 or 20
+abbrev pub isHalt : Outcome → Bool
+isHalt GoOn = false
+isHalt (Stay time turns) = false
+isHalt (Jump a) = false
+isHalt (Call a) = false
+isHalt Return = false
+isHalt (Start u a) = false
+isHalt Restart = false
+isHalt End = false
+isHalt (Halt q) = true
+
+-- the note of a move after a command: whether it carried one out; a halt leaves the note as it was before (change request 4)
+abbrev pub movedAfter : Outcome → Request → ℕ → ℕ
+movedAfter outcome request before = cond (isHalt outcome) before (bit (isMove request))
+
+-- a BIAS step notes the start input's level and whether it carried out a move
+abbrev pub noted : ℕ → ℕ → ℕ → Values → Values
+noted t start moved v = cond (eqb t bias) (withNotes (record { level = level start; moved = moved }) v) v
+
+-- ---- the command
 
 -- what the command may read besides the values and the input levels
 abbrev pub contextOf : State → Task → Inputs → Context
 contextOf s task x = record {
   drive = s .header .drive;
   start = level (x .start);
-  reached = level (x .reached);
+  «ramp_ended» = level (x .rampEnded);
+  «in_window» = level (x .inWindow);
   time = task .time;
   turns = task .turns;
 }
@@ -112,7 +143,7 @@ contextOf s task x = record {
 unfoldable pub performed : State → Inputs → Task → Effect → StepOut
 performed s x task e = record {
   state = record {
-    values = noted (x .task) (x .start) (e .values);
+    values = noted (x .task) (x .start) (movedAfter (e .outcome) (e .request) (e .values .notes .moved)) (e .values);
     header = s .header;
     tasks = tasksAfter (s .header .start) (x .task) task (e .outcome) (s .tasks);
   };

@@ -10,11 +10,12 @@ use lib.IntN.{pos}
 use Rattle.image_header.specs.Scan.{headerOf, blocksOf}
 use Rattle.command_table.specs.Rows.{rowOf}
 use Rattle.walk.specs.Blocks.{commandAt}
+use Rattle.state.specs.declared.Notes.{Notes}
 use Rattle.state.specs.declared.Values.{Values}
 use Rattle.machine.specs.Inputs.{Inputs, level}
 use Rattle.machine.specs.Effect.{effectOf}
 use Rattle.machine.specs.declared.Request.{Request}
-use Rattle.machine.specs.declared.Request.the-variants.{None}
+use Rattle.machine.specs.declared.Request.the-variants.{None, MoveTo, MoveBy, Forward, Backward, Stop}
 use Rattle.machine.specs.declared.Outcome.{Outcome}
 use Rattle.machine.specs.declared.Outcome.the-variants.{GoOn, Stay, Jump, Call, Return, Start, Restart, End, Halt}
 use Rattle.machine.specs.declared.Effect.{Effect}
@@ -42,7 +43,7 @@ pub record Machine : Type 0 where
   pub values : Values
   pub threads : List Thread
 
--- ---- as load leaves it: position 0, the other parameters at their least, the start input taken as high, BIAS alone running
+-- ---- as load leaves it: position 0, the other parameters at their least, the start input taken as high, no move before, BIAS alone running
 
 abbrev pub idle : Thread
 idle = off (threadAt 0 0 0 0 [])
@@ -52,7 +53,7 @@ referenceLoaded image = record {
   values = record {
     cells = record { variables = replicate 256 (pos 0); flags = replicate 256 0; outputs = replicate 256 0 };
     motion = record { axis = record { position = pos 0; speed = 1; acceleration = 1; deceleration = 1 }; mark = 0 };
-    notes = record { level = 1 };
+    notes = record { level = 1; moved = 0 };
   };
   threads = threadAt (headerOf image .header .start) (headerOf image .header .start) 0 0 [] ∷ idle ∷ idle ∷ [];
 }
@@ -106,13 +107,38 @@ replies Restart t thread = Done
 replies End t thread = Done
 replies (Halt q) t thread = Halted q (record { task = t; block = thread .block; depth = length (thread .returns) })
 
--- BIAS's steps note the start input's level
-abbrev pub keeps : ℕ → ℕ → Values → Values
-keeps t start v = record { cells = v .cells; motion = v .motion; notes = cond (eqb t 0) (record { level = level start }) (v .notes) }
+-- whether what is asked of the axis is a move: to a position, by a distance, or endless
+abbrev pub moving : Request → ℕ
+moving (MoveTo axis) = 1
+moving (MoveBy axis) = 1
+moving (Forward axis) = 1
+moving (Backward axis) = 1
+moving (Stop mode deceleration) = 0
+moving None = 0
+
+-- a task that 19 or 20 halts has carried out nothing: what was noted of a move stands
+abbrev pub moveNote : Outcome → ℕ → ℕ → ℕ
+moveNote (Halt q) was is = was
+moveNote GoOn was is = is
+moveNote (Stay time turns) was is = is
+moveNote (Jump a) was is = is
+moveNote (Call a) was is = is
+moveNote Return was is = is
+moveNote (Start u a) was is = is
+moveNote Restart was is = is
+moveNote End was is = is
+
+-- BIAS's steps note the start input's level, and whether they were a move (change request 4); the notes before are the machine's own
+abbrev pub keeps : ℕ → ℕ → Notes → Effect → Values
+keeps t start before e = record {
+  cells = e .values .cells;
+  motion = e .values .motion;
+  notes = cond (eqb t 0) (record { level = level start; moved = moveNote (e .outcome) (before .moved) (moving (e .request)) }) before;
+}
 
 unfoldable pub does : Machine → Inputs → Thread → Effect → ReferenceOut
 does m x thread e = record {
-  machine = record { values = keeps (x .task) (x .start) (e .values); threads = follows (x .task) thread (e .outcome) (m .threads) };
+  machine = record { values = keeps (x .task) (x .start) (m .values .notes) e; threads = follows (x .task) thread (e .outcome) (m .threads) };
   request = e .request;
   answer = replies (e .outcome) (x .task) thread;
 }
@@ -144,7 +170,8 @@ acts image m x thread =
     (record {
       drive = headerOf image .header .drive;
       start = level (x .start);
-      reached = level (x .reached);
+      «ramp_ended» = level (x .rampEnded);
+      «in_window» = level (x .inWindow);
       time = thread .time;
       turns = thread .turns;
     })

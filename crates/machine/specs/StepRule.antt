@@ -1,8 +1,9 @@
--- What holds at every step of a run, by itself (demand 3, parts 4 to 6 in docs/PROMISES.md): a return goes behind its task's own latest open call, a task
--- stops only itself and for a named reason, and no step moves another task but by 54, 57 and 90.
+-- What holds at every step of a run, by itself (demand 3, parts 4 to 6 and 8 in docs/PROMISES.md): a return goes behind its task's own latest open call, a
+-- task stops only itself and for a named reason, no step moves another task but by 54, 57 and 90, and a 58 goes on exactly when the position is reached and no
+-- move came right before.
 use Prim.Native.Nat.{ℕ, _+_, _<_}
 use mathlib.Core.Path.{_≡_}
-use mathlib.Core.Bool.{Bool, true, false, _&&_, cond}
+use mathlib.Core.Bool.{Bool, true, false, _&&_, _||_, not, cond}
 use mathlib.Core.Logic.{_⊎_}
 use mathlib.Core.List.{List, [], _∷_}
 use lib.Dec.{eqb}
@@ -15,12 +16,13 @@ use Rattle.walk.specs.Walk.{starts}
 use Rattle.state.specs.State.{runs, ended, halted, taskAt}
 use Rattle.state.specs.declared.Values.{Values}
 use Rattle.state.specs.declared.State.{State}
-use Rattle.machine.specs.Inputs.{Inputs}
-use Rattle.machine.specs.Effect.{variable, within}
-use Rattle.machine.specs.Engine.{step, pointOf, noted, stopped}
+use Rattle.machine.specs.Inputs.{Inputs, level}
+use Rattle.machine.specs.Effect.{variable, within, isSet}
+use Rattle.machine.specs.Engine.{step, pointOf, stopped}
 use Rattle.machine.specs.declared.Cause.{Cause}
 use Rattle.machine.specs.declared.Cause.the-variants.{ZeroDivisor, BadContent}
-use Rattle.machine.specs.declared.Request.the-variants.{None}
+use Rattle.machine.specs.declared.Request.{Request}
+use Rattle.machine.specs.declared.Request.the-variants.{None, MoveTo, MoveBy, Forward, Backward, Stop}
 use Rattle.machine.specs.declared.Answer.{Answer}
 use Rattle.machine.specs.declared.Answer.the-variants.{Done, NoTask, Inputs as BadInputs, NotRunning, Differs, Halted}
 
@@ -76,6 +78,14 @@ pub data Behind : List ℕ → ℕ → Type 0 where
 
 -- ---- part 5: why a task stops
 
+-- what a halt leaves of the values: a BIAS step has noted the start level, and the note of a move is as it was (change request 4)
+abbrev pub levelNoted : ℕ → ℕ → Values → Values
+levelNoted t start v = record {
+  cells = v .cells;
+  motion = v .motion;
+  notes = record { level = cond (eqb t bias) (level start) (v .notes .level); moved = v .notes .moved };
+}
+
 -- 19 or 20, of a command c that a task executes with a wait of `time` pending (0: none)
 pub data Reason (c : Command) (v : Values) (time : ℕ) : Cause → Type 0 where
   -- 8D, and the divisor variable holds 0
@@ -89,29 +99,77 @@ pub data Reason (c : Command) (v : Values) (time : ℕ) : Cause → Type 0 where
 
 -- the step's task stopped, and why
 pub data Stopped (image : List ℕ) (s : State) (x : Inputs) : Type 0 where
-  -- it halted by 19 or 20 at its point, keeping block, start and call stack; no value changed but BIAS's noted start level, and no motion is asked for
+  -- it halted by 19 or 20 at its point, keeping block, start and call stack; no value changed but BIAS's noted start level, the note of a move is as it
+  -- was, and no motion is asked for
   byRefusal : (q : Cause) → Reason (commandOf image s x) (s .values) (taskAt s (x .task) .time) q
-      → step image s x .answer ≡ Halted q (pointOf (x .task) (taskAt s (x .task))) → step image s x .state .values ≡ noted (x .task) (x .start) (s .values)
+      → step image s x .answer ≡ Halted q (pointOf (x .task) (taskAt s (x .task)))
+      → step image s x .state .values ≡ levelNoted (x .task) (x .start) (s .values)
       → taskAt (step image s x .state) (x .task) ≡ stopped halted (taskAt s (x .task)) → step image s x .request ≡ None → Stopped image s x
   -- it ended by a 51 of its own mode, keeping the same
   byItself : commandOf image s x .code ≡ 0x51 → commandOf image s x .x ≡ x .task + 1 → step image s x .answer ≡ Done
       → taskAt (step image s x .state) (x .task) ≡ stopped ended (taskAt s (x .task)) → Stopped image s x
 
+-- ---- part 8: the wait for the position (change request 4)
+
+-- the codes of moves: to a position, by a distance, endless forward and backward
+abbrev pub isMoveCode : ℕ → Bool
+isMoveCode code = eqb code 0x00 || (eqb code 0x01 || (eqb code 0x03 || eqb code 0x04))
+
+-- something is asked of the axis
+abbrev pub asksMotion : Request → Bool
+asksMotion None = false
+asksMotion (MoveTo axis) = true
+asksMotion (MoveBy axis) = true
+asksMotion (Forward axis) = true
+asksMotion (Backward axis) = true
+asksMotion (Stop mode d) = true
+
+-- after a step: whether the latest step of BIAS that was executed, and so was neither refused nor halted its task, was a move that was carried out
+abbrev pub movedLast : List ℕ → State → Inputs → Bool → Bool
+movedLast image s x before =
+    cond (eqb (x .task) bias && executed (step image s x .answer)) (isMoveCode (commandOf image s x .code) && asksMotion (step image s x .request)) before
+
+-- the wait of a 58 is over: the ramp has ended, the position is in the window, and the step that `moved` tells of was no move
+abbrev pub waitOver : Inputs → Bool → Bool
+waitOver x moved = isSet (x .rampEnded) && (isSet (x .inWindow) && not moved)
+
+-- ---- what a run has come to before a step
+
+pub record Past : Type 0 where
+  -- the open calls
+  pub calls : Calls
+  -- whether the latest step of BIAS that was executed carried out a move
+  pub moved : Bool
+
+-- at load
+abbrev pub noPast : Past
+noPast = record { calls = noCalls; moved = false }
+
+-- after a step
+unfoldable pub pastAfter : List ℕ → State → Inputs → Past → Past
+pastAfter image s x past = record { calls = callsAfter image s x (past .calls); moved = movedLast image s x (past .moved) }
+
 -- ---- a step, and every step of a list
 
-pub record StepRule (image : List ℕ) (calls : Calls) (s : State) (x : Inputs) : Type 0 where
+pub record StepRule (image : List ℕ) (past : Past) (s : State) (x : Inputs) : Type 0 where
   -- part 4
   pub returns : executed (step image s x .answer) ≡ true → commandOf image s x .code ≡ 0x53
-      → Behind (calls (x .task)) (taskAt (step image s x .state) (x .task) .block)
+      → Behind (past .calls (x .task)) (taskAt (step image s x .state) (x .task) .block)
   -- part 5
   pub stops : (t : ℕ) → t < taskCount → taskAt s t .status ≡ runs → (taskAt (step image s x .state) t .status ≡ runs → ⊥) → (t ≡ x .task) × Stopped image s x
   -- part 6: status, block, start, call stack and wait of another task stay, or 54, 57 or 90 names it
   pub others : (t : ℕ) → t < taskCount → (t ≡ x .task → ⊥)
       → (taskAt (step image s x .state) t ≡ taskAt s t) ⊎ ((executed (step image s x .answer) ≡ true) × (starts (commandOf image s x .code) t ≡ true))
+  -- part 6: the notes of BIAS stay in a step of another task, a 57 and a halt included
+  pub notes : (x .task ≡ bias → ⊥) → step image s x .state .values .notes ≡ s .values .notes
   -- and the header stays
   pub header : step image s x .state .header ≡ s .header
+  -- part 8: a 58 goes on exactly when its wait is over, and else stays
+  pub arrives : executed (step image s x .answer) ≡ true → commandOf image s x .code ≡ 0x58
+      → taskAt (step image s x .state) (x .task) .block
+      ≡ cond (waitOver x (past .moved)) (taskAt s (x .task) .block + 1) (taskAt s (x .task) .block)
 
-pub data EachStep (image : List ℕ) : Calls → State → List Inputs → Type 0 where
-  none : {calls : Calls} {s : State} → EachStep image calls s []
-  more : {calls : Calls} {s : State} {x : Inputs} {xs : List Inputs} → StepRule image calls s x
-      → EachStep image (callsAfter image s x calls) (step image s x .state) xs → EachStep image calls s (x ∷ xs)
+pub data EachStep (image : List ℕ) : Past → State → List Inputs → Type 0 where
+  none : {past : Past} {s : State} → EachStep image past s []
+  more : {past : Past} {s : State} {x : Inputs} {xs : List Inputs} → StepRule image past s x
+      → EachStep image (pastAfter image s x past) (step image s x .state) xs → EachStep image past s (x ∷ xs)

@@ -1,4 +1,4 @@
--- What is proved of steps on values: the theorem over every list of steps (demand 3, parts 1 to 6 in docs/PROMISES.md; part 7 is `exactly` in
+-- What is proved of steps on values: the theorem over every list of steps (demand 3, parts 1 to 6 and 8 in docs/PROMISES.md; part 7 is `exactly` in
 -- walk/proofs/Verdicts/OfImage.antt), proved as `every-value-run` in proofs/Runs/EveryRun.antt; and that a step keeps good states, proved as `keeps-good` in
 -- proofs/Steps/KeepsGood.antt.
 use Prim.Native.Nat.{ℕ, _<_}
@@ -17,7 +17,7 @@ use Rattle.machine.specs.Engine.{step}
 use Rattle.machine.specs.Reference.{referenceLoaded}
 use Rattle.machine.specs.Alike.{Alike}
 use Rattle.machine.specs.Run.{outs, stateAfter, referenceOuts, machineAfter, SameHanded, Permitted}
-use Rattle.machine.specs.StepRule.{noCalls, EachStep}
+use Rattle.machine.specs.StepRule.{noPast, EachStep}
 
 -- what the engine begins with; the reference machine begins with `referenceLoaded`
 abbrev pub loaded : List ℕ → State
@@ -32,8 +32,9 @@ pub record ValueRun (image : List ℕ) (xs : List Inputs) : Type 0 where
   -- 3. afterwards each task that runs is at a block of the image that is permitted to it, at its depth, which is at most the limit
   pub permitted : (t : ℕ) → t < taskCount → taskAt (stateAfter image (loaded image) xs) t .status ≡ runs
       → Permitted image t (taskAt (stateAfter image (loaded image) xs) t)
-  -- 4, 5, 6. at every step: a return goes behind its task's latest open call; a task stops by its own step alone, and for a reason; other tasks stay
-  pub steps : EachStep image noCalls (loaded image) xs
+  -- 4, 5, 6 and 8. at every step: a return goes behind its task's latest open call; a task stops by its own step alone, and for a reason; other tasks
+  -- stay; a 58 goes on exactly when its wait is over
+  pub steps : EachStep image noPast (loaded image) xs
   -- and the state afterwards is a good one, where the image's bytes are bytes
   pub good : Bytes image → GoodState (stateAfter image (loaded image) xs)
 

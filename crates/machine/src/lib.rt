@@ -68,12 +68,13 @@ pub enum Answer {
     Halted(Cause, Point),
 }
 
-// What a command may read besides the values and the input levels: the drive, the start input and "position reached" as levels (0 or 1), and its
+// What a command may read besides the values and the input levels: the drive; the start input, "ramp ended" and "in window" as levels (0 or 1); and its
 // task's pending wait.
 pub struct Context {
     pub drive: Drive,
     pub start: u8,
-    pub reached: u8,
+    pub ramp_ended: u8,
+    pub in_window: u8,
     pub time: u32,
     pub turns: u32,
 }

@@ -14,18 +14,18 @@ use Rattle.bias.specs.Load.{Load, load}
 use Rattle.bias.specs.Step.{stepped}
 use Rattle.text_hex.specs.Hex.{hexBytes}
 
--- a record of steps: how often, the task, the start input, position reached, and four inputs that are high (0: none)
+-- a record of steps: how often, the task, the start input, ramp ended, in window, and four inputs that are high (0: none)
 abbrev pub recordLength : ℕ
-recordLength = 8
+recordLength = 9
 
 abbrev pub high : List ℕ → ℕ → List ℕ → List ℕ
 high steps at l = set l (getD steps at 0) 1
 
 abbrev pub levelsAt : List ℕ → ℕ → List ℕ
-levelsAt steps at = high steps (at + 7) (high steps (at + 6) (high steps (at + 5) (high steps (at + 4) (replicate cells 0))))
+levelsAt steps at = high steps (at + 8) (high steps (at + 7) (high steps (at + 6) (high steps (at + 5) (replicate cells 0))))
 
 abbrev pub inputsAt : List ℕ → ℕ → Inputs
-inputsAt steps at = inputsOf (getD steps (at + 1) 0) (levelsAt steps at) (getD steps (at + 2) 0) (getD steps (at + 3) 0)
+inputsAt steps at = inputsOf (getD steps (at + 1) 0) (levelsAt steps at) (getD steps (at + 2) 0) (getD steps (at + 3) 0) (getD steps (at + 4) 0)
 
 -- the buffer after n steps of one kind
 unfoldable pub repeated : List ℕ → Inputs → ℕ → List ℕ → List ℕ

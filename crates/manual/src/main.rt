@@ -17,9 +17,9 @@ const LINE_END: u8 = b'\n';
 
 const SPACE: u8 = b' ';
 
-// A record of steps: how often, the task, the start input, position reached, and four inputs that are high (0: none). One of no steps puts a byte into the
-// state buffer instead: its place, low byte first, and the byte. So examples can show 16 and 17, which no run from a load meets.
-const RECORD_LENGTH: usize = 8;
+// A record of steps: how often, the task, the start input, ramp ended, in window, and four inputs that are high (0: none). One of no steps puts a byte into
+// the state buffer instead: its place, low byte first, and the byte. So examples can show 16 and 17, which no run from a load meets.
+const RECORD_LENGTH: usize = 9;
 
 fn main() {
     let mut space = io::large_buffer();
@@ -123,6 +123,7 @@ fn run_record(image: &[u8], steps: &[u8], at: usize, state: &mut [u8])
         &inputs,
         steps[at + 2],
         steps[at + 3],
+        steps[at + 4],
         state,
     );
 }
@@ -147,10 +148,10 @@ fn levels(steps: &[u8], at: usize) -> [u8; CELLS]
     ensures { λ r. ⌜ r ≡ levelsAt (now (steps .entry)) at ⌝ }
 {
     let low = [0u8; CELLS];
-    let one = with_high(low, steps[at + 4]);
-    let two = with_high(one, steps[at + 5]);
-    let three = with_high(two, steps[at + 6]);
-    with_high(three, steps[at + 7])
+    let one = with_high(low, steps[at + 5]);
+    let two = with_high(one, steps[at + 6]);
+    let three = with_high(two, steps[at + 7]);
+    with_high(three, steps[at + 8])
 }
 
 // One more input high.
@@ -168,26 +169,37 @@ fn repeat(
     task: u32,
     inputs: &[u8],
     start: u8,
-    reached: u8,
+    ramp_ended: u8,
+    in_window: u8,
     state: &mut [u8],
 )
     requires { ⌜ length (now state) ≡ stateLength ⌝ }
-    ensures { λ _. ⌜ now (state .exit) ≡ repeated (now (image .entry)) (inputsOf task (now (inputs .entry)) start reached) n (now (state .entry)) ⌝ }
+    ensures { λ _. ⌜ now (state .exit)
+        ≡ repeated (now (image .entry)) (inputsOf task (now (inputs .entry)) start «ramp_ended» «in_window») n (now (state .entry)) ⌝ }
 {
     let mut i = 0;
     while i < n {
-        step(image, task, inputs, start, reached, state);
+        step(image, task, inputs, start, ramp_ended, in_window, state);
         i += 1;
     }
 }
 
 // One step and its line.
-fn step(image: &[u8], task: u32, inputs: &[u8], start: u8, reached: u8, state: &mut [u8])
+fn step(
+    image: &[u8],
+    task: u32,
+    inputs: &[u8],
+    start: u8,
+    ramp_ended: u8,
+    in_window: u8,
+    state: &mut [u8],
+)
     requires { ⌜ length (now state) ≡ stateLength ⌝ }
-    ensures { λ _. ⌜ now (state .exit) ≡ stepped (now (image .entry)) (now (state .entry)) (inputsOf task (now (inputs .entry)) start reached) .buffer ⌝ }
+    ensures { λ _. ⌜ now (state .exit)
+        ≡ stepped (now (image .entry)) (now (state .entry)) (inputsOf task (now (inputs .entry)) start «ramp_ended» «in_window») .buffer ⌝ }
 {
     let a = state_copy::copy_in(state);
-    let r = bias::bias_step(image, state, task, inputs, start, reached);
+    let r = bias::bias_step(image, state, task, inputs, start, ramp_ended, in_window);
     let b = state_copy::copy_in(state);
     text_step::show_step(image, &a, &b, task, r);
 }

@@ -31,7 +31,7 @@ use Rattle.machine.specs.Engine as engine
 use Rattle.machine.specs.Run.{outs, stateAfter}
 use Rattle.walk.proofs.Verdicts.Fast.{closureFast, walksFast, blocksFast, readFast, verdictFast, fast-is}
 use Rattle.proved_cases.specs.Images.{caseA}
-use Rattle.proved_cases.specs.Table.{Question, Reply, answerOf, standings, ask, Entry, caseTable}
+use Rattle.proved_cases.specs.Table.{Question, Reply, answerOf, standings, trailOf, ask, Entry, caseTable}
 
 -- the answer by the fast twin
 abbrev quick : Question → Reply
@@ -43,6 +43,7 @@ quick (Question.passes bytes k) = ask (Question.passes bytes k)
 quick (Question.divided a b) = ask (Question.divided a b)
 quick (Question.dividedBy a b) = ask (Question.dividedBy a b)
 quick (Question.requested bytes starts) = ask (Question.requested bytes starts)
+quick (Question.stepwise bytes steps) = trailOf bytes steps (verdictFast bytes marksLength)
 
 quick-is : (q : Question) → quick q ≡ ask q
 quick-is (Question.verdict bytes) = ap answerOf (fast-is bytes marksLength)
@@ -53,6 +54,7 @@ quick-is (Question.passes bytes k) = refl
 quick-is (Question.divided a b) = refl
 quick-is (Question.dividedBy a b) = refl
 quick-is (Question.requested bytes starts) = refl
+quick-is (Question.stepwise bytes steps) = ap (trailOf bytes steps) (fast-is bytes marksLength)
 
 -- the answers that are given, and those that the rows say
 abbrev given : List Entry → List Reply

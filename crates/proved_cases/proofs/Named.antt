@@ -5,10 +5,10 @@ use lib.IntN.{negsuc}
 use Rattle.state.specs.State.{startAxis}
 use Rattle.machine.specs.declared.Request.the-variants.{None, MoveTo}
 use Rattle.proved_cases.specs.Images.{block}
-use Rattle.proved_cases.specs.Table.{Name, Reply, Entry, stand, accepted, caseTable}
+use Rattle.proved_cases.specs.Table.{Name, Reply, Entry, turn, stand, came, accepted, caseTable}
 use Rattle.proved_cases.specs.Table.Name.{A, B, C, D, E, F, G, H, I, J, K, L, chainOf, marksOf, blockBeforeTask, taskBeforeDepth, onDrive, outputInstead}
-use Rattle.proved_cases.specs.Table.Name.{heldStart, startMark}
-use Rattle.proved_cases.specs.Table.Reply.{refusal, value, noNumber, standing, whole, motions}
+use Rattle.proved_cases.specs.Table.Name.{heldStart, startMark, inSteps}
+use Rattle.proved_cases.specs.Table.Reply.{refusal, value, noNumber, standing, whole, motions, trail}
 
 record Told : Type 0 where
   name : Name
@@ -32,6 +32,52 @@ pub named : map (λ (r : Entry). told (r .name) (r .answer)) caseTable
     ∷ told (onDrive 2 0 0 (block 99 0 101 0 ∷ [])) (refusal 23 0 0 0) ∷ told (onDrive 2 0 0 (block 114 101 1 0 ∷ [])) (refusal 6 0 0 0)
     ∷ told (onDrive 2 0 0 (block 114 217 2 0 ∷ [])) (refusal 23 0 0 0) ∷ told (onDrive 3 0 0 (block 110 0 0 0 ∷ [])) (refusal 6 0 0 0)
     ∷ told (outputInstead 217) (refusal 17 0 0 0) ∷ told (outputInstead 8) (refusal 17 0 0 0) ∷ told (outputInstead 13) accepted
-    ∷ told heldStart (motions (None ∷ None ∷ None ∷ MoveTo startAxis ∷ [])) ∷ told startMark (motions (None ∷ MoveTo startAxis ∷ None ∷ None ∷ [])) ∷ []
+    ∷ told heldStart (motions (None ∷ None ∷ None ∷ MoveTo startAxis ∷ [])) ∷ told startMark (motions (None ∷ MoveTo startAxis ∷ None ∷ None ∷ []))
+    ∷ told (inSteps (block 14 0 0 0 ∷ block 0 0 0 0 ∷ block 88 0 0 0 ∷ block 85 2 0 0 ∷ [])
+    (turn 0 1 1 256 ∷ turn 0 1 1 256 ∷ turn 0 1 1 256 ∷ turn 0 1 1 256 ∷ []))
+    (trail 0 (came 0 1 ∷ came 0 2 ∷ came 0 2 ∷ came 0 3 ∷ []))
+    ∷ told (inSteps (block 14 0 0 0 ∷ block 1 0 0 0 ∷ block 88 0 0 0 ∷ block 85 2 0 0 ∷ [])
+    (turn 0 1 1 256 ∷ turn 0 1 1 256 ∷ turn 0 1 1 256 ∷ turn 0 1 1 256 ∷ []))
+    (trail 0 (came 0 1 ∷ came 0 2 ∷ came 0 2 ∷ came 0 3 ∷ []))
+    ∷ told (inSteps (block 14 0 0 0 ∷ block 3 0 0 0 ∷ block 88 0 0 0 ∷ block 85 2 0 0 ∷ [])
+    (turn 0 1 1 256 ∷ turn 0 1 1 256 ∷ turn 0 1 1 256 ∷ turn 0 1 1 256 ∷ []))
+    (trail 0 (came 0 1 ∷ came 0 2 ∷ came 0 2 ∷ came 0 3 ∷ []))
+    ∷ told (inSteps (block 14 0 0 0 ∷ block 4 0 0 0 ∷ block 88 0 0 0 ∷ block 85 2 0 0 ∷ [])
+    (turn 0 1 1 256 ∷ turn 0 1 1 256 ∷ turn 0 1 1 256 ∷ turn 0 1 1 256 ∷ []))
+    (trail 0 (came 0 1 ∷ came 0 2 ∷ came 0 2 ∷ came 0 3 ∷ []))
+    ∷ told (inSteps (block 88 0 0 0 ∷ block 85 0 0 0 ∷ [])
+    (turn 0 1 1 256 ∷ []))
+    (trail 0 (came 0 1 ∷ []))
+    ∷ told (inSteps (block 88 0 0 0 ∷ block 85 0 0 0 ∷ [])
+    (turn 0 2 255 256 ∷ []))
+    (trail 0 (came 0 1 ∷ []))
+    ∷ told (inSteps (block 88 0 0 0 ∷ block 85 0 0 0 ∷ [])
+    (turn 0 1 0 256 ∷ []))
+    (trail 0 (came 0 0 ∷ []))
+    ∷ told (inSteps (block 88 0 0 0 ∷ block 85 0 0 0 ∷ [])
+    (turn 0 0 1 256 ∷ []))
+    (trail 0 (came 0 0 ∷ []))
+    ∷ told (inSteps (block 14 0 0 0 ∷ block 0 0 0 0 ∷ block 80 0 0 0 ∷ block 88 0 0 0 ∷ block 85 3 0 0 ∷ [])
+    (turn 0 1 1 256 ∷ turn 0 1 1 256 ∷ turn 0 1 1 256 ∷ turn 0 1 1 256 ∷ []))
+    (trail 0 (came 0 1 ∷ came 0 2 ∷ came 0 3 ∷ came 0 4 ∷ []))
+    ∷ told (inSteps (block 84 5 0 0 ∷ block 14 0 0 0 ∷ block 0 0 0 0 ∷ block 88 0 0 0 ∷ block 85 3 0 0 ∷ block 85 5 0 0 ∷ [])
+    (turn 0 1 1 256 ∷ turn 0 1 1 256 ∷ turn 0 1 1 256 ∷ turn 1 1 1 256 ∷ turn 0 1 1 256 ∷ turn 0 1 1 256 ∷ []))
+    (trail 0 (came 0 1 ∷ came 0 2 ∷ came 0 3 ∷ came 0 3 ∷ came 0 3 ∷ came 0 4 ∷ []))
+    ∷ told (inSteps (block 14 0 0 0 ∷ block 0 0 0 0 ∷ block 88 0 0 0 ∷ block 85 2 0 0 ∷ [])
+    (turn 0 1 1 256 ∷ turn 0 1 1 256 ∷ turn 0 1 1 255 ∷ turn 0 1 1 256 ∷ turn 0 1 1 256 ∷ []))
+    (trail 0 (came 0 1 ∷ came 0 2 ∷ came 15 2 ∷ came 0 2 ∷ came 0 3 ∷ []))
+    ∷ told (inSteps (block 84 6 0 0 ∷ block 14 0 0 0 ∷ block 0 0 0 0 ∷ block 141 0 1 2 ∷ block 88 0 0 0 ∷ block 85 4 0 0 ∷ block 87 4 0 0 ∷ block 85 7 0 0 ∷ [])
+    (turn 0 1 1 256 ∷ turn 0 1 1 256 ∷ turn 0 1 1 256 ∷ turn 0 1 1 256 ∷ turn 0 1 1 256 ∷ turn 1 1 1 256 ∷ turn 0 1 1 256 ∷ turn 0 1 1 256 ∷ []))
+    (trail 0 (came 0 1 ∷ came 0 2 ∷ came 0 3 ∷ came 19 3 ∷ came 18 3 ∷ came 0 4 ∷ came 0 4 ∷ came 0 5 ∷ []))
+    ∷ told (inSteps (block 84 4 0 0 ∷ block 141 0 1 2 ∷ block 88 0 0 0 ∷ block 85 2 0 0 ∷ block 87 2 0 0 ∷ block 85 5 0 0 ∷ [])
+    (turn 0 1 1 256 ∷ turn 0 1 1 256 ∷ turn 1 1 1 256 ∷ turn 0 1 1 256 ∷ []))
+    (trail 0 (came 0 1 ∷ came 19 1 ∷ came 0 2 ∷ came 0 3 ∷ []))
+    ∷ told (inSteps (block 15 0 0 0 ∷ block 88 0 0 0 ∷ block 85 1 0 0 ∷ [])
+    (turn 0 1 1 256 ∷ turn 0 1 1 256 ∷ []))
+    (trail 0 (came 0 1 ∷ came 0 2 ∷ []))
+    ∷ told (inSteps (block 84 4 0 0 ∷ block 0 0 0 0 ∷ block 88 0 0 0 ∷ block 85 2 0 0 ∷ block 87 2 0 0 ∷ block 85 5 0 0 ∷ [])
+    (turn 0 1 1 256 ∷ turn 0 1 1 256 ∷ turn 1 1 1 256 ∷ turn 0 1 1 256 ∷ []))
+    (trail 0 (came 0 1 ∷ came 0 1 ∷ came 0 2 ∷ came 0 3 ∷ []))
+    ∷ []
 unfolding caseTable
 named = refl

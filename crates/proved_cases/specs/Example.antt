@@ -32,7 +32,7 @@ program =
 
 -- a step of a task, with all inputs low
 abbrev pub stepOf : ℕ → Inputs
-stepOf t = record { task = t; levels = replicate 256 0; start = 0; reached = 0 }
+stepOf t = record { task = t; levels = replicate 256 0; start = 0; rampEnded = 0; inWindow = 0 }
 
 -- the tasks that step, in this order; there is no task 3
 abbrev pub order : List ℕ

@@ -16,7 +16,7 @@ use Rattle.walk.specs.declared.Verdict.{Verdict}
 use Rattle.state.specs.State.{startAxis, freshValues, withVariable, taskAt}
 use Rattle.state.specs.declared.Task.{Task}
 use Rattle.state.specs.declared.State.{State}
-use Rattle.machine.specs.Inputs.{Inputs}
+use Rattle.machine.specs.Inputs.{Inputs, inputsOf}
 use Rattle.machine.specs.declared.Context.{Context}
 use Rattle.machine.specs.Effect.{effectOf, variable}
 use Rattle.machine.specs.Engine.{step}
@@ -28,6 +28,22 @@ use Rattle.machine.specs.Theorem.{loaded}
 use Rattle.machine.specs.declared.Request.{Request}
 use Rattle.machine.specs.declared.Request.the-variants.{None, MoveTo}
 use Rattle.proved_cases.specs.Images.{block, plain, toward, header, image, imageWith, imageFor, imageAt, blockA, caseA, chain}
+
+-- ---- steps
+
+-- a step as a row of the table has it: its task, ramp ended, in window, and how many input levels are given; they and the start input are low
+pub record Turn : Type 0 where
+  pub task : ℕ
+  pub rampEnded : ℕ
+  pub inWindow : ℕ
+  pub levels : ℕ
+
+abbrev pub turn : ℕ → ℕ → ℕ → ℕ → Turn
+turn task rampEnded inWindow levels = record { task = task; rampEnded = rampEnded; inWindow = inWindow; levels = levels }
+
+-- with both bits, and as many input levels as there are pins
+abbrev pub bothBits : ℕ → Turn
+bothBits task = turn task 1 1 256
 
 -- ---- names
 
@@ -55,6 +71,8 @@ pub data Name : Type 0 where
   outputInstead : ℕ → Name
   heldStart : Name
   startMark : Name
+  -- steps of these blocks
+  inSteps : List (List ℕ) → List Turn → Name
 
 -- ---- questions and answers
 
@@ -74,6 +92,8 @@ pub data Question : Type 0 where
   dividedBy : ℤ → ℤ → Question
   -- the motion requests of BIAS steps of an image, with these levels of the start input
   requested : List ℕ → List ℕ → Question
+  -- the load of an image, and what steps of it come to
+  stepwise : List ℕ → List Turn → Question
 
 -- a block, and T and k of the wait that is pending there (0 and 0: none)
 pub record Stand : Type 0 where
@@ -84,6 +104,14 @@ pub record Stand : Type 0 where
 abbrev pub stand : ℕ → ℕ → ℕ → Stand
 stand block time turns = record { block = block; time = time; turns = turns }
 
+-- document 01's number of a step's answer, and BIAS's block after the step
+pub record Came : Type 0 where
+  pub answered : ℕ
+  pub at : ℕ
+
+abbrev pub came : ℕ → ℕ → Came
+came answered at = record { answered = answered; at = at }
+
 pub data Reply : Type 0 where
   -- document 01's number, then byte or block, task and depth; all 0 for an image that is accepted and a step that is carried out
   refusal : ℕ → ℕ → ℕ → ℕ → Reply
@@ -93,6 +121,8 @@ pub data Reply : Type 0 where
   standing : Stand → Stand → Reply
   whole : ℤ → Reply
   motions : List Request → Reply
+  -- document 01's number of the load, and each step
+  trail : ℕ → List Came → Reply
 
 abbrev pub accepted : Reply
 accepted = refusal 0 0 0 0
@@ -110,14 +140,14 @@ numberReply NotShortest = noNumber (resultNumber (result.NotShortest 0))
 
 -- what a command of BIAS may read on a 637 where all inputs are low and no wait is pending
 abbrev pub low : Context
-low = record { drive = record { model = 2; b = 0; c = 0 }; start = 0; reached = 0; time = 0; turns = 0 }
+low = record { drive = record { model = 2; b = 0; c = 0 }; start = 0; «ramp_ended» = 0; «in_window» = 0; time = 0; turns = 0 }
 
 -- variable 0 after a command, where variables 1 and 2 hold these
 abbrev pub resultOf : Command → ℤ → ℤ → ℤ
 resultOf c a b = variable (effectOf [] low c (withVariable 1 a (withVariable 2 b freshValues)) .values) 0
 
 abbrev pub biasStep : ℕ → Inputs
-biasStep start = record { task = 0; levels = replicate 256 0; start = start; reached = 0 }
+biasStep start = inputsOf 0 (replicate 256 0) start 0 0
 
 abbrev pub standAt : Task → Stand
 standAt task = stand (task .block) (task .time) (task .turns)
@@ -129,6 +159,16 @@ standings bytes s = standing (standAt (taskAt s 0)) (standAt (taskAt (step bytes
 abbrev pub motionsOf : List StepOut → List Request
 motionsOf = map (λ (o : StepOut). o .request)
 
+abbrev pub stepFor : Turn → Inputs
+stepFor x = inputsOf (x .task) (replicate (x .levels) 0) 0 (x .rampEnded) (x .inWindow)
+
+abbrev pub cameOf : StepOut → Came
+cameOf o = came (answerNumber (o .answer)) (taskAt (o .state) 0 .block)
+
+-- where the load of the image comes to this verdict
+abbrev pub trailOf : List ℕ → List Turn → Verdict → Reply
+trailOf bytes steps v = trail (verdictNumber v) (map cameOf (outs bytes (loaded bytes) (map stepFor steps)))
+
 abbrev pub ask : Question → Reply
 ask (verdict bytes) = answerOf (verdictOf bytes 27000)
 ask (lent n) = answerOf (verdictOf caseA n)
@@ -138,6 +178,7 @@ ask (passes bytes k) = standings bytes (stateAfter bytes (loaded bytes) (replica
 ask (divided a b) = whole (resultOf (command 0x85 0 1 0 0 b) a b)
 ask (dividedBy a b) = whole (resultOf (command 0x8D 0 1 2 0 (pos 0)) a b)
 ask (requested bytes starts) = motions (motionsOf (outs bytes (loaded bytes) (map biasStep starts)))
+ask (stepwise bytes steps) = trailOf bytes steps (verdictOf bytes 27000)
 
 -- ---- the table
 
@@ -175,6 +216,23 @@ driveRow model b c blocks = entry (onDrive model b c blocks) (verdict (imageWith
 
 abbrev pub insteadRow : ℕ → Reply → Entry
 insteadRow pin = entry (outputInstead pin) (instead (image (outputSet 12 ∷ blockA ∷ [])) (image (outputSet pin ∷ blockA ∷ [])))
+
+-- of an image that is accepted
+abbrev pub stepRow : List (List ℕ) → List Turn → List Came → Entry
+stepRow blocks steps l = entry (inSteps blocks steps) (stepwise (image blocks) steps) (trail 0 l)
+
+-- 0E, a move of this code, 58, 55 02: the move, and the wait for its position
+abbrev pub moveAndWait : ℕ → List (List ℕ)
+moveAndWait code = plain 0x0E ∷ plain code ∷ plain 0x58 ∷ toward 0x55 2 ∷ []
+
+-- four steps of it with both bits: the third stays, the fourth passes
+abbrev pub moveRow : ℕ → Entry
+moveRow code =
+    stepRow (moveAndWait code) (bothBits 0 ∷ bothBits 0 ∷ bothBits 0 ∷ bothBits 0 ∷ []) (came 0 1 ∷ came 0 2 ∷ came 0 2 ∷ came 0 3 ∷ [])
+
+-- 58, 55: the wait alone, and where one step with these bits leaves it
+abbrev pub waitRow : ℕ → ℕ → ℕ → Entry
+waitRow rampEnded inWindow at = stepRow (plain 0x58 ∷ blockA ∷ []) (turn 0 rampEnded inWindow 256 ∷ []) (came 0 at ∷ [])
 
 unfoldable pub caseTable : List Entry
 caseTable =
@@ -252,4 +310,35 @@ caseTable =
     entry heldStart (requested mover (1 ∷ 1 ∷ 0 ∷ 1 ∷ [])) (motions (None ∷ None ∷ None ∷ MoveTo startAxis ∷ [])) ∷
     -- the start mark of 0E starts a move without a slope, which clears it
     entry startMark (requested marked (1 ∷ 1 ∷ 1 ∷ 1 ∷ [])) (motions (None ∷ MoveTo startAxis ∷ None ∷ None ∷ [])) ∷
+    -- change request 4, a move, then a 58 with both bits: the third step stays, the fourth passes; the same of 01, 03 and 04
+    moveRow 0x00 ∷
+    moveRow 0x01 ∷
+    moveRow 0x03 ∷
+    moveRow 0x04 ∷
+    -- with no move since load it passes at once, on bits that are anything but 0; on one bit alone it stays
+    waitRow 1 1 1 ∷
+    waitRow 2 255 1 ∷
+    waitRow 1 0 0 ∷
+    waitRow 0 1 0 ∷
+    -- a 50 between the move and the 58: it passes at once
+    stepRow (plain 0x0E ∷ plain 0x00 ∷ plain 0x50 ∷ plain 0x58 ∷ toward 0x55 3 ∷ []) (bothBits 0 ∷ bothBits 0 ∷ bothBits 0 ∷ bothBits 0 ∷ [])
+    (came 0 1 ∷ came 0 2 ∷ came 0 3 ∷ came 0 4 ∷ []) ∷
+    -- a step of the PLC between them: it still stays
+    stepRow (toward 0x54 5 ∷ plain 0x0E ∷ plain 0x00 ∷ plain 0x58 ∷ toward 0x55 3 ∷ toward 0x55 5 ∷ [])
+    (bothBits 0 ∷ bothBits 0 ∷ bothBits 0 ∷ bothBits 1 ∷ bothBits 0 ∷ bothBits 0 ∷ [])
+    (came 0 1 ∷ came 0 2 ∷ came 0 3 ∷ came 0 3 ∷ came 0 3 ∷ came 0 4 ∷ []) ∷
+    -- a BIAS step between them that 15 refuses: it still stays
+    stepRow (moveAndWait 0x00) (bothBits 0 ∷ bothBits 0 ∷ turn 0 1 1 255 ∷ bothBits 0 ∷ bothBits 0 ∷ [])
+    (came 0 1 ∷ came 0 2 ∷ came 15 2 ∷ came 0 2 ∷ came 0 3 ∷ []) ∷
+    -- a move, 8D by 0 (19), a BIAS step that 18 refuses, then the PLC's 57 to a 58: it stays once
+    stepRow (toward 0x54 6 ∷ plain 0x0E ∷ plain 0x00 ∷ block 0x8D 0 1 2 ∷ plain 0x58 ∷ toward 0x55 4 ∷ toward 0x57 4 ∷ toward 0x55 7 ∷ [])
+    (bothBits 0 ∷ bothBits 0 ∷ bothBits 0 ∷ bothBits 0 ∷ bothBits 0 ∷ bothBits 1 ∷ bothBits 0 ∷ bothBits 0 ∷ [])
+    (came 0 1 ∷ came 0 2 ∷ came 0 3 ∷ came 19 3 ∷ came 18 3 ∷ came 0 4 ∷ came 0 4 ∷ came 0 5 ∷ []) ∷
+    -- with no move before the 19 it passes at once
+    stepRow (toward 0x54 4 ∷ block 0x8D 0 1 2 ∷ plain 0x58 ∷ toward 0x55 2 ∷ toward 0x57 2 ∷ toward 0x55 5 ∷ [])
+    (bothBits 0 ∷ bothBits 0 ∷ bothBits 1 ∷ bothBits 0 ∷ []) (came 0 1 ∷ came 19 1 ∷ came 0 2 ∷ came 0 3 ∷ []) ∷
+    -- a stop is no move: a 58 behind it passes at once; nor is a move that waits for its start, before the PLC's 57 leads to a 58
+    stepRow (plain 0x0F ∷ plain 0x58 ∷ toward 0x55 1 ∷ []) (bothBits 0 ∷ bothBits 0 ∷ []) (came 0 1 ∷ came 0 2 ∷ []) ∷
+    stepRow (toward 0x54 4 ∷ plain 0x00 ∷ plain 0x58 ∷ toward 0x55 2 ∷ toward 0x57 2 ∷ toward 0x55 5 ∷ [])
+    (bothBits 0 ∷ bothBits 0 ∷ bothBits 1 ∷ bothBits 0 ∷ []) (came 0 1 ∷ came 0 1 ∷ came 0 2 ∷ came 0 3 ∷ []) ∷
     []

@@ -28,7 +28,7 @@ use Rattle.machine.specs.Numbers.{causeNumber, answerNumber}
 use Rattle.machine.specs.Reference.{referenceLoaded, idle}
 use Rattle.machine.specs.Run.{machineAfter}
 use Rattle.machine.specs.Theorem.{loaded}
-use Rattle.machine.specs.StepRule.{Calls, noCalls, callsAfter, StepRule}
+use Rattle.machine.specs.StepRule.{Past, noPast, pastAfter, StepRule}
 use Rattle.machine.specs.declared.Cause.{Cause}
 use Rattle.machine.specs.declared.Cause.the-variants.{ZeroDivisor, BadContent}
 use Rattle.machine.specs.declared.Answer.{Answer}
@@ -68,7 +68,7 @@ is-refused NotRunning l h = refl
 is-refused (Differs p) l h = refl
 is-refused (Halted q p) l h = let n = halt-number q in absurd (omega arith)
 
-module _ {image b : List ℕ} {calls : Calls} {x : Inputs} (e : StepOn image calls b x) where
+module _ {image b : List ℕ} {past : Past} {x : Inputs} (e : StepOn image past b x) where
   number-is : stepped image b x .answer .number ≡ answerNumber (step image (decoded b) x .answer)
   number-is = ap (λ (a : BiasAnswer). a .number) (e .answer)
 
@@ -80,12 +80,12 @@ module _ {image b : List ℕ} {calls : Calls} {x : Inputs} (e : StepOn image cal
   pub left : 15 ≤ stepped image b x .answer .number → stepped image b x .answer .number ≤ 18 → stepped image b x .buffer ≡ b
   left l h = let n = number-is in e .stays (is-refused (step image (decoded b) x .answer) (omega arith) (omega arith))
 
-  -- parts 4 to 6 are of the buffer before the step, and of the one after it (machine/proofs/Runs/Apart.antt takes them apart)
-  pub parts-of : (isState b ≡ true) × (StepRule image calls (decoded b) x × (decoded (stepped image b x .buffer) ≡ step image (decoded b) x .state))
+  -- parts 4 to 6 and 8 are of the buffer before the step, and of the one after it (machine/proofs/Runs/Apart.antt takes them apart)
+  pub parts-of : (isState b ≡ true) × (StepRule image past (decoded b) x × (decoded (stepped image b x .buffer) ≡ step image (decoded b) x .state))
   parts-of = (e .held, (e .parts, e .state))
 
-pub first-step-on : {image b : List ℕ} {calls : Calls} {x : Inputs} {xs : List Inputs} → EveryStepOn image calls b (x ∷ xs)
-    → StepOn image calls b x × EveryStepOn image (callsAfter image (decoded b) x calls) (stepped image b x .buffer) xs
+pub first-step-on : {image b : List ℕ} {past : Past} {x : Inputs} {xs : List Inputs} → EveryStepOn image past b (x ∷ xs)
+    → StepOn image past b x × EveryStepOn image (pastAfter image (decoded b) x past) (stepped image b x .buffer) xs
 first-step-on (EveryStepOn.more p q) = (p, q)
 
 -- ---- any step, of whatever bytes: carried out, refused with no motion and the buffer as it was, or halted
@@ -165,7 +165,7 @@ module _ (d : Demand) (image : List ℕ) (n : ℕ) (b : List ℕ) where
     block-fits t l r = let p = run .permitted t l r in (permitted-fits image t _ p, p .depth)
 
     -- 4 to 6
-    pub steps-are : EveryStepOn image noCalls (load image n b .buffer) xs × (isState (bufferAfter image (load image n b .buffer) xs) ≡ true)
+    pub steps-are : EveryStepOn image noPast (load image n b .buffer) xs × (isState (bufferAfter image (load image n b .buffer) xs) ≡ true)
     steps-are = (run .steps, run .held)
 
   -- 7: what a load answers is what 13, 16 and the image say, and nothing else is

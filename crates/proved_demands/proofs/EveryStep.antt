@@ -25,8 +25,8 @@ use Rattle.state_layout.specs.IsState.{isState}
 use Rattle.state_layout.proofs.RoundTrip.{state-good, encode-decode, good-state}
 use Rattle.machine.specs.Inputs.{Inputs}
 use Rattle.machine.specs.Effect.{effectOf, isSet}
-use Rattle.machine.specs.Engine.{contextOf, isWait, isLoaded, blockFits, waitFits, fits, pointOf, answerTo, noted, stopped, tasksAfter, performed, carriedOut}
-use Rattle.machine.specs.Engine.{taskStep, step, termsHeld}
+use Rattle.machine.specs.Engine.{contextOf, isWait, isLoaded, isHalt, blockFits, waitFits, fits, pointOf, answerTo, movedAfter, noted, stopped, tasksAfter}
+use Rattle.machine.specs.Engine.{performed, carriedOut, taskStep, step, termsHeld}
 use Rattle.machine.specs.Engine as engine
 use Rattle.machine.specs.StepRule.{commandOf, Reason}
 use Rattle.machine.specs.declared.Cause.{Cause}
@@ -36,9 +36,10 @@ use Rattle.machine.specs.declared.Answer.the-variants.{Done, NotRunning, Differ
 use Rattle.machine.specs.declared.Effect.{Effect}
 use Rattle.machine.specs.declared.Outcome.{Outcome}
 use Rattle.machine.specs.declared.Outcome.the-variants as outcome
-use Rattle.machine.proofs.Rows.Forms.{Law, Halting, isHalt}
+use Rattle.machine.proofs.Rows.Forms.{Law, Halting}
 use Rattle.machine.proofs.Rows.Halts.{halts-for}
 use Rattle.machine.proofs.Steps.KeepsGood.{keeps-good, law, fit-here}
+use Rattle.machine.proofs.Steps.Notes.{level-noted}
 use Rattle.bias_results.specs.Results.{answerFor}
 use Rattle.bias_results.specs.declared.BiasAnswer.{BiasAnswer}
 use Rattle.bias.specs.Step.{Stepped, handed, stepped}
@@ -164,7 +165,7 @@ module _ (image b : List ℕ) (x : Inputs) where
           ∙ (λ ι. record {
             answer = answerFor (still .1 ι) (answerTo (i ι) (pointOf (x .task) task));
             buffer = encoded (record {
-              values = noted (x .task) (x .start) (still .0 ι);
+              values = noted (x .task) (x .start) (movedAfter (i ι) (still .1 ι) (still .0 ι .notes .moved)) (still .0 ι);
               header = s .header;
               tasks =
                   tasksAfter (s .header .start) (x .task) task (i ι) (s .tasks);
@@ -173,7 +174,7 @@ module _ (image b : List ℕ) (x : Inputs) where
           ∙ (λ ι. record {
             answer = answerFor None (Halted q (pointOf (x .task) task));
             buffer = encoded (record {
-              values = noted (x .task) (x .start) (s .values);
+              values = level-noted (x .task) (x .start) q None (s .values) ι;
               header = s .header;
               tasks =
                   set (s .tasks) (x .task) (status-alone task time turns ι);

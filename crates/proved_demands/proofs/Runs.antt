@@ -27,7 +27,7 @@ use Rattle.machine.specs.Effect.{effectOf}
 use Rattle.machine.specs.Reference.{Thread, Machine, ReferenceOut, idle, referenceLoaded, replies, does, lost, tries, acts, referenceStep}
 use Rattle.machine.specs.Alike.{Alike}
 use Rattle.machine.specs.Run.{outs, referenceOuts, stateAfter, machineAfter, SameHanded, Permitted}
-use Rattle.machine.specs.StepRule.{Calls, noCalls, callsAfter, StepRule, EachStep}
+use Rattle.machine.specs.StepRule.{Past, noPast, pastAfter, StepRule, EachStep}
 use Rattle.machine.specs.Theorem.{loaded}
 use Rattle.machine.specs.declared.StepOut.{StepOut}
 use Rattle.machine.specs.declared.Effect.{Effect}
@@ -133,7 +133,8 @@ turn-same image m x =
         (record {
           drive = headerOf image .header .drive;
           start = level (x .start);
-          reached = level (x .reached);
+          «ramp_ended» = level (x .rampEnded);
+          «in_window» = level (x .inWindow);
           time = thread .time;
           turns = thread .turns;
         })
@@ -161,13 +162,13 @@ module _ (image : List ℕ) (bytes : Bytes image) where
       ∙ answers-are (step image s x .state) (next-good s g x) (referenceStep image m x .machine) xs h in
       λ ι. e ι ∷ f ι
 
-  step-on : (s : State) → GoodState s → (calls : Calls) (x : Inputs) → StepRule image calls s x → differs (step image s x .answer) ≡ false
-      → StepOn image calls (encoded s) x
-  step-on s g calls x p same =
+  step-on : (s : State) → GoodState s → (past : Past) (x : Inputs) → StepRule image past s x → differs (step image s x .answer) ≡ false
+      → StepOn image past (encoded s) x
+  step-on s g past x p same =
       let d = decode-encode s g in
       record {
         held = good-state s g;
-        parts = subst (λ (r : State). StepRule image calls r x) (sym d) p;
+        parts = subst (λ (r : State). StepRule image past r x) (sym d) p;
         answer = answer-is image s g x ∙ ap (λ (r : State). answerFor (step image r x .request) (step image r x .answer)) (sym d);
         state = ap decoded (buffer-is image s g x) ∙ decode-encode (step image s x .state) (next-good s g x)
             ∙ ap (λ (r : State). step image r x .state) (sym d);
@@ -175,16 +176,16 @@ module _ (image : List ℕ) (bytes : Bytes image) where
         stays = λ r. buffer-is image s g x ∙ ap encoded (refused-stays image s x (sym (ap (λ (r : State). refused (step image r x .answer)) d) ∙ r));
       }
 
-  each-on : (s : State) → GoodState s → (m : Machine) (calls : Calls) (xs : List Inputs) → EachStep image calls s xs
+  each-on : (s : State) → GoodState s → (m : Machine) (past : Past) (xs : List Inputs) → EachStep image past s xs
       → SameHanded (outs image s xs) (referenceOuts image m xs)
-      → EveryStepOn image calls (encoded s) xs
+      → EveryStepOn image past (encoded s) xs
   unfolding outs referenceOuts
-  each-on s g m calls [] h i = EveryStepOn.none
-  each-on s g m calls (x ∷ xs) (EachStep.more p h) (SameHanded.more a o i) =
-      let later = each-on (step image s x .state) (next-good s g x) (referenceStep image m x .machine) (callsAfter image s x calls) xs h i in
-      let first = subst (λ (b : List ℕ). EveryStepOn image (callsAfter image s x calls) b xs) (sym (buffer-is image s g x)) later in
-      EveryStepOn.more (step-on s g calls x p (ap differs a ∙ turn-same image m x))
-      (subst (λ (r : State). EveryStepOn image (callsAfter image r x calls) (stepped image (encoded s) x .buffer) xs) (sym (decode-encode s g)) first)
+  each-on s g m past [] h i = EveryStepOn.none
+  each-on s g m past (x ∷ xs) (EachStep.more p h) (SameHanded.more a o i) =
+      let later = each-on (step image s x .state) (next-good s g x) (referenceStep image m x .machine) (pastAfter image s x past) xs h i in
+      let first = subst (λ (b : List ℕ). EveryStepOn image (pastAfter image s x past) b xs) (sym (buffer-is image s g x)) later in
+      EveryStepOn.more (step-on s g past x p (ap differs a ∙ turn-same image m x))
+      (subst (λ (r : State). EveryStepOn image (pastAfter image r x past) (stepped image (encoded s) x .buffer) xs) (sym (decode-encode s g)) first)
 
 -- ---- from a load that answers 0
 
@@ -207,7 +208,7 @@ module _ (image : List ℕ) (n : ℕ) (bytes : Bytes image) (ok : verdictOf imag
         same = answers-are image bytes (loaded image) loaded-good (referenceLoaded image) xs (r .answers);
         alike = subst (λ (q : State). Alike q (machineAfter image (referenceLoaded image) xs)) (sym d) (r .alike);
         permitted = subst (λ (q : State). (t : ℕ) → t < taskCount → taskAt q t .status ≡ runs → Permitted image t (taskAt q t)) (sym d) (r .permitted);
-        steps = each-on image bytes (loaded image) loaded-good (referenceLoaded image) noCalls xs (r .steps) (r .answers);
+        steps = each-on image bytes (loaded image) loaded-good (referenceLoaded image) noPast xs (r .steps) (r .answers);
         held = ap isState e ∙ good-state s (r .good bytes);
       }
 

@@ -15,8 +15,8 @@ use Rattle.state_layout.specs.Layout.{decoded, encoded}
 use Rattle.state_layout.specs.IsState.{isState}
 use Rattle.machine.specs.Inputs.{Inputs}
 use Rattle.image_header.specs.Scan.{blocksOf}
-use Rattle.machine.specs.Engine.{pointOf, noted, fits, carriedOut, termsHeld}
-use Rattle.machine.specs.StepRule.{commandOf, Reason}
+use Rattle.machine.specs.Engine.{pointOf, fits, carriedOut, termsHeld}
+use Rattle.machine.specs.StepRule.{commandOf, levelNoted, Reason}
 use Rattle.machine.specs.declared.Cause.{Cause}
 use Rattle.machine.specs.declared.Request.the-variants.{None}
 use Rattle.machine.specs.declared.Answer.the-variants.{Done, NoTask, Inputs as BadInputs, NotRunning, Differs, Halted}
@@ -30,10 +30,10 @@ use Rattle.bias.specs.Step.{stepped}
 abbrev pub withStatus : ℕ → Task → Task
 withStatus status task = taskWith status (task .block) (task .start) (task .depth) (task .stack) (task .time) (task .turns)
 
--- the task is halted, a BIAS step has noted the start level, and nothing else has changed
+-- the task is halted, a BIAS step has noted the start level, and nothing else has changed, the note of a move included
 abbrev pub haltedState : State → Inputs → State
 haltedState s x = record {
-  values = noted (x .task) (x .start) (s .values);
+  values = levelNoted (x .task) (x .start) (s .values);
   header = s .header;
   tasks = set (s .tasks) (x .task) (withStatus halted (taskAt s (x .task)));
 }

@@ -1,5 +1,5 @@
--- Demand 3, of the functions that C calls (docs/PROMISES.md numbers its parts), as one claim, `Demand`: parts 1 to 6 are `EveryRun`, part 7 is `EveryLoad`,
--- with the user's own sentence beside it. Proved as `demand` in proofs/Demand.antt.
+-- Demand 3, of the functions that C calls (docs/PROMISES.md numbers its parts), as one claim, `Demand`: parts 1 to 6 and 8 are `EveryRun`, part 7 is
+-- `EveryLoad`, with the user's own sentence beside it. Proved as `demand` in proofs/Demand.antt.
 use Prim.Native.Nat.{ℕ, _<_, _≤_}
 use mathlib.Core.Path.{_≡_}
 use mathlib.Core.Bool.{Bool, true, false}
@@ -24,7 +24,7 @@ use Rattle.machine.specs.Reference.{referenceLoaded}
 use Rattle.machine.specs.Alike.{Alike}
 use Rattle.machine.specs.Run.{machineAfter, Permitted}
 use Rattle.machine.specs.Theorem.{loaded}
-use Rattle.machine.specs.StepRule.{Calls, noCalls, callsAfter, StepRule}
+use Rattle.machine.specs.StepRule.{Past, noPast, pastAfter, StepRule}
 use Rattle.machine.specs.declared.Answer.{Answer}
 use Rattle.machine.specs.declared.Answer.the-variants.{Done, NoTask, Inputs as BadInputs, NotRunning, Differs, Halted}
 use Rattle.bias_results.specs.Results.{noState, numbered, verdictFor, answerFor}
@@ -53,11 +53,11 @@ differs NotRunning = false
 differs (Differs p) = true
 differs (Halted q p) = false
 
-pub record StepOn (image : List ℕ) (calls : Calls) (b : List ℕ) (x : Inputs) : Type 0 where
+pub record StepOn (image : List ℕ) (past : Past) (b : List ℕ) (x : Inputs) : Type 0 where
   -- the buffer is a state
   pub held : isState b ≡ true
-  -- parts 4, 5 and 6 (machine/specs/StepRule.antt), of the state that the buffer holds
-  pub parts : StepRule image calls (decoded b) x
+  -- parts 4, 5, 6 and 8 (machine/specs/StepRule.antt), of the state that the buffer holds
+  pub parts : StepRule image past (decoded b) x
   -- which are of this step: what it hands out is the answer, and the state after it is what the buffer holds then
   pub answer : stepped image b x .answer ≡ answerFor (step image (decoded b) x .request) (step image (decoded b) x .answer)
   pub state : decoded (stepped image b x .buffer) ≡ step image (decoded b) x .state
@@ -66,11 +66,11 @@ pub record StepOn (image : List ℕ) (calls : Calls) (b : List ℕ) (x : Inputs)
   -- refused, it leaves the buffer as it was
   pub stays : refused (step image (decoded b) x .answer) ≡ true → stepped image b x .buffer ≡ b
 
-pub data EveryStepOn (image : List ℕ) : Calls → List ℕ → List Inputs → Type 0 where
+pub data EveryStepOn (image : List ℕ) : Past → List ℕ → List Inputs → Type 0 where
   -- the list has come to its end
-  none : {calls : Calls} {b : List ℕ} → EveryStepOn image calls b []
-  more : {calls : Calls} {b : List ℕ} {x : Inputs} {xs : List Inputs} → StepOn image calls b x
-      → EveryStepOn image (callsAfter image (decoded b) x calls) (stepped image b x .buffer) xs → EveryStepOn image calls b (x ∷ xs)
+  none : {past : Past} {b : List ℕ} → EveryStepOn image past b []
+  more : {past : Past} {b : List ℕ} {x : Inputs} {xs : List Inputs} → StepOn image past b x
+      → EveryStepOn image (pastAfter image (decoded b) x past) (stepped image b x .buffer) xs → EveryStepOn image past b (x ∷ xs)
 
 -- ---- the theorem
 
@@ -83,8 +83,8 @@ pub record Run (image b : List ℕ) (xs : List Inputs) : Type 0 where
   -- 3. afterwards each task that runs is at a block of the image that is permitted to it, at its depth, which is at most the limit
   pub permitted : (t : ℕ) → t < taskCount → taskAt (decoded (bufferAfter image b xs)) t .status ≡ runs
       → Permitted image t (taskAt (decoded (bufferAfter image b xs)) t)
-  -- 4, 5, 6. at every step
-  pub steps : EveryStepOn image noCalls b xs
+  -- 4, 5, 6 and 8. at every step
+  pub steps : EveryStepOn image noPast b xs
   -- and the buffer afterwards is a state
   pub held : isState (bufferAfter image b xs) ≡ true
 

@@ -42,7 +42,7 @@ values-good = record {
     };
     mark = omega arith;
   };
-  notes = record { level = omega arith };
+  notes = record { level = omega arith; moved = omega arith };
 }
 
 module _ (h : Header) (g : GoodHeader h) where

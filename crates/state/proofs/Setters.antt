@@ -9,8 +9,9 @@ use mir.Val.{SFits}
 use Rattle.limits.specs.Limits.{mostLevel, mostSpeed, mostRamp}
 use Rattle.state.specs.State.{withVariable, withFlag, withOutput, axisOf, withAxis, withMark, withNotes}
 use Rattle.state.specs.State.{withPosition, withSpeed, withAcceleration, withDeceleration}
-use Rattle.state.specs.GoodState.{InRange, GoodAxis, GoodValues}
+use Rattle.state.specs.GoodState.{InRange, GoodAxis, GoodNotes, GoodValues}
 use Rattle.state.specs.declared.Axis.{Axis}
+use Rattle.state.specs.declared.Notes.{Notes}
 use Rattle.state.specs.declared.Values.{Values}
 
 -- what holds of a place and of what is stored, somewhere, holds of the place afterwards
@@ -80,8 +81,8 @@ module _ (v : Values) (g : GoodValues v) where
 
   -- ---- notes
 
-  pub notes-good : (n : ℕ) → n ≤ mostLevel → GoodValues (withNotes (record { level = n }) v)
-  notes-good n l = record { cells = g .cells; motion = g .motion; notes = record { level = l } }
+  pub notes-good : (n : Notes) → GoodNotes n → GoodValues (withNotes n v)
+  notes-good n l = record { cells = g .cells; motion = g .motion; notes = l }
 
 module _ (a : Axis) (g : GoodAxis a) where
   pub position-good : (z : ℤ) → SFits w32 z → GoodAxis (withPosition z a)

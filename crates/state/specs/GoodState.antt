@@ -61,9 +61,10 @@ pub record GoodMotion (m : Motion) : Type 0 where
   pub axis : GoodAxis (m .axis)
   pub mark : m .mark ≤ mostLevel
 
--- the preceding start level 0 or 1
+-- the preceding start level and the note of a move 0 or 1
 pub record GoodNotes (n : Notes) : Type 0 where
   pub level : n .level ≤ mostLevel
+  pub moved : n .moved ≤ mostLevel
 
 pub record GoodValues (v : Values) : Type 0 where
   pub cells : GoodCells (v .cells)

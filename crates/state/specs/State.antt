@@ -57,9 +57,9 @@ startCells = record { variables = replicate cells (pos 0); flags = replicate cel
 abbrev pub startMotion : Motion
 startMotion = record { axis = startAxis; mark = 0 }
 
--- the preceding level counts as high
+-- the preceding level counts as high; there was no move (change request 4)
 abbrev pub startNotes : Notes
-startNotes = record { level = 1 }
+startNotes = record { level = 1; moved = 0 }
 
 unfoldable pub freshValues : Values
 freshValues = record { cells = startCells; motion = startMotion; notes = startNotes }

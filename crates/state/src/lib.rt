@@ -56,9 +56,10 @@ pub struct Motion {
     pub mark: u8,
 }
 
-// Notes of the preceding BIAS step: the start input's level.
+// Notes of BIAS: the start input's level at its latest step that was not refused, and whether its latest step that was executed carried out a move.
 pub struct Notes {
     pub level: u8,
+    pub moved: u8,
 }
 
 // What commands read and write besides their task.
@@ -143,7 +144,7 @@ impl Axis {
 }
 
 impl Values {
-    // As load leaves them: all cells 0, the parameters at their least, no start mark, the start input taken as high.
+    // As load leaves them: all cells 0, the parameters at their least, no start mark, the start input taken as high, no move before.
     pub fn fresh() -> Values
         ensures { λ r. ⌜ r ≡ freshValues ⌝ }
     {
@@ -166,7 +167,7 @@ impl Values {
                 axis: axis,
                 mark: 0,
             },
-            notes: Notes { level: 1 },
+            notes: Notes { level: 1, moved: 0 },
         }
     }
 

@@ -56,6 +56,7 @@ fn values_in(b: &[u8; STATE_LENGTH]) -> Values
     let motion = motion_in(b);
     let notes = Notes {
         level: state_bytes::byte(b, state_layout::NOTES_AT),
+        moved: state_bytes::byte(b, state_layout::NOTES_AT + 1),
     };
     Values {
         cells: cells,

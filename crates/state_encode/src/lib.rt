@@ -110,6 +110,7 @@ fn put_notes(b: &mut [u8; STATE_LENGTH], notes: Notes)
     ensures { λ _. ⌜ now (b .exit) ≡ puts (now (b .entry)) notesAt (notesBytes notes) ⌝ }
 {
     state_bytes::put_byte(b, state_layout::NOTES_AT, notes.level);
+    state_bytes::put_byte(b, state_layout::NOTES_AT + 1, notes.moved);
 }
 
 // The start blocks of the PLC and of mathematics.

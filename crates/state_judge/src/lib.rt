@@ -6,6 +6,7 @@ use limits::CELLS;
 use limits::STACK_LENGTH;
 use limits::STATE_LENGTH;
 use state::Motion;
+use state::Notes;
 use state::State;
 use state::Task;
 use state::Values;
@@ -14,7 +15,8 @@ ghost use lib.Dec.{eqb};
 ghost use lib.ListN.{length};
 ghost use Rattle.limits.specs.Limits.{mostDepth, cells, stateLength};
 ghost use Rattle.state_layout.specs.Layout.{unusedLength};
-ghost use Rattle.state_layout.specs.IsState.{allOf, levelIs, entryIs, waitIs, taskIs, motionIs, valuesAre, stateIs, unusedBytesZero, frameIs, isState};
+ghost use Rattle.state_layout.specs.IsState.{allOf, levelIs, entryIs, waitIs, taskIs, motionIs, notesAre, valuesAre, stateIs};
+ghost use Rattle.state_layout.specs.IsState.{unusedBytesZero, frameIs, isState};
 
 const UNUSED_AT: usize = state_layout::UNUSED_AT as usize;
 
@@ -69,12 +71,12 @@ pub fn state_is(s: State) -> bool
             & (task_is(header, bias) & (task_is(header, plc) & task_is(header, mathematics))))
 }
 
-// Cells, motion and notes: flags and outputs 0 or 1, and the preceding start level.
+// Cells, motion and notes: flags and outputs 0 or 1, and so both notes.
 fn values_are(v: Values) -> bool
     ensures { λ r. ⌜ r ≡ valuesAre v ⌝ }
 {
     (levels_are(&v.cells.flags) & levels_are(&v.cells.outputs))
-        & (motion_is(v.motion) & (v.notes.level <= limits::MOST_LEVEL))
+        & (motion_is(v.motion) & notes_are(v.notes))
 }
 
 // Parameters in their ranges, start mark 0 or 1.
@@ -85,6 +87,13 @@ fn motion_is(m: Motion) -> bool
         & (limits::up_to(limits::MOST_RAMP, m.axis.acceleration)
             & (limits::up_to(limits::MOST_RAMP, m.axis.deceleration)
                 & (m.mark <= limits::MOST_LEVEL)))
+}
+
+// The preceding start level and the note of a move 0 or 1.
+fn notes_are(n: Notes) -> bool
+    ensures { λ r. ⌜ r ≡ notesAre n ⌝ }
+{
+    (n.level <= limits::MOST_LEVEL) & (n.moved <= limits::MOST_LEVEL)
 }
 
 fn levels_are(levels: &[u8; CELLS]) -> bool

@@ -23,7 +23,7 @@ module _ (s : State) (flags : length (s .values .cells .flags) ≡ cells) (outpu
       let layout = record-long layoutWidths (layoutNumber ∷ []) refl in
       let header = record-long headerWidths (numbersOf (s .header)) refl in
       let motion = record-long motionWidths (motionRecord (v .motion)) refl in
-      let notes = record-long notesWidths (v .notes .level ∷ []) refl in
+      let notes = record-long notesWidths (v .notes .level ∷ v .notes .moved ∷ []) refl in
       let starts = record-long startWidths (taskAt s plc .start ∷ taskAt s mathematics .start ∷ []) refl in
       let t0 = task-long (taskAt s bias) in
       let t1 = task-long (taskAt s plc) in

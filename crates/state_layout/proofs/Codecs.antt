@@ -33,7 +33,8 @@ use Rattle.state.specs.declared.Task.{Task}
 use Rattle.state.specs.declared.Motion.{Motion}
 use Rattle.state.specs.declared.Notes.{Notes}
 use Rattle.state_layout.specs.Codecs.{variablesLength, variableBytes, variablesIn, levelsLength, levelsIn, headerWidths, headerBytes, headerIn}
-use Rattle.state_layout.specs.Codecs.{motionWidths, motionRecord, motionBytes, motionFrom, motionIn, notesWidths, notesBytes, notesIn, startWidths}
+use Rattle.state_layout.specs.Codecs.{motionWidths, motionRecord, motionBytes, motionFrom, motionIn, notesWidths, notesBytes, notesFrom, notesIn}
+use Rattle.state_layout.specs.Codecs.{startWidths}
 use Rattle.state_layout.specs.Codecs.{startBytes, startsIn}
 use Rattle.state_layout.specs.Codecs.{stackBytes, stackIn, taskLengths, taskLength, taskPart, taskParts, taskBytes, taskIn}
 use Rattle.state_layout.proofs.Bounds.{TaskFits}
@@ -135,7 +136,8 @@ motion-has b at bytes =
 pub notes-back : (l : List ℕ) (at : ℕ) (n : Notes) → GoodNotes n → Has l at (notesBytes n) → notesIn l at ≡ n
 notes-back l at n g x =
     let h = g .level in
-    ap (λ (ns : List ℕ). record { level = getD ns 0 0 }) (record-back notesWidths (n .level ∷ []) l at (omega arith, refl) x)
+    let k = g .moved in
+    ap notesFrom (record-back notesWidths (n .level ∷ n .moved ∷ []) l at (omega arith, (omega arith, refl)) x)
 
 -- ---- the start blocks
 

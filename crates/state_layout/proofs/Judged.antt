@@ -145,7 +145,12 @@ motion-judged m g =
 
 values-judged : (v : Values) → GoodValues v → valuesAre v ≡ true
 values-judged v g =
-    rw (cells-judged (v .cells) (g .cells), motion-judged (v .motion) (g .motion), le-leb (v .notes .level) mostLevel (g .notes .level))
+    rw (
+      cells-judged (v .cells) (g .cells),
+      motion-judged (v .motion) (g .motion),
+      le-leb (v .notes .level) mostLevel (g .notes .level),
+      le-leb (v .notes .moved) mostLevel (g .notes .moved),
+    )
 
 -- ---- the state
 
@@ -193,10 +198,11 @@ judged-values s x e =
     let v = s .values in
     let r1 = both (cellsAre (v .cells)) _ e in
     let r2 = both (motionIs (v .motion)) (notesAre (v .notes)) (r1 .1) in
+    let r3 = both (leb (v .notes .level) mostLevel) (leb (v .notes .moved) mostLevel) (r2 .1) in
     record {
       cells = judged-cells s x (r1 .0);
       motion = judged-motion (v .motion) (x .position) (r2 .0);
-      notes = record { level = leb-true (v .notes .level) mostLevel (r2 .1) };
+      notes = record { level = leb-true (v .notes .level) mostLevel (r3 .0); moved = leb-true (v .notes .moved) mostLevel (r3 .1) };
     }
 
 pub good-judged : (s : State) → GoodState s → stateIs s ≡ true

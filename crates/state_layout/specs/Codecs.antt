@@ -43,7 +43,7 @@ levelsIn s at = table cells (λ (k : ℕ). getD s (at + k) 0)
 -- release with another layout is none. The two layouts before the third had no number: they had the header here, whose first byte is the format, 1.
 
 abbrev pub layoutNumber : ℕ
-layoutNumber = 3
+layoutNumber = 4
 
 abbrev pub layoutWidths : List ℕ
 layoutWidths = 1 ∷ []
@@ -82,16 +82,19 @@ motionFrom ns = record { axis = axisFrom ns; mark = getD ns 4 0 }
 abbrev pub motionIn : List ℕ → ℕ → Motion
 motionIn s at = motionFrom (recordIn motionWidths s at)
 
--- ---- the notes of the preceding BIAS step: the start input's level
+-- ---- the notes of BIAS: the preceding start level, and the note of a move
 
 abbrev pub notesWidths : List ℕ
-notesWidths = 1 ∷ []
+notesWidths = 1 ∷ 1 ∷ []
 
 abbrev pub notesBytes : Notes → List ℕ
-notesBytes n = recordBytes notesWidths (n .level ∷ [])
+notesBytes n = recordBytes notesWidths (n .level ∷ n .moved ∷ [])
+
+abbrev pub notesFrom : List ℕ → Notes
+notesFrom ns = record { level = getD ns 0 0; moved = getD ns 1 0 }
 
 abbrev pub notesIn : List ℕ → ℕ → Notes
-notesIn s at = record { level = getD (recordIn notesWidths s at) 0 0 }
+notesIn s at = notesFrom (recordIn notesWidths s at)
 
 -- ---- the start blocks of the PLC and of mathematics; BIAS's is the header's start
 

@@ -49,7 +49,7 @@ motionIs m =
     upTo mostSpeed (m .axis .speed) && (upTo mostRamp (m .axis .acceleration) && (upTo mostRamp (m .axis .deceleration) && leb (m .mark) mostLevel))
 
 abbrev pub notesAre : Notes → Bool
-notesAre n = leb (n .level) mostLevel
+notesAre n = leb (n .level) mostLevel && leb (n .moved) mostLevel
 
 abbrev pub valuesAre : Values → Bool
 valuesAre v = cellsAre (v .cells) && (motionIs (v .motion) && notesAre (v .notes))

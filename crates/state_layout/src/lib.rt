@@ -2,7 +2,7 @@
 // which state a buffer holds, which bytes a state has, and which buffers are no state (16); crates state_decode, state_encode and state_judge do it.
 
 // Raised by each release that moves a byte or gives one another meaning, an unused one included: 16 refuses a state with another.
-pub const LAYOUT_NUMBER: u8 = 3;
+pub const LAYOUT_NUMBER: u8 = 4;
 
 pub const VARIABLES_AT: u16 = 0;
 
@@ -18,11 +18,11 @@ pub const HEADER_AT: u16 = LAYOUT_AT + 1;
 // Position, speed, acceleration, deceleration, start mark.
 pub const MOTION_AT: u16 = HEADER_AT + 8;
 
-// The notes of the preceding BIAS step.
+// The notes of BIAS: the preceding start level, the note of a move.
 pub const NOTES_AT: u16 = MOTION_AT + 11;
 
 // The start blocks of the PLC and of mathematics.
-pub const STARTS_AT: u16 = NOTES_AT + 1;
+pub const STARTS_AT: u16 = NOTES_AT + 2;
 
 pub const TASKS_AT: u16 = STARTS_AT + 4;
 

@@ -73,7 +73,7 @@ module _ (a b : List ℕ) where
       split (motionAt + 4) 2 startsAt _ t (λ t.
       split (motionAt + 6) 2 startsAt _ t (λ t.
       split (motionAt + 8) 2 startsAt _ t (λ t.
-      split (motionAt + 10) 1 startsAt _ t (λ t. same-equal notesAt 1 t)))))
+      split (motionAt + 10) 1 startsAt _ t (λ t. split notesAt 1 startsAt _ t (λ t. same-equal (notesAt + 1) 1 t))))))
 
   pub starts-equal : sameStarts a b ≡ true → Equal startsAt tasksAt
   unfolding sameStarts
@@ -104,7 +104,8 @@ module _ (a b : List ℕ) where
       (and (equal-cells flagsAt 1 cells (λ i l h. e i (omega arith) (omega arith)))
       (and (equal-cells outputsAt 1 cells (λ i l h. e i (omega arith) (omega arith)))
       (and (and (one motionAt 4 refl) (and (one (motionAt + 4) 2 refl)
-      (and (one (motionAt + 6) 2 refl) (and (one (motionAt + 8) 2 refl) (and (one (motionAt + 10) 1 refl) (one notesAt 1 refl))))))
+      (and (one (motionAt + 6) 2 refl) (and (one (motionAt + 8) 2 refl) (and (one (motionAt + 10) 1 refl)
+      (and (one notesAt 1 refl) (one (notesAt + 1) 1 refl)))))))
       (and (and (one startsAt 2 refl) (one (startsAt + 2) 2 refl))
       (and (one (taskPlace bias) taskLength refl) (and (one (taskPlace plc) taskLength refl) (one (taskPlace mathematics) taskLength refl)))))))
     where

@@ -18,11 +18,11 @@ same a b at n = eachBelow (λ (k : ℕ). eqb (getD a (at + k) 0) (getD b (at + k
 abbrev pub sameCells : List ℕ → List ℕ → ℕ → ℕ → ℕ → Bool
 sameCells a b at n count = eachBelow (λ (k : ℕ). same a b (at + n * k) n) count
 
--- position, speed, acceleration, deceleration, start mark, noted level
+-- position, speed, acceleration, deceleration, start mark, noted level, note of a move
 unfoldable pub sameAxis : List ℕ → List ℕ → Bool
 sameAxis a b =
     same a b motionAt 4 && (same a b (motionAt + 4) 2
-    && (same a b (motionAt + 6) 2 && (same a b (motionAt + 8) 2 && (same a b (motionAt + 10) 1 && same a b notesAt 1))))
+    && (same a b (motionAt + 6) 2 && (same a b (motionAt + 8) 2 && (same a b (motionAt + 10) 1 && (same a b notesAt 1 && same a b (notesAt + 1) 1)))))
 
 -- the start blocks of the PLC and of mathematics
 unfoldable pub sameStarts : List ℕ → List ℕ → Bool

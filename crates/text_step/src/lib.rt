@@ -170,7 +170,7 @@ fn show_cell(
     false
 }
 
-// The parameters of the axis, the start mark and the noted level, as far as they changed.
+// The parameters of the axis, the start mark and the notes of BIAS, as far as they changed.
 fn show_axis(a: &[u8; STATE_LENGTH], b: &[u8; STATE_LENGTH], nothing: bool) -> bool
     ensures { λ s. ⌜ s ≡ nothing && sameAxis (now (a .entry)) (now (b .entry)) ⌝ }
 {
@@ -186,7 +186,8 @@ fn show_axis(a: &[u8; STATE_LENGTH], b: &[u8; STATE_LENGTH], nothing: bool) -> b
         acceleration,
     );
     let mark = show_part(a, b, state_layout::MOTION_AT + 10, 1, b"mark", deceleration);
-    show_part(a, b, state_layout::NOTES_AT, 1, b"level", mark)
+    let level = show_part(a, b, state_layout::NOTES_AT, 1, b"level", mark);
+    show_part(a, b, state_layout::NOTES_AT + 1, 1, b"moved", level)
 }
 
 // The start blocks of the PLC and of mathematics, as far as they changed.

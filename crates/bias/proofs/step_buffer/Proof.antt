@@ -19,7 +19,7 @@ returns c =
     let a = c .before .before .before .before .before .before .before .before .before .before .before .args in
     let u = frame-of (now (a .state)) _ (c .before .before .before .before .before .before .copy-in .ensures .0) _ (c .before .before .frame-is .ensures)
     ∙ not-true _ (c .before .if1 .taken) in
-    step-refused _ _ _ _ (no-state (now (a .image)) (now (a .state)) (inputsOf (a .task) (now (a .inputs)) (a .start) (a .reached))
+    step-refused _ _ _ _ (no-state (now (a .image)) (now (a .state)) (inputsOf (a .task) (now (a .inputs)) (a .start) (a .ramp-ended) (a .in-window))
     (frame-not (now (a .state)) (c .before .before .before .before .before .before .before .before .before .before .before .pre) u)) (c .no-state .ensures)
 
 returns-2 : tie.Need-returns-2
@@ -29,7 +29,7 @@ returns-2 c =
     let u = frame-of (now (a .state)) _ same _ (c .before .before .before .before .frame-is .ensures) ∙ not-false _ (c .before .before .before .if1 .left) in
     let s = state-of (now (a .state)) _ same _ (c .before .before .before .before .before .before .decode .ensures) _ (c .before .before .state-is .ensures)
     ∙ not-true _ (c .before .if2 .taken) in
-    step-refused _ _ _ _ (no-state (now (a .image)) (now (a .state)) (inputsOf (a .task) (now (a .inputs)) (a .start) (a .reached))
+    step-refused _ _ _ _ (no-state (now (a .image)) (now (a .state)) (inputsOf (a .task) (now (a .inputs)) (a .start) (a .ramp-ended) (a .in-window))
     (judged-no-state (now (a .state)) (c .before .before .before .before .before .before .before .before .before .before .before .before .before .pre) u s))
     (c .no-state2 .ensures)
 
@@ -51,7 +51,7 @@ step-state-requires c κs =
 returns-3 : tie.Need-returns-3
 returns-3 c =
     let a = c .before .before .before .before .before .before .before .before .before .before .before .before .before .before .before .before .args in
-    let x = inputsOf (a .task) (now (a .inputs)) (a .start) (a .reached) in
+    let x = inputsOf (a .task) (now (a .inputs)) (a .start) (a .ramp-ended) (a .in-window) in
     let same = c .before .before .before .before .before .before .before .before .before .before .before .copy-in .ensures .0 in
     let u = frame-of (now (a .state)) _ same _ (c .before .before .before .before .before .before .before .frame-is .ensures)
     ∙ not-false _ (c .before .before .before .before .before .before .if1 .left) in

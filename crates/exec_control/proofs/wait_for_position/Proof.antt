@@ -1,7 +1,6 @@
--- `wait_for_position` meets its contract, by whether the position is reached.
+-- `wait_for_position` meets its contract, by whether the wait is over.
 use mathlib.Core.Path.{sym, ap, _∙_}
-use mathlib.Core.Bool.{Bool, not, cond}
-use borrow.Author.Tests.{eq-eqb, ne-eqb}
+use mathlib.Core.Bool.{Bool, cond}
 use Rattle.machine.specs.Effect.{flows}
 use Rattle.machine.specs.declared.Outcome.the-variants.{GoOn, Stay}
 use Rattle.exec_control.proofs.wait_for_position.Statement.{statement}
@@ -13,9 +12,9 @@ wait-for-position-spec =
     (tie.spec
     (λ c κs. tt)
     (λ c.
-    let a = c .before .before .before .args in
-    c .flows .ensures ∙ ap (λ (t : Bool). flows (a .v) (cond (not t) GoOn (Stay 0 0))) (sym (eq-eqb (a .context .reached) 0 (c .before .if1 .taken))))
+    let a = c .before .before .before .before .before .args in
+    c .flows .ensures ∙ ap (λ (t : Bool). flows (a .v) (cond t GoOn (Stay 0 0))) (sym (c .before .if1 .taken)))
     (λ c κs. tt)
     (λ c.
-    let a = c .before .before .before .args in
-    c .flows2 .ensures ∙ ap (λ (t : Bool). flows (a .v) (cond (not t) GoOn (Stay 0 0))) (sym (ne-eqb (a .context .reached) 0 (c .before .if1 .left)))))
+    let a = c .before .before .before .before .before .args in
+    c .flows2 .ensures ∙ ap (λ (t : Bool). flows (a .v) (cond t GoOn (Stay 0 0))) (sym (c .before .if1 .left))))

@@ -18,20 +18,21 @@ carry-out-spec =
     (λ c κs. tt)
     (λ c κs. tt)
     (λ c κs. tt)
-    (λ c κs. c .before .before .before .before .before .before .before .before .pre .1 .1 .0)
+    (λ c κs. tt)
+    (λ c κs. c .before .before .before .before .before .before .before .before .before .pre .1 .1 .0)
     (λ c κs.
-    let st = c .before .before .before .before .before .before .before .before .before in
+    let st = c .before .before .before .before .before .before .before .before .before .before in
     let a = st .args in
-    let x = inputsOf (a .t) (now (a .inputs)) (a .start) (a .reached) in
-    let f = same-effect (a .s) x (a .task) _ _ _ _ (c .before .before .level .ensures) (c .before .level2 .ensures)
-    (c .before .before .before .before .before .before .command-here .ensures) in (
+    let x = inputsOf (a .t) (now (a .inputs)) (a .start) (a .ramp-ended) (a .in-window) in
+    let f = same-effect (a .s) x (a .task) _ _ _ _ _ (c .before .before .before .level .ensures) (c .before .before .level2 .ensures)
+    (c .before .level3 .ensures) (c .before .before .before .before .before .before .before .command-here .ensures) in (
       st .pre .0,
       subst (λ (e : Effect). DepthAllows (a .task .depth) (e .outcome)) (sym (c .perform .ensures ∙ f))
           (deep (now (a .blocks)) (termsHeld (a .s)) (a .t) (a .task) (st .pre .1 .1 .1) (st .pre .1 .0) _ _ _),
     ))
     (λ c.
-    let a = c .before .before .before .before .before .before .before .before .before .before .args in
-    let x = inputsOf (a .t) (now (a .inputs)) (a .start) (a .reached) in
-    let f = same-effect (a .s) x (a .task) _ _ _ _ (c .before .before .before .level .ensures) (c .before .before .level2 .ensures)
-    (c .before .before .before .before .before .before .before .command-here .ensures) in
+    let a = c .before .before .before .before .before .before .before .before .before .before .before .args in
+    let x = inputsOf (a .t) (now (a .inputs)) (a .start) (a .ramp-ended) (a .in-window) in
+    let f = same-effect (a .s) x (a .task) _ _ _ _ _ (c .before .before .before .before .level .ensures) (c .before .before .before .level2 .ensures)
+    (c .before .before .level3 .ensures) (c .before .before .before .before .before .before .before .before .command-here .ensures) in
     c .performed .ensures ∙ ap (performed (a .s) x (a .task)) (c .before .perform .ensures ∙ f)))

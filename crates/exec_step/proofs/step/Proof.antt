@@ -14,15 +14,16 @@ step-spec =
     (λ c κs. tt)
     (λ c.
     let a = c .before .before .before .before .args in
-    c .refuse .ensures ∙ no-task (now (a .image)) (a .s) (inputsOf (a .task) (now (a .inputs)) (a .start) (a .reached)) (c .before .if1 .taken))
+    let x = inputsOf (a .task) (now (a .inputs)) (a .start) (a .ramp-ended) (a .in-window) in
+    c .refuse .ensures ∙ no-task (now (a .image)) (a .s) x (c .before .if1 .taken))
     (λ c κs. tt)
     (λ c.
     let a = c .before .before .before .before .before .args in
-    c .refuse2 .ensures ∙ bad-inputs (now (a .image)) (a .s) (inputsOf (a .task) (now (a .inputs)) (a .start) (a .reached)) (c .before .before .if1 .left)
-    (c .before .if2 .taken))
+    let x = inputsOf (a .task) (now (a .inputs)) (a .start) (a .ramp-ended) (a .in-window) in
+    c .refuse2 .ensures ∙ bad-inputs (now (a .image)) (a .s) x (c .before .before .if1 .left) (c .before .if2 .taken))
     (λ c. search needs)
     (λ c κs. (c .before .before .before .before .pre, c .before .if1 .left))
     (λ c.
     let a = c .before .before .before .before .before .args in
-    c .task-step .ensures ∙ of-task (now (a .image)) (a .s) (inputsOf (a .task) (now (a .inputs)) (a .start) (a .reached)) (c .before .before .if1 .left)
-    (c .before .if2 .left)))
+    let x = inputsOf (a .task) (now (a .inputs)) (a .start) (a .ramp-ended) (a .in-window) in
+    c .task-step .ensures ∙ of-task (now (a .image)) (a .s) x (c .before .before .if1 .left) (c .before .if2 .left)))

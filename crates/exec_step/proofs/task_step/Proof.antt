@@ -23,8 +23,8 @@ task-step-spec =
     (λ c κs. tt)
     (λ c.
     let a = c .before .before .before .before .before .before .before .args in
-    c .refuse .ensures ∙ not-running (now (a .image)) (a .s) (inputsOf (a .t) (now (a .inputs)) (a .start) (a .reached)) (taskAt (a .s) (a .t))
-    (c .before .if1 .taken))
+    let x = inputsOf (a .t) (now (a .inputs)) (a .start) (a .ramp-ended) (a .in-window) in
+    c .refuse .ensures ∙ not-running (now (a .image)) (a .s) x (taskAt (a .s) (a .t)) (c .before .if1 .taken))
     (λ c κs. tt)
     (λ c κs. c .read .ensures)
     (λ c κs. tt)
@@ -32,7 +32,7 @@ task-step-spec =
     (λ c κs. tt)
     (λ c.
     let a = c .before .before .before .before .before .before .before .before .before .before .before .before .args in
-    let x = inputsOf (a .t) (now (a .inputs)) (a .start) (a .reached) in
+    let x = inputsOf (a .t) (now (a .inputs)) (a .start) (a .ramp-ended) (a .in-window) in
     let f = fits-of (now (a .image)) (a .s) x _ _ (taskAt (a .s) (a .t)) (c .before .before .before .before .before .read .ensures)
     (c .before .before .before .before .part-of .ensures) in
     c .refuse2 .ensures ∙ ap (λ (p : Point). refuse (a .s) (Differs p)) (c .before .point-of .ensures)
@@ -42,7 +42,7 @@ task-step-spec =
     let st = c .before .before .before .before .before .before .before .before .before .before in
     let a = st .args in
     let h = ready (a .s) (st .pre .0) (a .t) (st .pre .1) in
-    let x = inputsOf (a .t) (now (a .inputs)) (a .start) (a .reached) in (
+    let x = inputsOf (a .t) (now (a .inputs)) (a .start) (a .ramp-ended) (a .in-window) in (
       h .block,
       (
         h .depth,
@@ -55,7 +55,7 @@ task-step-spec =
     ))
     (λ c.
     let a = c .before .before .before .before .before .before .before .before .before .before .before .args in
-    let x = inputsOf (a .t) (now (a .inputs)) (a .start) (a .reached) in
+    let x = inputsOf (a .t) (now (a .inputs)) (a .start) (a .ramp-ended) (a .in-window) in
     let f = fits-of (now (a .image)) (a .s) x _ _ (taskAt (a .s) (a .t)) (c .before .before .before .before .read .ensures)
     (c .before .before .before .part-of .ensures) in
     c .carry-out .ensures ∙ ap (λ (bs : List ℕ). carriedOut bs (a .s) x (taskAt (a .s) (a .t))) (c .before .before .before .part-of .ensures)

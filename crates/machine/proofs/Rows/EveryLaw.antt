@@ -22,9 +22,8 @@ use Rattle.state.proofs.Setters.{flag-good, output-good, good-axis, mark-good, 
 use Rattle.state.specs.declared.Values.{Values}
 use Rattle.machine.specs.Inputs.{inputAt}
 use Rattle.machine.specs.declared.Context.{Context}
-use Rattle.machine.specs.Effect.{CommandEffect, effectRow, effectOf, compares, flag, output, bit, isSet, variable, within, natural, waits, timeOf}
-use Rattle.machine.specs.Effect.{flagNumber}
-use Rattle.machine.specs.Effect.{effectRows}
+use Rattle.machine.specs.Effect.{CommandEffect, effectRow, effectOf, arrived, compares, flag, output, bit, isSet, variable, within, natural, waits}
+use Rattle.machine.specs.Effect.{timeOf, flagNumber, effectRows}
 use Rattle.machine.specs.StepRule.{Reason}
 use Rattle.machine.specs.Allows.{Allows}
 use Rattle.machine.specs.declared.Request.the-variants.{MoveTo, MoveBy, Forward, Backward}
@@ -33,7 +32,7 @@ use Rattle.logic.proofs.Lists.{All, end, _&_}
 use Rattle.machine.proofs.Rows.EachRow.{Of, effect-of}
 use Rattle.machine.proofs.Rows.InRange.{bit-level, level-level, up-to, small-fits}
 use Rattle.machine.proofs.Rows.Waits.{rounded}
-use Rattle.machine.proofs.Rows.Forms.{Ranged, Lawful, Law, simply, either, flows-law, effect-law, sets-law, axis-law, assigns-law, jump-law, moves-law}
+use Rattle.machine.proofs.Rows.Forms.{Ranged, Lawful, Law, simply, either, flows-law, stop-law, sets-law, axis-law, assigns-law, jump-law, moves-law}
 use Rattle.machine.proofs.Rows.Forms.{stays-law, waits-lawful, parameter-law, divides-law, waits-variable-law}
 
 -- what is shown of an effect, at a command of its code
@@ -72,13 +71,13 @@ not-zero z e i = clash (sym e ∙ ap (λ (n : ℤ). not (eqZ n (pos 0))) i)
 rows-keep : (inputs : List ℕ) → All (Of Always) (effectRows inputs)
 unfolding rowOf rowIn rows
 rows-keep inputs =
-    at 0x00 _ (λ c e g v. moves-law 0x00 c g v MoveTo Allows.over Allows.stay) &
-    at 0x01 _ (λ c e g v. moves-law 0x01 c g v MoveBy Allows.over Allows.stay) &
-    at 0x03 _ (λ c e g v. moves-law 0x03 c g v Forward Allows.over Allows.stay) &
-    at 0x04 _ (λ c e g v. moves-law 0x04 c g v Backward Allows.over Allows.stay) &
-    at 0x0E _ (λ c e g v. sets-law 0x0E c g v (withMark 1 v) Allows.on (λ _ _ d. mark-good v d 1 (omega arith))) &
-    at 0x0F _ (λ c e g v. effect-law 0x0F c g v v _ Allows.on (λ _ _ d. d)) &
-    at 0x1F _ (λ c e g v. effect-law 0x1F c g v v _ Allows.on (λ _ _ d. d)) &
+    at 0x00 _ (λ c e g v. moves-law 0x00 c g v MoveTo refl Allows.over Allows.stay) &
+    at 0x01 _ (λ c e g v. moves-law 0x01 c g v MoveBy refl Allows.over Allows.stay) &
+    at 0x03 _ (λ c e g v. moves-law 0x03 c g v Forward refl Allows.over Allows.stay) &
+    at 0x04 _ (λ c e g v. moves-law 0x04 c g v Backward refl Allows.over Allows.stay) &
+    at 0x0E _ (λ c e g v. sets-law 0x0E c g v (withMark 1 v) refl Allows.on (λ _ _ d. mark-good v d 1 (omega arith))) &
+    at 0x0F _ (λ c e g v. stop-law 0x0F c g v (c .x) (axisOf firstAxis v .deceleration) Allows.on) &
+    at 0x1F _ (λ c e g v. stop-law 0x1F c g v (c .x) (c .word) Allows.on) &
     at 0x20 _ (λ c e g v. axis-law 0x20 c g v (withPosition (c .value)) Allows.on (λ _ f d. position-good _ (good-axis v d firstAxis) (c .value) (f .value))) &
     at 0x21 _ (λ c e g v. axis-law 0x21 c g v (withSpeed (c .word)) Allows.on
     (λ n f d. speed-good _ (good-axis v d firstAxis) (c .word) (up-to mostSpeed (c .word) (ranges-at 0x21 n c e (f .ranges))))) &
@@ -98,41 +97,41 @@ rows-keep inputs =
     (λ _ _ d. small-fits mostRamp _ (omega arith) (good-axis v d firstAxis .acceleration))) &
     at 0x43 _ (λ c e g v. assigns-law 0x43 c g v (pos (axisOf firstAxis v .deceleration)) Allows.on
     (λ _ _ d. small-fits mostRamp _ (omega arith) (good-axis v d firstAxis .deceleration))) &
-    at 0x50 _ (λ c e g v. sets-law 0x50 c g v v Allows.on (λ _ _ d. d)) &
+    at 0x50 _ (λ c e g v. sets-law 0x50 c g v v refl Allows.on (λ _ _ d. d)) &
     at 0x51 _ (λ c e g v. flows-law 0x51 c g v (cond (eqb (c .x) 0) Restart End) (ends c g v)) &
     at 0x52 _ (λ c e g v. flows-law 0x52 c g v (Call (c .word)) (simply 0x52 c g v (Call (c .word)) refl Allows.call)) &
     at 0x53 _ (λ c e g v. flows-law 0x53 c g v Return (simply 0x53 c g v Return refl Allows.return)) &
     at 0x54 _ (λ c e g v. flows-law 0x54 c g v (Start plc (c .word)) (simply 0x54 c g v (Start plc (c .word)) refl Allows.start)) &
     at 0x55 _ (λ c e g v. flows-law 0x55 c g v (Jump (c .word)) (simply 0x55 c g v (Jump (c .word)) refl Allows.jump)) &
     at 0x57 _ (λ c e g v. flows-law 0x57 c g v (Start bias (c .word)) (simply 0x57 c g v (Start bias (c .word)) refl Allows.start)) &
-    at 0x58 _ (λ c e g v. stays-law 0x58 c g v (isSet (g .reached)) Allows.over Allows.stay) &
+    at 0x58 _ (λ c e g v. stays-law 0x58 c g v (arrived g v) Allows.over Allows.stay) &
     at 0x59 _ (λ c e g v. flows-law 0x59 c g v (waits (2 * c .word) g)
     (waits-lawful 0x59 c g v (2 * c .word) refl Allows.over (λ _ _. Allows.stay) (λ _ _ f. twice (c .word) (f .word)))) &
     at 0x5A _ (λ c e g v. waits-variable-law 0x5A c g v refl Allows.over (λ _ _. Allows.stay) Allows.refuse (Reason.waiting e)
     (λ _. short (g .drive .model) (variable v (c .x)))) &
-    at 0x60 _ (λ c e g v. sets-law 0x60 c g v (withFlag (c .x) (c .y) v) Allows.on
+    at 0x60 _ (λ c e g v. sets-law 0x60 c g v (withFlag (c .x) (c .y) v) refl Allows.on
     (λ n f d. flag-good v d (c .x) (c .y) (leb-true (c .y) mostLevel (ranges-at 0x60 n c e (f .ranges))))) &
     at 0x61 _ (λ c e g v. jump-law 0x61 c g v (compares (c .y) (flag v (c .x)) (c .z)) (c .word) Allows.branch Allows.pass) &
-    at 0x62 _ (λ c e g v. sets-law 0x62 c g v (withFlag (c .x) (flag v (c .y)) v) Allows.on
+    at 0x62 _ (λ c e g v. sets-law 0x62 c g v (withFlag (c .x) (flag v (c .y)) v) refl Allows.on
     (λ _ _ d. flag-good v d (c .x) (flag v (c .y)) (d .cells .flag (c .y)))) &
-    at 0x63 _ (λ c e g v. sets-law 0x63 c g v (withFlag (c .x) (inputAt inputs (c .y)) v) Allows.on
+    at 0x63 _ (λ c e g v. sets-law 0x63 c g v (withFlag (c .x) (inputAt inputs (c .y)) v) refl Allows.on
     (λ _ _ d. flag-good v d (c .x) (inputAt inputs (c .y)) (level-level (getD inputs (c .y) 0)))) &
-    at 0x64 _ (λ c e g v. sets-law 0x64 c g v (withFlag (c .x) (output v (c .y)) v) Allows.on
+    at 0x64 _ (λ c e g v. sets-law 0x64 c g v (withFlag (c .x) (output v (c .y)) v) refl Allows.on
     (λ _ _ d. flag-good v d (c .x) (output v (c .y)) (d .cells .output (c .y)))) &
-    at 0x65 _ (λ c e g v. sets-law 0x65 c g v (withFlag (c .x) (bit (isSet (flag v (c .y)) && isSet (flag v (c .z)))) v) Allows.on
+    at 0x65 _ (λ c e g v. sets-law 0x65 c g v (withFlag (c .x) (bit (isSet (flag v (c .y)) && isSet (flag v (c .z)))) v) refl Allows.on
     (λ _ _ d. flag-good v d (c .x) (bit (isSet (flag v (c .y)) && isSet (flag v (c .z)))) (bit-level (isSet (flag v (c .y)) && isSet (flag v (c .z)))))) &
-    at 0x66 _ (λ c e g v. sets-law 0x66 c g v (withFlag (c .x) (bit (isSet (flag v (c .y)) || isSet (flag v (c .z)))) v) Allows.on
+    at 0x66 _ (λ c e g v. sets-law 0x66 c g v (withFlag (c .x) (bit (isSet (flag v (c .y)) || isSet (flag v (c .z)))) v) refl Allows.on
     (λ _ _ d. flag-good v d (c .x) (bit (isSet (flag v (c .y)) || isSet (flag v (c .z)))) (bit-level (isSet (flag v (c .y)) || isSet (flag v (c .z)))))) &
-    at 0x67 _ (λ c e g v. sets-law 0x67 c g v (withFlag (c .x) (bit (not (eqb (flag v (c .y)) (flag v (c .z))))) v) Allows.on
+    at 0x67 _ (λ c e g v. sets-law 0x67 c g v (withFlag (c .x) (bit (not (eqb (flag v (c .y)) (flag v (c .z))))) v) refl Allows.on
     (λ _ _ d. flag-good v d (c .x) (bit (not (eqb (flag v (c .y)) (flag v (c .z))))) (bit-level (not (eqb (flag v (c .y)) (flag v (c .z))))))) &
-    at 0x68 _ (λ c e g v. sets-law 0x68 c g v (withFlag (c .x) (bit (not (isSet (flag v (c .y))))) v) Allows.on
+    at 0x68 _ (λ c e g v. sets-law 0x68 c g v (withFlag (c .x) (bit (not (isSet (flag v (c .y))))) v) refl Allows.on
     (λ _ _ d. flag-good v d (c .x) (bit (not (isSet (flag v (c .y))))) (bit-level (not (isSet (flag v (c .y))))))) &
     at 0x6E _ (λ c e g v. jump-law 0x6E c g v (compares (c .z) (bit (bitAt w32 (c .y) (variable v (c .x)))) 0) (c .word) Allows.branch Allows.pass) &
     at 0x70 _ (λ c e g v. jump-law 0x70 c g v (compares (c .y) (inputAt inputs (c .x)) (c .z)) (c .word) Allows.branch Allows.pass) &
     at 0x71 _ (λ c e g v. jump-law 0x71 c g v (compares (c .y) (output v (c .x)) (c .z)) (c .word) Allows.branch Allows.pass) &
-    at 0x72 _ (λ c e g v. sets-law 0x72 c g v (withOutput (c .x) (c .y) v) Allows.on
+    at 0x72 _ (λ c e g v. sets-law 0x72 c g v (withOutput (c .x) (c .y) v) refl Allows.on
     (λ n f d. output-good v d (c .x) (c .y) (leb-true (c .y) mostLevel (ranges-at 0x72 n c e (f .ranges))))) &
-    at 0x73 _ (λ c e g v. sets-law 0x73 c g v (withOutput (c .x) (flag v (c .y)) v) Allows.on
+    at 0x73 _ (λ c e g v. sets-law 0x73 c g v (withOutput (c .x) (flag v (c .y)) v) refl Allows.on
     (λ _ _ d. output-good v d (c .x) (flag v (c .y)) (d .cells .flag (c .y)))) &
     at 0x80 _ (λ c e g v. assigns-law 0x80 c g v (c .value) Allows.on (λ _ f _. f .value)) &
     at 0x81 _ (λ c e g v. jump-law 0x81 c g v (holds (c .y) (variable v (c .x)) (c .value)) (c .word) Allows.branch Allows.pass) &

@@ -20,7 +20,7 @@ use Rattle.command_table.specs.Rows.{rowOf}
 use Rattle.command_operands.specs.declared.Command.{Command}
 use Rattle.command_judge.specs.BlockFault.{inRange}
 use Rattle.walk_flow.specs.Flow.{flowBy}
-use Rattle.state.specs.State.{firstAxis, axisOf, withAxis, withMark}
+use Rattle.state.specs.State.{firstAxis, axisOf, withVariable, withAxis, withMark}
 use Rattle.state.specs.Wait.{due}
 use Rattle.state.specs.GoodState.{GoodWait, GoodAxis, GoodValues, InRange}
 use Rattle.state.specs.declared.Axis.{Axis}
@@ -28,14 +28,14 @@ use Rattle.state.specs.declared.Values.{Values}
 use Rattle.machine.specs.declared.Context.{Context}
 use Rattle.machine.specs.Effect.{effect, sets, flows, jumpIf, halts, assigns, isSet, within, natural, variable, started, moves, waits, waitsVariable}
 use Rattle.machine.specs.Effect.{parameter, divides, timeOf}
-use Rattle.machine.specs.Engine.{isWait}
-use Rattle.machine.specs.StepRule.{Reason}
+use Rattle.machine.specs.Engine.{isWait, isMove, isHalt}
+use Rattle.machine.specs.StepRule.{Reason, isMoveCode}
 use Rattle.machine.specs.Allows.{Allows}
 use Rattle.machine.specs.declared.Cause.{Cause}
 use Rattle.machine.specs.declared.Cause.the-variants.{ZeroDivisor, BadContent}
 use Rattle.machine.specs.declared.Effect.{Effect}
 use Rattle.machine.specs.declared.Request.{Request}
-use Rattle.machine.specs.declared.Request.the-variants.{None}
+use Rattle.machine.specs.declared.Request.the-variants.{None, Stop}
 use Rattle.machine.specs.declared.Outcome.{Outcome}
 use Rattle.machine.specs.declared.Outcome.the-variants.{GoOn, Stay, Jump, Call, Return, Start, Restart, End, Halt}
 use Rattle.machine.proofs.Rows.Waits.{begins, goes-on}
@@ -80,18 +80,6 @@ Halting c v time (Start u a) = Unit {0}
 Halting c v time Restart = Unit {0}
 Halting c v time End = Unit {0}
 
--- a halt, which changes no values and asks for no motion
-abbrev pub isHalt : Outcome → Bool
-isHalt (Halt q) = true
-isHalt GoOn = false
-isHalt (Stay t k) = false
-isHalt (Jump a) = false
-isHalt (Call a) = false
-isHalt Return = false
-isHalt (Start u a) = false
-isHalt Restart = false
-isHalt End = false
-
 -- what 5 to 8 and 23 promise of a command in an image of `count` blocks: its operands are in the ranges of its row, and numbers of their width
 abbrev pub Ranged : ℕ → Command → Type 0
 Ranged count c = inRange (rowOf (c .code) .ranges) count c ≡ true
@@ -112,7 +100,12 @@ pub record Lawful (k : ℕ) (c : Command) (g : Context) (v : Values) (o : Outcom
 pub record Law (k : ℕ) (c : Command) (g : Context) (v : Values) (e : Effect) : Type 0 where
   pub outcome : Lawful k c g v (e .outcome)
   pub values : (count : ℕ) → Fit count c → GoodValues v → GoodValues (e .values)
+  -- a halt changes no values and asks for no motion
   pub still : isHalt (e .outcome) ≡ true → (e .values ≡ v) × (e .request ≡ None)
+  -- no command touches the notes of BIAS
+  pub notes : e .values .notes ≡ v .notes
+  -- a move is asked for by a move that starts
+  pub move : isMove (e .request) ≡ true → (isMoveCode k ≡ true) × (started g v ≡ true)
 
 -- ---- outcomes
 
@@ -175,39 +168,39 @@ module _ (k : ℕ) (c : Command) (g : Context) (v : Values) where
 
   -- nothing but the task changes
   pub flows-law : (o : Outcome) → Lawful k c g v o → Law k c g v (flows v o)
-  flows-law o l = record { outcome = l; values = λ _ _ h. h; still = λ _. (refl, refl) }
+  flows-law o l = record { outcome = l; values = λ _ _ h. h; still = λ _. (refl, refl); notes = refl; move = λ i. clash (sym i) }
 
   halts-law : (q : Cause) → In (Halt q) → ((count : ℕ) → Ranged count c → Reason c v (g .time) q) → Law k c g v (halts q v)
   halts-law q m r = flows-law (Halt q) (halts-by q m r)
 
-  -- the values change, and the task goes on
-  pub effect-law : (w : Values) (m : Request) → In GoOn → ((count : ℕ) → Fit count c → GoodValues v → GoodValues w) → Law k c g v (effect w m GoOn)
-  effect-law w m further h = record { outcome = simply GoOn refl further; values = h; still = λ i. clash (sym i) }
+  -- the values change but for the notes, and the task goes on
+  pub effect-law : (w : Values) (m : Request) → w .notes ≡ v .notes → (isMove m ≡ true → (isMoveCode k ≡ true) × (started g v ≡ true)) → In GoOn
+      → ((count : ℕ) → Fit count c → GoodValues v → GoodValues w) → Law k c g v (effect w m GoOn)
+  effect-law w m n s further h = record { outcome = simply GoOn refl further; values = h; still = λ i. clash (sym i); notes = n; move = s }
 
-  pub sets-law : (w : Values) → In GoOn → ((count : ℕ) → Fit count c → GoodValues v → GoodValues w) → Law k c g v (sets w)
-  sets-law w further h = record { outcome = simply GoOn refl further; values = h; still = λ i. clash (sym i) }
+  pub sets-law : (w : Values) → w .notes ≡ v .notes → In GoOn → ((count : ℕ) → Fit count c → GoodValues v → GoodValues w) → Law k c g v (sets w)
+  sets-law w n further h = effect-law w None n (λ i. clash (sym i)) further h
+
+  -- a stop
+  pub stop-law : (mode deceleration : ℕ) → In GoOn → Law k c g v (effect v (Stop mode deceleration) GoOn)
+  stop-law mode deceleration further = effect-law v (Stop mode deceleration) refl (λ i. clash (sym i)) further (λ _ _ d. d)
 
   -- the axis changes
   pub axis-law : (put : Axis → Axis) → In GoOn → ((count : ℕ) → Fit count c → GoodValues v → GoodAxis (put (axisOf firstAxis v)))
       → Law k c g v (sets (withAxis firstAxis (put (axisOf firstAxis v)) v))
   axis-law put further h =
-      let a = put (axisOf firstAxis v) in sets-law (withAxis firstAxis a v) further (λ count f d. axis-good v d firstAxis a (h count f d))
+      let a = put (axisOf firstAxis v) in sets-law (withAxis firstAxis a v) refl further (λ count f d. axis-good v d firstAxis a (h count f d))
 
   pub assigns-law : (z : ℤ) → In GoOn → ((count : ℕ) → Fit count c → GoodValues v → SFits w32 z) → Law k c g v (assigns c z v)
-  assigns-law z further h = record {
-    outcome = simply GoOn refl further;
-    values = λ count f d. variable-good v d (c .x) z (h count f d);
-    still =
-        λ i. clash (sym i);
-  }
+  assigns-law z further h = sets-law (withVariable (c .x) z v) refl further (λ count f d. variable-good v d (c .x) z (h count f d))
 
   pub jump-law : (t : Bool) (a : ℕ) → In (Jump a) → In GoOn → Law k c g v (jumpIf t a v)
   jump-law t a m further = flows-law (cond t (Jump a) GoOn) (either t (Jump a) GoOn (λ _. simply (Jump a) refl m) (λ _. simply GoOn refl further))
 
-  pub moves-law : (kind : Axis → Request) → In GoOn → In (Stay 0 0) → Law k c g v (moves kind g c v)
-  moves-law kind further again =
+  pub moves-law : (kind : Axis → Request) → isMoveCode k ≡ true → In GoOn → In (Stay 0 0) → Law k c g v (moves kind g c v)
+  moves-law kind code further again =
       either-effect (started g v) (effect (withMark 0 v) (kind (axisOf firstAxis v)) GoOn) (flows v (Stay 0 0))
-      (λ _. effect-law (withMark 0 v) (kind (axisOf firstAxis v)) further (λ _ _ d. mark-good v d 0 (omega arith)))
+      (λ s. effect-law (withMark 0 v) (kind (axisOf firstAxis v)) refl (λ _. (code, s)) further (λ _ _ d. mark-good v d 0 (omega arith)))
       (λ _. flows-law (Stay 0 0) (stays-on again))
 
   -- on, or the same again

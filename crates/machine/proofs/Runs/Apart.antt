@@ -2,14 +2,14 @@
 -- noticed here, or, of a reason to halt, in Halts.antt.
 use Prim.Native.Nat.{ℕ, _+_, _<_, _≤_}
 use mathlib.Core.Path.{_≡_, refl, sym, ap, _∙_}
-use mathlib.Core.Bool.{true, false, _&&_}
+use mathlib.Core.Bool.{Bool, true, false, _&&_, cond, and-false}
 use mathlib.Core.Logic.{_⊎_, inl, inr, ⊎-elim}
 use mathlib.Core.List.{List, [], _∷_, map}
 use native.Mathlib.Omega.{arith}
 use lib.Dec.{eqb}
 use lib.ListN.{length, getD}
-use borrow.Author.Tests.{eqb-true, eq-eqb}
-use Rattle.limits.specs.Limits.{taskCount, mostDepth}
+use borrow.Author.Tests.{eqb-true, eq-eqb, ne-eqb}
+use Rattle.limits.specs.Limits.{bias, taskCount, mostDepth}
 use Rattle.walk_flow.specs.Terms.{termsOf}
 use Rattle.image_header.specs.Scan.{headerOf, blocksOf}
 use Rattle.logic.proofs.Choice.{clash}
@@ -17,15 +17,17 @@ use Rattle.walk_fault.specs.Fault.{faultNumber}
 use Rattle.walk_fault.specs.declared.Fault.{Fault}
 use Rattle.walk.specs.Walk.{starts}
 use Rattle.state.specs.State.{runs, ended, halted, taskAt}
+use Rattle.state.specs.declared.Notes.{Notes}
 use Rattle.state.specs.declared.Task.{Task}
 use Rattle.state.specs.declared.Values.{Values}
 use Rattle.state.specs.declared.State.{State}
 use Rattle.machine.specs.Inputs.{Inputs}
-use Rattle.machine.specs.Engine.{step, pointOf, noted, stopped, blockFits}
+use Rattle.machine.specs.Effect.{isSet}
+use Rattle.machine.specs.Engine.{step, pointOf, stopped, blockFits}
 use Rattle.machine.specs.Reference.{Thread, Machine, ReferenceOut, threadAt, idle}
 use Rattle.machine.specs.Alike.{returnsOf, SameTask, SameValues, Alike}
 use Rattle.machine.specs.Run.{SameHanded, Permitted}
-use Rattle.machine.specs.StepRule.{Calls, callsAfter, commandOf, executed, Behind, Reason, Stopped, StepRule, EachStep}
+use Rattle.machine.specs.StepRule.{Past, pastAfter, waitOver, levelNoted, commandOf, executed, Behind, Reason, Stopped, StepRule, EachStep}
 use Rattle.machine.specs.declared.Cause.{Cause}
 use Rattle.machine.specs.declared.Request.the-variants.{None}
 use Rattle.machine.specs.declared.Answer.{Answer}
@@ -53,7 +55,7 @@ values-are v w e = λ ι. record {
     axis = record { position = e .position ι; speed = e .speed ι; acceleration = e .acceleration ι; deceleration = e .deceleration ι };
     mark = e .mark ι;
   };
-  notes = record { level = e .level ι };
+  notes = record { level = e .level ι; moved = e .moved ι };
 }
 
 -- a running task, as the reference machine would have it
@@ -110,7 +112,7 @@ pub record ByRefusal (image : List ℕ) (s : State) (x : Inputs) : Type 0 where
   pub cause : Cause
   pub reason : Reason (commandOf image s x) (s .values) (taskAt s (x .task) .time) cause
   pub answer : step image s x .answer ≡ Halted cause (pointOf (x .task) (taskAt s (x .task)))
-  pub values : step image s x .state .values ≡ noted (x .task) (x .start) (s .values)
+  pub values : step image s x .state .values ≡ levelNoted (x .task) (x .start) (s .values)
   pub task : taskAt (step image s x .state) (x .task) ≡ stopped halted (taskAt s (x .task))
   pub request : step image s x .request ≡ None
 
@@ -125,9 +127,9 @@ pub how : {image : List ℕ} {s : State} {x : Inputs} → Stopped image s x → 
 how (Stopped.byRefusal q r a v k m) = inl (record { cause = q; reason = r; answer = a; values = v; task = k; request = m })
 how (Stopped.byItself c m a k) = inr (record { code = c; mode = m; answer = a; task = k })
 
-module _ {image : List ℕ} {calls : Calls} {s : State} {x : Inputs} (e : StepRule image calls s x) where
+module _ {image : List ℕ} {past : Past} {s : State} {x : Inputs} (e : StepRule image past s x) where
   -- a 53 comes to the block behind the call that is the latest
-  pub returns-to : (b : ℕ) (bs : List ℕ) → calls (x .task) ≡ b ∷ bs → executed (step image s x .answer) ≡ true → commandOf image s x .code ≡ 0x53
+  pub returns-to : (b : ℕ) (bs : List ℕ) → past .calls (x .task) ≡ b ∷ bs → executed (step image s x .answer) ≡ true → commandOf image s x .code ≡ 0x53
       → taskAt (step image s x .state) (x .task) .block ≡ b + 1
   returns-to b bs q a c = behind-is b _ bs (rw q at (e .returns a c))
 
@@ -139,10 +141,37 @@ module _ {image : List ℕ} {calls : Calls} {s : State} {x : Inputs} (e : StepRu
   pub runs-on : (t : ℕ) → t < taskCount → (t ≡ x .task → ⊥) → taskAt s t .status ≡ runs → (taskAt (step image s x .state) t .status ≡ runs → ⊥) → ⊥
   runs-on t l n r d = n (e .stops t l r d .0)
 
+  -- a step of another task leaves both notes of BIAS
+  pub notes-stay : (x .task ≡ bias → ⊥)
+      → (step image s x .state .values .notes .level ≡ s .values .notes .level) × (step image s x .state .values .notes .moved ≡ s .values .notes .moved)
+  notes-stay n = (ap (λ (k : Notes). k .level) (e .notes n), ap (λ (k : Notes). k .moved) (e .notes n))
+
   -- the header stays
   pub header-stays : step image s x .state .header ≡ s .header
   header-stays = e .header
 
-pub first-step : {image : List ℕ} {calls : Calls} {s : State} {x : Inputs} {xs : List Inputs} → EachStep image calls s (x ∷ xs)
-    → StepRule image calls s x × EachStep image (callsAfter image s x calls) (step image s x .state) xs
+  -- ---- part 8
+
+  module _ (a : executed (step image s x .answer) ≡ true) (c : commandOf image s x .code ≡ 0x58) where
+    block-after : (t : Bool) → waitOver x (past .moved) ≡ t
+        → taskAt (step image s x .state) (x .task) .block ≡ cond t (taskAt s (x .task) .block + 1) (taskAt s (x .task) .block)
+    block-after t p = e .arrives a c ∙ ap (λ (q : Bool). cond q (taskAt s (x .task) .block + 1) (taskAt s (x .task) .block)) p
+
+    -- a 58 stays right behind a move, and where one of the bits is not given
+    pub stays-behind-move : past .moved ≡ true → taskAt (step image s x .state) (x .task) .block ≡ taskAt s (x .task) .block
+    stays-behind-move m = block-after false (rw (m, and-false (isSet (x .inWindow)), and-false (isSet (x .rampEnded))) refl)
+
+    pub stays-on-ramp : x .rampEnded ≡ 0 → taskAt (step image s x .state) (x .task) .block ≡ taskAt s (x .task) .block
+    stays-on-ramp z = block-after false (rw z refl)
+
+    pub stays-outside : x .inWindow ≡ 0 → taskAt (step image s x .state) (x .task) .block ≡ taskAt s (x .task) .block
+    stays-outside z = block-after false (rw (z, and-false (isSet (x .rampEnded))) refl)
+
+    -- and goes on where both are given and the BIAS step before was no move
+    pub goes-on : (x .rampEnded ≡ 0 → ⊥) → (x .inWindow ≡ 0 → ⊥) → past .moved ≡ false
+        → taskAt (step image s x .state) (x .task) .block ≡ taskAt s (x .task) .block + 1
+    goes-on r w m = block-after true (rw (ne-eqb (x .rampEnded) 0 r, ne-eqb (x .inWindow) 0 w, m) refl)
+
+pub first-step : {image : List ℕ} {past : Past} {s : State} {x : Inputs} {xs : List Inputs} → EachStep image past s (x ∷ xs)
+    → StepRule image past s x × EachStep image (pastAfter image s x past) (step image s x .state) xs
 first-step (EachStep.more p q) = (p, q)

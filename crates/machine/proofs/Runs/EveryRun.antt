@@ -15,7 +15,7 @@ use Rattle.machine.specs.Engine.{step, pointOf}
 use Rattle.machine.specs.Reference.{Machine, referenceStep, referenceLoaded, idle, threadAt}
 use Rattle.machine.specs.Alike.{SameTask, SameValues, Alike}
 use Rattle.machine.specs.Run.{outs, stateAfter, referenceOuts, machineAfter, SameHanded, Permitted}
-use Rattle.machine.specs.StepRule.{Calls, noCalls, callsAfter, EachStep}
+use Rattle.machine.specs.StepRule.{noCalls, Past, noPast, pastAfter, EachStep}
 use Rattle.machine.specs.Theorem.{loaded, EveryValueRun}
 use Rattle.machine.proofs.Runs.Accepted.{Accepted, accepted, hd, body, within}
 use Rattle.machine.proofs.Steps.Reached.{Sound, never-sound}
@@ -26,7 +26,7 @@ use Rattle.image_result.proofs.Done.{is-done}
 use Rattle.state.specs.GoodState.{GoodState}
 use Rattle.state.proofs.Fresh.{fresh-good}
 use Rattle.machine.proofs.Steps.KeepsGood.{keeps-good}
-use Rattle.machine.proofs.Steps.Parts.{Counts, step-parts}
+use Rattle.machine.proofs.Steps.Parts.{Counts, Told, step-parts}
 
 values-same : (v w : Values) → v ≡ w → SameValues v w
 values-same v w e = rw e (record {
@@ -39,6 +39,7 @@ values-same v w e = rw e (record {
   deceleration = refl;
   mark = refl;
   level = refl;
+  moved = refl;
 })
 
 module _ (image : List ℕ) where
@@ -108,11 +109,11 @@ module _ (image : List ℕ) where
         let w = within image ok (pointOf t (taskAt s t)) q in
         record { block = w .block; sound = ok .blocks (taskAt s t .block) (w .block); fine = ok .fine (pointOf t (taskAt s t)) q; depth = w .depth }
 
-    each : (s : State) (m : Machine) (calls : Calls) → Agree image s m → Counts calls (m .threads) → (xs : List Inputs) → EachStep image calls s xs
-    each s m calls g n [] = EachStep.none
-    each s m calls g n (x ∷ xs) =
-        let k = step-parts image ok s m g calls n x in
-        EachStep.more (k .0) (each (step image s x .state) (referenceStep image m x .machine) (callsAfter image s x calls) (step-same image ok s m g x .agree)
+    each : (s : State) (m : Machine) (past : Past) → Agree image s m → Told past s m → (xs : List Inputs) → EachStep image past s xs
+    each s m past g n [] = EachStep.none
+    each s m past g n (x ∷ xs) =
+        let k = step-parts image ok s m g past n x in
+        EachStep.more (k .0) (each (step image s x .state) (referenceStep image m x .machine) (pastAfter image s x past) (step-same image ok s m g x .agree)
         (k .1) xs)
 
   goods : Bytes image → (s : State) → GoodState s → (xs : List Inputs) → GoodState (stateAfter image s xs)
@@ -127,6 +128,10 @@ module _ (image : List ℕ) where
   fresh-counts (suc (suc zero)) = refl
   fresh-counts (suc (suc (suc u))) = refl
 
+  fresh-told : Told noPast (loaded image) (referenceLoaded image)
+  unfolding fresh freshValues
+  fresh-told = record { calls = fresh-counts; moved = refl }
+
 -- the theorem
 pub every-value-run : EveryValueRun
 every-value-run image n e xs =
@@ -136,6 +141,6 @@ every-value-run image n e xs =
       answers = handed image ok (loaded image) (referenceLoaded image) (fresh-agree image) xs;
       alike = alike image ok _ _ g;
       permitted = permitted image ok _ _ g;
-      steps = each image ok (loaded image) (referenceLoaded image) noCalls (fresh-agree image) (fresh-counts image) xs;
+      steps = each image ok (loaded image) (referenceLoaded image) noPast (fresh-agree image) (fresh-told image) xs;
       good = λ b. goods image b (loaded image) (fresh-good (hd image .header) (header-good image (is-done _ (ok .read)))) xs;
     }

@@ -1,12 +1,13 @@
 -- One step: from states that agree, the engine and the reference machine give the same answer and request, and agree afterwards.
 use Prim.Native.Nat.{ℕ}
-use mathlib.Core.Path.{_≡_, refl}
+use mathlib.Core.Path.{_≡_, refl, ap, _∙_}
 use mathlib.Core.Bool.{true}
 use mathlib.Core.List.{List}
 use lib.ListN.{length}
 use Rattle.walk_flow.specs.Flow.{flowOf}
 use Rattle.state.specs.State.{taskAt}
 use Rattle.state.specs.declared.Task.{Task}
+use Rattle.state.specs.declared.Values.{Values}
 use Rattle.state.specs.declared.State.{State}
 use Rattle.machine.specs.Inputs.{Inputs}
 use Rattle.machine.specs.Engine.{pointOf, answerTo, performed, step}
@@ -57,13 +58,14 @@ module _ (image : List ℕ) where
     c = commandOf image s x
 
     done-same : Ran image s m x → (e : Effect) → Allows (flowOf (hd image) c) (e .outcome) → timeless (c .code) (e .outcome) ≡ true
+        → e .values .notes ≡ s .values .notes
         → SameStep (performed s x task e) (does m x p e)
     unfolding performed does
-    done-same r e f w = record {
+    done-same r e f w k = record {
       agree = record {
         header = g .header;
         both = rw (g .header) (turned image ok (s .tasks) (m .threads) (g .both) t (r .task) (r .running) (e .outcome) f w);
-        values = noted-alike s x task e;
+        values = noted-alike s x task e (m .values .notes) (k ∙ ap (λ (v : Values). v .notes) (g .values));
       };
       request = refl;
       answer = answers-same (e .outcome) t task p (g .both .same t (r .task) .block (r .running)) (r .depth);
@@ -75,4 +77,4 @@ module _ (image : List ℕ) where
       where
         go : Case image s m x → SameStep (step image s x) (referenceStep image m x)
         go (Case.refused a n i j) = rw (i, j) (record { agree = g; request = refl; answer = refl })
-        go (Case.ran r) = rw (r .engine, r .reference) (done-same r (effectHere image s x) (r .law .outcome .flow) (r .law .outcome .calm))
+        go (Case.ran r) = rw (r .engine, r .reference) (done-same r (effectHere image s x) (r .law .outcome .flow) (r .law .outcome .calm) (r .law .notes))

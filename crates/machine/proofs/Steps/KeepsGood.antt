@@ -26,20 +26,18 @@ use Rattle.walk.specs.Blocks.{blockAt, commandAt, faultAt, blockNumber}
 use Rattle.walk.specs.Graph.{In}
 use Rattle.walk.specs.Successors.{leadsTo as walked, flowAt, successors}
 use Rattle.walk.proofs.Points.Within.{Within, Passes, passes, successors-within}
-use Rattle.state.specs.State.{runs, ended, halted, noTask, taskAt, withNotes}
+use Rattle.state.specs.State.{runs, ended, halted, noTask, taskAt}
 use Rattle.state.specs.GoodState.{GoodWait, GoodTask, GoodValues, GoodState}
-use Rattle.state.proofs.Setters.{notes-good}
 use Rattle.state.specs.declared.Task.{Task}
 use Rattle.state.specs.declared.Values.{Values}
 use Rattle.state.specs.declared.State.{State}
 use Rattle.state.proofs.Fresh.{getD-replicate}
 use Rattle.walk_flow.specs.Terms.{under}
-use Rattle.machine.specs.Inputs.{Inputs, level}
+use Rattle.machine.specs.Inputs.{Inputs}
 use Rattle.machine.specs.Effect.{effectOf}
 use Rattle.machine.specs.Engine.{goTo, stayWith, callTo, returnFrom, startAnew, restarted, stopped, tasksAfter, pointOf, contextOf, performed, isLoaded}
 use Rattle.machine.specs.Engine.{blockFits, waitFits, fits, refuse, taskStep, step, termsHeld}
 use Rattle.machine.specs.declared.StepOut.{StepOut}
-use Rattle.machine.specs.Reference.{keeps}
 use Rattle.machine.specs.Allows.{Allows}
 use Rattle.machine.specs.Theorem.{KeepsGood}
 use Rattle.machine.specs.declared.Answer.{Answer}
@@ -47,13 +45,12 @@ use Rattle.machine.specs.declared.Answer.the-variants.{NoTask, Inputs as
 use Rattle.machine.specs.declared.Effect.{Effect}
 use Rattle.machine.specs.declared.Outcome.{Outcome}
 use Rattle.machine.specs.declared.Outcome.the-variants.{GoOn, Stay, Jump, Call, Return, Start, Restart, End, Halt}
-use Rattle.machine.proofs.Rows.InRange.{level-level}
 use Rattle.machine.proofs.Rows.Forms.{Law, Staying, Fit}
 use Rattle.machine.proofs.Rows.EveryLaw.{every-law}
 use Rattle.machine.proofs.Rows.Operands.{BlockBytes, fit}
 use Rattle.machine.proofs.Rows.Outcomes.{on-in, jump-in, call-in, behind-in, call-deep, return-deep, start-in, start-on}
 use Rattle.machine.proofs.Steps.TasksAfter.{set-set}
-use Rattle.machine.proofs.Steps.Notes.{noted-alike, refused-alike}
+use Rattle.machine.proofs.Steps.Notes.{noted-good, refused-alike}
 use Rattle.machine.proofs.Steps.Together.{used-carried}
 
 -- ---- tasks
@@ -290,20 +287,13 @@ module _ (image : List ℕ) (bytes : Bytes image) (s : State) (g : GoodState s) 
   turned End m w = here (stopped ended own) (stop-good h own known ended (omega arith)) refl
   turned (Halt q) m w = here (stopped halted own) (stop-good h own known halted (omega arith)) refl
 
-  keeps-values : (v : Values) → GoodValues v → GoodValues (keeps t (x .start) v)
-  keeps-values v d = go (eqb t bias)
-    where
-      go : (q : Bool) → GoodValues (withNotes (cond q (record { level = level (x .start) }) (v .notes)) v)
-      go true = notes-good v d (level (x .start)) (level-level (x .start))
-      go false = d
-
   pub performed-good : GoodState (performed s x own e .state)
   unfolding performed flowOf
   performed-good =
       let d = turned (e .outcome) (law .outcome .flow) (law .outcome .wait (h .count) fit-here (known .wait)) in
       record {
         header = g .header;
-        values = subst GoodValues (sym (noted-alike s x own e)) (keeps-values (e .values) (law .values (h .count) fit-here (g .values)));
+        values = noted-good t (x .start) (e .outcome) (e .request) (e .values) (law .values (h .count) fit-here (g .values));
         three = d .three;
         task = d .task;
         first = d .first;

@@ -1,7 +1,7 @@
--- Parts 4 to 6 of the theorem at one step of a run.
+-- Parts 4 to 6 and 8 of the theorem at one step of a run.
 use Prim.Native.Nat.{ℕ, zero, suc, _+_, _-_, _<_}
 use mathlib.Core.Path.{_≡_, refl, sym, ap, subst, _∙_}
-use mathlib.Core.Bool.{true, false, cond}
+use mathlib.Core.Bool.{Bool, true, false, _&&_, not, cond, and-false}
 use mathlib.Core.Logic.{_⊎_, inl, inr, ⊎-elim}
 use mathlib.Core.List.{List, [], _∷_}
 use native.Mathlib.Omega.{arith}
@@ -11,7 +11,7 @@ use lib.ListN.{length, getD, set, length-set}
 use lib.Seq.{getD-set-same, getD-set-other}
 use borrow.Author.Tests.{eqb-false, eq-eqb, ne-eqb}
 use Rattle.logic.proofs.Lists.{at-set}
-use Rattle.limits.specs.Limits.{taskCount}
+use Rattle.limits.specs.Limits.{bias, taskCount}
 use Rattle.logic.proofs.Choice.{clash}
 use Rattle.command_table.specs.Rows.{rowOf}
 use Rattle.command_operands.specs.declared.Command.{Command}
@@ -25,12 +25,16 @@ use Rattle.walk.specs.Walk.{starts}
 use Rattle.walk.proofs.Steps.Moves.{Flows, carried}
 use Rattle.state.specs.State.{runs, ended, halted, noTask, taskAt}
 use Rattle.state.specs.declared.Task.{Task}
+use Rattle.state.specs.declared.Values.{Values}
 use Rattle.state.specs.declared.State.{State}
-use Rattle.machine.specs.Inputs.{Inputs}
-use Rattle.machine.specs.Engine.{goTo, callTo, returnFrom, stayWith, restarted, startAnew, tasksAfter, pointOf, noted, answerTo, performed, step, stopped}
+use Rattle.machine.specs.Inputs.{Inputs, level}
+use Rattle.machine.specs.Effect.{bit, isSet, arrived}
+use Rattle.machine.specs.Engine.{goTo, callTo, returnFrom, stayWith, restarted, startAnew, tasksAfter, pointOf, contextOf, movedAfter, noted, answerTo}
+use Rattle.machine.specs.Engine.{performed, step, stopped}
 use Rattle.machine.specs.declared.StepOut.{StepOut}
 use Rattle.machine.specs.Reference.{Thread, Machine, ReferenceOut, idle, goesTo, back, anew, follows, does, referenceStep}
-use Rattle.machine.specs.StepRule.{Calls, withCalls, withoutLatest, callsAfter, executed, commandOf, Behind, Stopped, StepRule}
+use Rattle.machine.specs.StepRule.{Calls, withCalls, withoutLatest, callsAfter, executed, commandOf, Behind, Stopped, isMoveCode}
+use Rattle.machine.specs.StepRule.{movedLast, waitOver, Past, pastAfter, StepRule}
 use Rattle.machine.specs.Allows.{Allows}
 use Rattle.machine.specs.declared.Cause.{Cause}
 use Rattle.machine.specs.declared.Outcome.{Outcome}
@@ -41,7 +45,9 @@ use Rattle.state.proofs.Setters.{kept-set}
 use Rattle.machine.proofs.Runs.Accepted.{Accepted, hd, body, within}
 use Rattle.machine.proofs.Steps.Alike.{returns-return}
 use Rattle.machine.proofs.Rows.Codes.{countF, counts-flow, return-flow, start-code, end-code}
-use Rattle.machine.proofs.Steps.Together.{Agree, Ran, Case, effectHere, threadOf, step-case}
+use Rattle.machine.proofs.Rows.Slope.{move-is, position-outcome}
+use Rattle.machine.proofs.Steps.Notes.{level-noted, notes-left, moved-told, bit-clear}
+use Rattle.machine.proofs.Steps.Together.{Agree, Ran, Case, effectHere, threadOf, used-carried, step-case}
 
 -- ---- open calls and the reference machine's return blocks
 
@@ -168,8 +174,27 @@ executed-count calls t b p _ _ Allows.start = refl
 executed-count calls t b p _ _ Allows.restart = refl
 executed-count calls t b p _ _ Allows.end = refl
 
-module _ (image : List ℕ) (ok : Accepted image) (s : State) (m : Machine) (g : Agree image s m) (calls : Calls) (n : Counts calls (m .threads)) (x : Inputs)
+-- what is told of the steps before is what the states hold: the open calls and the note of a move
+pub record Told (past : Past) (s : State) (m : Machine) : Type 0 where
+  pub calls : Counts (past .calls) (m .threads)
+  pub moved : s .values .notes .moved ≡ bit (past .moved)
+
+-- a byte as a level is set where the byte is not 0
+level-set : (byte : ℕ) → isSet (level byte) ≡ isSet byte
+level-set byte = go (eqb byte 0)
   where
+    go : (b : Bool) → not (eqb (cond b 0 1) 0) ≡ not b
+    go true = refl
+    go false = refl
+
+module _ (image : List ℕ) (ok : Accepted image) (s : State) (m : Machine) (g : Agree image s m) (past : Past) (told : Told past s m) (x : Inputs)
+  where
+    abbrev calls : Calls
+    calls = past .calls
+
+    n : Counts calls (m .threads)
+    n = told .calls
+
     abbrev t : ℕ
     t = x .task
 
@@ -205,7 +230,8 @@ module _ (image : List ℕ) (ok : Accepted image) (s : State) (m : Machine) (g :
       unfolding performed
       answer-is = ap (λ (q : StepOut). q .answer) (r .engine)
 
-      values-are : step image s x .state .values ≡ noted t (x .start) (effectHere image s x .values)
+      values-are : step image s x .state .values
+          ≡ noted t (x .start) (movedAfter o (effectHere image s x .request) (effectHere image s x .values .notes .moved)) (effectHere image s x .values)
       unfolding performed
       values-are = ap (λ (q : StepOut). q .state .values) (r .engine)
 
@@ -265,7 +291,31 @@ module _ (image : List ℕ) (ok : Accepted image) (s : State) (m : Machine) (g :
       stopped-by (inr (j, e)) =
           let q = r .law .still (rw e refl) in
           Stopped.byRefusal j (subst (Halting c (s .values) (task .time)) e (r .law .outcome .halt (hd image .header .count) ranged)) (answer-is ∙ rw e refl)
-          (values-are ∙ ap (noted t (x .start)) (q .0)) (stays-put (stopped halted task) (rw e refl)) (request-is ∙ q .1)
+          (values-are ∙ rw (e, q .0) (level-noted t (x .start) j (effectHere image s x .request) (s .values))) (stays-put (stopped halted task) (rw e refl))
+          (request-is ∙ q .1)
+
+      -- another task's step
+      notes-are : (t ≡ bias → ⊥) → step image s x .state .values .notes ≡ s .values .notes
+      notes-are d = ap (λ (v : Values). v .notes) values-are ∙ notes-left t (x .start) _ (effectHere image s x .values) d ∙ r .law .notes
+
+      -- the note of a move tells of this step, or of those before
+      moved-is : step image s x .state .values .notes .moved ≡ bit (movedLast image s x (past .moved))
+      moved-is =
+          ap (λ (v : Values). v .notes .moved) values-are
+          ∙ moved-told t (x .start) (effectHere image s x) (s .values) (pointOf t task) (past .moved) (r .law .notes) (told .moved)
+          ∙ rw (answer-is, request-is, ← move-is (x .levels) (contextOf s task x) c (s .values) (used-carried (hd image) (c .code) t (r .passes .allowed))) refl
+
+      part8 : c .code ≡ 0x58 → taskAt (step image s x .state) t .block ≡ cond (waitOver x (past .moved)) (b + 1) b
+      part8 i = go (waitOver x (past .moved)) (position-outcome (x .levels) (contextOf s task x) c (s .values) i ∙ rw over refl)
+        where
+          over : arrived (contextOf s task x) (s .values) ≡ waitOver x (past .moved)
+          over =
+              let unmoved = ap (λ (k : ℕ). eqb k 0) (told .moved) ∙ bit-clear (past .moved) in
+              λ ι. level-set (x .rampEnded) ι && (level-set (x .inWindow) ι && unmoved ι)
+
+          go : (q : Bool) → o ≡ cond q GoOn (Stay 0 0) → taskAt (step image s x .state) t .block ≡ cond q (b + 1) b
+          go true e = ap (λ (k : Task). k .block) (stays-put (goTo (b + 1) task) (rw e refl))
+          go false e = ap (λ (k : Task). k .block) (stays-put (stayWith 0 0 task) (rw e refl))
 
       part5 : (u : ℕ) → u < taskCount → taskAt s u .status ≡ runs → (taskAt (step image s x .state) u .status ≡ runs → ⊥) → (u ≡ t) × Stopped image s x
       part5 u l a z = go (ℕ-discrete u t)
@@ -288,18 +338,30 @@ module _ (image : List ℕ) (ok : Accepted image) (s : State) (m : Machine) (g :
           )
           go (no d) = absurd (z (stayed d))
 
-    pub step-parts : StepRule image calls s x × Counts (callsAfter image s x calls) (referenceStep image m x .machine .threads)
-    unfolding callsAfter
+    pub step-parts : StepRule image past s x × Told (pastAfter image s x past) (step image s x .state) (referenceStep image m x .machine)
+    unfolding pastAfter callsAfter
     step-parts = go (step-case image ok s m g x)
       where
-        go : Case image s m x → StepRule image calls s x × Counts (callsAfter image s x calls) (referenceStep image m x .machine .threads)
+        go : Case image s m x → StepRule image past s x × Told (pastAfter image s x past) (step image s x .state) (referenceStep image m x .machine)
         go (Case.refused a f i j) = (
           record {
             returns = λ e _. clash (sym e ∙ ap (λ (q : StepOut). executed (q .answer)) i ∙ f);
             stops = λ u _ e d. absurd (d (rw i e));
             others = λ u _ _. inl (rw i refl);
+            notes = λ _. ap (λ (q : StepOut). q .state .values .notes) i;
             header = ap (λ (q : StepOut). q .state .header) i;
+            arrives = λ e _. clash (sym e ∙ ap (λ (q : StepOut). executed (q .answer)) i ∙ f);
           },
-          rw (i, j, f) n,
+          record { calls = rw (i, j, f) n; moved = rw (i, f, and-false (eqb t bias)) (told .moved) },
         )
-        go (Case.ran r) = (record { returns = λ _ e. part4 r e; stops = part5 r; others = λ u _ d. part6 r u d; header = header-is r }, counted r)
+        go (Case.ran r) = (
+          record {
+            returns = λ _ e. part4 r e;
+            stops = part5 r;
+            others = λ u _ d. part6 r u d;
+            notes = notes-are r;
+            header = header-is r;
+            arrives = λ _ e. part8 r e;
+          },
+          record { calls = counted r; moved = moved-is r },
+        )

@@ -166,7 +166,14 @@ module _ (image : List ℕ) where
 
     -- the reference machine sees the same wait and values
     effect-same : effectOf (x .levels)
-        (record { drive = headerOf image .header .drive; start = level (x .start); reached = level (x .reached); time = p .time; turns = p .turns })
+        (record {
+          drive = headerOf image .header .drive;
+          start = level (x .start);
+          «ramp_ended» = level (x .rampEnded);
+          «in_window» = level (x .inWindow);
+          time = p .time;
+          turns = p .turns;
+        })
         (commandAt (blocksOf image) (own .block)) (m .values)
         ≡ e
     effect-same = rw (← same .time r, ← same .turns r, ← g .values, g .header)

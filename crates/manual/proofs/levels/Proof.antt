@@ -12,9 +12,9 @@ returns c =
     let s = now (c .before .before .before .before .before .before .before .before .before .args .steps) in
     let at = c .before .before .before .before .before .before .before .before .before .args .at in
     c .with-high4 .ensures
-    ∙ ap (high s (at + 7)) (c .before .before .with-high3 .ensures
-    ∙ ap (high s (at + 6)) (c .before .before .before .before .with-high2 .ensures
-    ∙ ap (high s (at + 5)) (c .before .before .before .before .before .before .with-high .ensures)))
+    ∙ ap (high s (at + 8)) (c .before .before .with-high3 .ensures
+    ∙ ap (high s (at + 7)) (c .before .before .before .before .with-high2 .ensures
+    ∙ ap (high s (at + 6)) (c .before .before .before .before .before .before .with-high .ensures)))
 
 pub levels-spec : {M : Type 1} → statement M
 levels-spec =

@@ -24,12 +24,12 @@ cast-repeat-2 c = omega (arith, c .shared-slice-known5 .given (c .before .before
 returns-2 : tie.Need-returns-2
 unfolding recorded
 returns-2 c =
-    let a = c .before .before .before .before .before .before .before .before .before .before .before .before .before .before .before .args in
+    let a = c .before .before .before .before .before .before .before .before .before .before .before .before .before .before .before .before .args in
     let s = now (a .steps) in
     c .before .before .repeat .ensures
-    ∙ ap (λ (l : List ℕ). repeated (now (a .image)) (inputsOf (getD s (a .at + 1) 0) l (getD s (a .at + 2) 0) (getD s (a .at + 3) 0)) (getD s (a .at) 0)
-    (now (a .state))) (c .before .before .before .before .before .before .before .before .before .levels .ensures)
-    ∙ rw (ne-eqb (getD s (a .at) 0) 0 (c .before .before .before .before .before .before .before .before .before .before .if1 .left))
+    ∙ ap (λ (l : List ℕ). repeated (now (a .image)) (inputsOf (getD s (a .at + 1) 0) l (getD s (a .at + 2) 0) (getD s (a .at + 3) 0) (getD s (a .at + 4) 0))
+    (getD s (a .at) 0) (now (a .state))) (c .before .before .before .before .before .before .before .before .before .before .levels .ensures)
+    ∙ rw (ne-eqb (getD s (a .at) 0) 0 (c .before .before .before .before .before .before .before .before .before .before .before .if1 .left))
 
 pub run-record-spec : {M : Type 1} → statement M
 run-record-spec =
@@ -45,6 +45,8 @@ run-record-spec =
     (λ c. search needs)
     (λ c. search needs)
     cast-repeat-2
+    (λ c. search needs)
+    (λ c. search needs)
     (λ c. search needs)
     (λ c. search needs)
     (λ c. search needs)

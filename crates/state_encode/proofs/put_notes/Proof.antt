@@ -1,4 +1,4 @@
--- `state_encode::put_notes` meets its contract: a record of one number.
+-- `state_encode::put_notes` meets its contract: one number put behind the other.
 use mathlib.Core.Path.{refl}
 use mathlib.Core.List.{[], _∷_}
 use Rattle.state_sections.proofs.Sections.{put, done}
@@ -9,9 +9,14 @@ use borrow.Author.Needs.{needs}
 use Rattle.state_encode.proofs.put_notes.Statement.{statement}
 use Rattle.state_encode.proofs.put_notes.Tie as tie
 
+returns : tie.Need-returns
+returns c = record-put notesWidths (_ ∷ _ ∷ []) notesAt refl (put (c .before .before .put-byte .ensures) (put (c .put-byte2 .ensures) done))
+
 pub put-notes-spec : {M : Type 1} → statement M
 put-notes-spec =
     tie.close
     (tie.spec
     (λ c κs. search needs)
-    (λ c. record-put notesWidths (_ ∷ []) notesAt refl (put (c .put-byte .ensures) done)))
+    (λ c. search needs)
+    (λ c κs. search needs)
+    returns)

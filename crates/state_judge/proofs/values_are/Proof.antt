@@ -5,13 +5,15 @@ use Rattle.state_judge.proofs.values_are.Tie as tie
 
 returns : tie.Need-returns
 returns c =
-    let k = c .before .before in
-    rw (c .motion-is .ensures, k .levels-are2 .ensures, k .before .before .before .levels-are .ensures)
+    let m = c .before .before in
+    let k = m .before .before in
+    rw (c .notes-are .ensures, m .motion-is .ensures, k .levels-are2 .ensures, k .before .before .before .levels-are .ensures)
 
 pub values-are-spec : {M : Type 1} → statement M
 values-are-spec =
     tie.close
     (tie.spec
+    (λ c κs. search needs)
     (λ c κs. search needs)
     (λ c κs. search needs)
     (λ c κs. search needs)
