@@ -8,7 +8,7 @@ use lib.ListN.{length}
 use borrow.Author.Tests.{eq-eqb, ne-eqb, lt-ltb, le-ltb}
 use Rattle.limits.specs.Limits.{taskCount, mostBlocks, mostDepth, inputsLength}
 use Rattle.command_operands.specs.declared.Command.{Command}
-use Rattle.state.specs.State.{runs, taskAt}
+use Rattle.state.specs.State.{runs, taskAt, withNotes}
 use Rattle.state.specs.GoodState.{GoodState}
 use Rattle.state.proofs.Bounds.{wait-fits}
 use Rattle.state.specs.declared.Task.{Task}
@@ -19,7 +19,7 @@ use Rattle.machine.specs.Effect.{effectOf}
 use Rattle.logic.proofs.Choice.{both}
 use Rattle.image_header.specs.Scan.{headerOf, blocksOf}
 use Rattle.image_header.specs.declared.reader.HeaderRead.{HeaderRead}
-use Rattle.machine.specs.Engine.{movedAfter, noted, tasksAfter, answerTo, pointOf, performed, refuse, fits, contextOf, carriedOut, taskStep, step}
+use Rattle.machine.specs.Engine.{notesAfter, tasksAfter, answerTo, pointOf, performed, refuse, fits, contextOf, carriedOut, taskStep, step}
 use Rattle.machine.specs.Engine.{isLoaded, blockFits, waitFits, fitsAs, termsHeld}
 use Rattle.machine.specs.declared.Answer.the-variants.{NoTask, Inputs as BadInputs, NotRunning, Differs}
 use Rattle.machine.specs.declared.Answer.{Answer}
@@ -32,7 +32,7 @@ not-not false = refl
 
 -- the parts of what a command comes to
 pub together : (s : State) (t start : ℕ) (task : Task) (e : Effect) (v : Values) (ts : List Task) (a : Answer)
-    → v ≡ noted t start (movedAfter (e .outcome) (e .request) (e .values .notes .moved)) (e .values)
+    → v ≡ withNotes (notesAfter t start (e .outcome) (e .request) (e .values .notes)) (e .values)
     → ts ≡ tasksAfter (s .header .start) t task (e .outcome) (s .tasks) → a ≡ answerTo (e .outcome) (pointOf t task)
     → _≡_ {A = StepOut} (record { state = record { values = v; header = s .header; tasks = ts }; request = e .request; answer = a })
     (performed s (inputsOf t [] start 0 0) task e)

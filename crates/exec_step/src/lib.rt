@@ -12,7 +12,6 @@ use machine::StepOut;
 use state::Notes;
 use state::State;
 use state::Task;
-use state::Values;
 use walk_point::Point;
 ghost use mathlib.Core.Path.{_≡_};
 ghost use mathlib.Core.List.{[]};
@@ -26,7 +25,7 @@ ghost use Rattle.walk_flow.specs.Terms.{under};
 ghost use Rattle.machine.specs.Inputs.{inputsOf};
 ghost use Rattle.machine.specs.Effect.{bit};
 ghost use Rattle.machine.specs.DepthAllows.{DepthAllows};
-ghost use Rattle.machine.specs.Engine.{refuse, isWait, isLoaded, blockFits, waitFits, fitsAs, isMove, movedAfter, noted, answerTo, pointOf};
+ghost use Rattle.machine.specs.Engine.{refuse, isWait, isLoaded, blockFits, waitFits, fitsAs, isMove, movedAfter, notesAfter, answerTo, pointOf};
 ghost use Rattle.machine.specs.Engine.{performed, carriedOut, taskStep, step, termsHeld};
 
 // A step that is refused: nothing changes, and no motion is asked for.
@@ -107,18 +106,17 @@ fn moved_after(outcome: Outcome, request: Request, before: u8) -> u8
     }
 }
 
-// A BIAS step notes the start input's level and whether it carried out a move.
-fn noted(t: u8, start: u8, moved: u8, v: Values) -> Values
-    ensures { λ r. ⌜ r ≡ noted t start moved v ⌝ }
+// The notes after a step: a BIAS step takes the start input's level and whether it carried out a move.
+fn notes_after(t: u8, start: u8, outcome: Outcome, request: Request, before: Notes) -> Notes
+    ensures { λ r. ⌜ r ≡ notesAfter t start outcome request before ⌝ }
 {
-    if t == limits::BIAS {
-        let notes = Notes {
-            level: exec_effect::level(start),
-            moved: moved,
-        };
-        return v.with_notes(notes);
+    if t != limits::BIAS {
+        return before;
     }
-    v
+    Notes {
+        level: exec_effect::level(start),
+        moved: moved_after(outcome, request, before.moved),
+    }
 }
 
 // 17: whether the lent image, whose header and blocks these are, is the loaded one, the block at the pointer passes 5 to 12 and 23 there, and a pending
@@ -162,24 +160,27 @@ fn wait_fits(blocks: &[u8], task: Task) -> bool
 }
 
 // What a command comes to: the values with the notes of a BIAS step, the tasks after its outcome, its request, its answer.
-fn performed(mut state: State, t: u8, start: u8, task: Task, e: Effect) -> StepOut
+fn performed(state: State, t: u8, start: u8, task: Task, e: Effect) -> StepOut
     requires { ⌜ task .block < mostBlocks ⌝ }
     requires { ⌜ DepthAllows (task .depth) (e .outcome) ⌝ }
     ensures { λ r. ⌜ r ≡ performed state (inputsOf t [] start 0 0) task e ⌝ }
 {
     let header = state.header;
+    let before = state.tasks;
     let outcome = e.outcome;
     let request = e.request;
-    let moved = moved_after(outcome, request, e.values.notes.moved);
-    let values = noted(t, start, moved, e.values);
-    let before = state.tasks;
+    let notes = notes_after(t, start, outcome, request, e.values.notes);
     let after = exec_tasks::after(header.start, t, task, outcome, before);
-    state.values = values;
-    state.tasks = after;
+    let answer = answer_to(outcome, point_of(t, task));
+    let values = e.values.with_notes(notes);
     StepOut {
-        state: state,
+        state: State {
+            values: values,
+            header: header,
+            tasks: after,
+        },
         request: request,
-        answer: answer_to(outcome, point_of(t, task)),
+        answer: answer,
     }
 }
 

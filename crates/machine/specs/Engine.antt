@@ -18,7 +18,7 @@ use Rattle.walk_point.specs.declared.Point.{Point}
 use Rattle.walk.specs.Blocks.{commandAt, faultAt, blockNumber}
 use Rattle.state.specs.State.{runs, ended, halted, emptyStack, taskWith, taskAt, withNotes}
 use Rattle.state.specs.declared.Task.{Task}
-use Rattle.state.specs.declared.Values.{Values}
+use Rattle.state.specs.declared.Notes.{Notes}
 use Rattle.state.specs.declared.State.{State}
 use Rattle.machine.specs.Inputs.{Inputs, level}
 use Rattle.machine.specs.declared.Context.{Context}
@@ -123,9 +123,10 @@ isHalt (Halt q) = true
 abbrev pub movedAfter : Outcome → Request → ℕ → ℕ
 movedAfter outcome request before = cond (isHalt outcome) before (bit (isMove request))
 
--- a BIAS step notes the start input's level and whether it carried out a move
-abbrev pub noted : ℕ → ℕ → ℕ → Values → Values
-noted t start moved v = cond (eqb t bias) (withNotes (record { level = level start; moved = moved }) v) v
+-- the notes after a step: a BIAS step takes the start input's level and whether it carried out a move
+abbrev pub notesAfter : ℕ → ℕ → Outcome → Request → Notes → Notes
+notesAfter t start outcome request before =
+    cond (eqb t bias) (record { level = level start; moved = movedAfter outcome request (before .moved) }) before
 
 -- ---- the command
 
@@ -143,7 +144,7 @@ contextOf s task x = record {
 unfoldable pub performed : State → Inputs → Task → Effect → StepOut
 performed s x task e = record {
   state = record {
-    values = noted (x .task) (x .start) (movedAfter (e .outcome) (e .request) (e .values .notes .moved)) (e .values);
+    values = withNotes (notesAfter (x .task) (x .start) (e .outcome) (e .request) (e .values .notes)) (e .values);
     header = s .header;
     tasks = tasksAfter (s .header .start) (x .task) task (e .outcome) (s .tasks);
   };

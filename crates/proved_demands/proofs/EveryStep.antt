@@ -15,7 +15,7 @@ use Rattle.logic.proofs.Choice.{clash, both}
 use Rattle.image_header.specs.Scan.{blocksOf, headerOf}
 use Rattle.command_operands.specs.declared.Command.{Command}
 use Rattle.walk_point.specs.declared.Point.{Point}
-use Rattle.state.specs.State.{runs, halted, taskWith, taskAt}
+use Rattle.state.specs.State.{runs, halted, taskWith, taskAt, withNotes}
 use Rattle.state.specs.GoodState.{GoodState, GoodWait}
 use Rattle.state.specs.declared.Task.{Task}
 use Rattle.state.specs.declared.Values.{Values}
@@ -25,7 +25,7 @@ use Rattle.state_layout.specs.IsState.{isState}
 use Rattle.state_layout.proofs.RoundTrip.{state-good, encode-decode, good-state}
 use Rattle.machine.specs.Inputs.{Inputs}
 use Rattle.machine.specs.Effect.{effectOf, isSet}
-use Rattle.machine.specs.Engine.{contextOf, isWait, isLoaded, isHalt, blockFits, waitFits, fits, pointOf, answerTo, movedAfter, noted, stopped, tasksAfter}
+use Rattle.machine.specs.Engine.{contextOf, isWait, isLoaded, isHalt, blockFits, waitFits, fits, pointOf, answerTo, notesAfter, stopped, tasksAfter}
 use Rattle.machine.specs.Engine.{performed, carriedOut, taskStep, step, termsHeld}
 use Rattle.machine.specs.Engine as engine
 use Rattle.machine.specs.StepRule.{commandOf, Reason}
@@ -165,7 +165,7 @@ module _ (image b : List ℕ) (x : Inputs) where
           ∙ (λ ι. record {
             answer = answerFor (still .1 ι) (answerTo (i ι) (pointOf (x .task) task));
             buffer = encoded (record {
-              values = noted (x .task) (x .start) (movedAfter (i ι) (still .1 ι) (still .0 ι .notes .moved)) (still .0 ι);
+              values = withNotes (notesAfter (x .task) (x .start) (i ι) (still .1 ι) (still .0 ι .notes)) (still .0 ι);
               header = s .header;
               tasks =
                   tasksAfter (s .header .start) (x .task) task (i ι) (s .tasks);

@@ -1,7 +1,8 @@
 -- `performed` meets its contract.
 use mathlib.Core.Path.{ap, _∙_}
-use Prim.Native.Nat.{ℕ}
-use Rattle.machine.specs.Engine.{noted, answerTo}
+use Rattle.state.specs.State.{withNotes}
+use Rattle.state.specs.declared.Notes.{Notes}
+use Rattle.machine.specs.Engine.{answerTo}
 use Rattle.exec_step.proofs.StepCases.{together}
 use Rattle.exec_step.proofs.performed.Statement.{statement}
 use Rattle.exec_step.proofs.performed.Tie as tie
@@ -11,13 +12,12 @@ performed-spec =
     tie.close
     (tie.spec
     (λ c κs. tt)
+    (λ c κs. c .before .before .before .pre)
     (λ c κs. tt)
-    (λ c κs. c .before .before .before .before .pre)
     (λ c κs. tt)
     (λ c κs. tt)
     (λ c.
     let a = c .before .before .before .before .before .before .before .args in
-    let notes = c .before .before .before .before .noted .ensures
-    ∙ ap (λ (n : ℕ). noted (a .t) (a .start) n (a .e .values)) (c .before .before .before .before .before .moved-after .ensures) in
-    together (a .state) (a .t) (a .start) (a .task) (a .e) _ _ _ notes (c .before .before .after .ensures)
-    (c .answer-to .ensures ∙ ap (answerTo (a .e .outcome)) (c .before .point-of .ensures))))
+    let noted = c .with-notes .ensures ∙ ap (λ (n : Notes). withNotes n (a .e .values)) (c .before .before .before .before .notes-after .ensures) in
+    together (a .state) (a .t) (a .start) (a .task) (a .e) _ _ _ noted (c .before .before .before .after .ensures)
+    (c .before .answer-to .ensures ∙ ap (answerTo (a .e .outcome)) (c .before .before .point-of .ensures))))

@@ -8,7 +8,7 @@ use borrow.Author.Tests.{ne-eqb}
 use Rattle.limits.specs.Limits.{bias, mostLevel}
 use Rattle.walk_point.specs.declared.Point.{Point}
 use Rattle.state.specs.State.{withNotes}
-use Rattle.state.specs.GoodState.{GoodValues}
+use Rattle.state.specs.GoodState.{GoodNotes, GoodValues}
 use Rattle.state.proofs.Setters.{notes-good}
 use Rattle.state.specs.declared.Notes.{Notes}
 use Rattle.state.specs.declared.Task.{Task}
@@ -16,7 +16,7 @@ use Rattle.state.specs.declared.Values.{Values}
 use Rattle.state.specs.declared.State.{State}
 use Rattle.machine.specs.Inputs.{Inputs, level}
 use Rattle.machine.specs.Effect.{bit}
-use Rattle.machine.specs.Engine.{isMove, isHalt, movedAfter, noted, answerTo, performed, refuse}
+use Rattle.machine.specs.Engine.{isMove, isHalt, movedAfter, notesAfter, answerTo, performed, refuse}
 use Rattle.machine.specs.Reference.{moving, moveNote, keeps}
 use Rattle.machine.specs.StepRule.{executed, levelNoted}
 use Rattle.machine.specs.declared.Answer.{Answer}
@@ -49,33 +49,14 @@ moved-is Restart m before = moving-is m
 moved-is End m before = moving-is m
 moved-is (Halt q) m before = refl
 
-notes-same : (t start moved : ℕ) (v : Values) → noted t start moved v ≡ record {
-  cells = v .cells;
-  motion = v .motion;
-  notes = cond (eqb t 0) (record { level = level start; moved = moved }) (v .notes);
-}
-notes-same t start moved v = go (eqb t bias)
-  where
-    go : (b : Bool) → cond b (withNotes (record { level = level start; moved = moved }) v) v ≡ record {
-      cells = v .cells;
-      motion = v .motion;
-      notes = cond b (record { level = level start; moved = moved }) (v .notes);
-    }
-    go true = refl
-    go false = refl
-
 -- where the command left the notes of before
 pub noted-alike : (s : State) (x : Inputs) (task : Task) (e : Effect) (before : Notes) → e .values .notes ≡ before
     → performed s x task e .state .values ≡ keeps (x .task) (x .start) before e
 unfolding performed
 noted-alike s x task e before i =
-    notes-same (x .task) (x .start) (movedAfter (e .outcome) (e .request) (e .values .notes .moved)) (e .values)
-    ∙ ap (λ (n : ℕ). record {
-      cells = e .values .cells;
-      motion = e .values .motion;
-      notes = cond (eqb (x .task) 0) (record { level = level (x .start); moved = n }) (e .values .notes);
-    }) (moved-is (e .outcome) (e .request) (e .values .notes .moved))
-    ∙ ap (λ (n : Notes). keeps (x .task) (x .start) n e) i
+    ap (λ (n : Notes). withNotes (notesAfter (x .task) (x .start) (e .outcome) (e .request) n) (e .values)) i
+    ∙ ap (λ (k : ℕ). withNotes (cond (eqb (x .task) 0) (record { level = level (x .start); moved = k }) before) (e .values))
+    (moved-is (e .outcome) (e .request) (before .moved))
 
 pub refused-alike : (s : State) (a : Answer) → refuse s a .state ≡ s
 refused-alike s a = refl
@@ -83,10 +64,10 @@ refused-alike s a = refl
 -- ---- the note of a move and what came before
 
 -- a halt leaves the note of a move
-pub level-noted : (t start : ℕ) (q : Cause) (m : Request) (v : Values) → noted t start (movedAfter (Halt q) m (v .notes .moved)) v ≡ levelNoted t start v
+pub level-noted : (t start : ℕ) (q : Cause) (m : Request) (v : Values) → withNotes (notesAfter t start (Halt q) m (v .notes)) v ≡ levelNoted t start v
 level-noted t start q m v = go (eqb t bias)
   where
-    go : (b : Bool) → cond b (withNotes (record { level = level start; moved = v .notes .moved }) v) v ≡ record {
+    go : (b : Bool) → withNotes (cond b (record { level = level start; moved = v .notes .moved }) (v .notes)) v ≡ record {
       cells = v .cells;
       motion = v .motion;
       notes = record { level = cond b (level start) (v .notes .level); moved = v .notes .moved };
@@ -108,23 +89,23 @@ executed-is-no-halt (Halt q) p = refl
 
 -- after a command that left the notes alone
 pub moved-told : (t start : ℕ) (e : Effect) (v : Values) (p : Point) (was : Bool) → e .values .notes ≡ v .notes → v .notes .moved ≡ bit was
-    → noted t start (movedAfter (e .outcome) (e .request) (e .values .notes .moved)) (e .values) .notes .moved
+    → notesAfter t start (e .outcome) (e .request) (e .values .notes) .moved
     ≡ bit (cond (eqb t bias && executed (answerTo (e .outcome) p)) (isMove (e .request)) was)
 moved-told t start e v p was i j = rw (executed-is-no-halt (e .outcome) p) (go (eqb t bias) (isHalt (e .outcome)))
   where
     before : e .values .notes .moved ≡ bit was
     before = ap (λ (n : Notes). n .moved) i ∙ j
 
-    go : (b h : Bool) → cond b (withNotes (record { level = level start; moved = cond h (e .values .notes .moved) (bit (isMove (e .request))) }) (e .values))
-        (e .values) .notes .moved
+    go : (b h : Bool)
+        → cond b (record { level = level start; moved = cond h (e .values .notes .moved) (bit (isMove (e .request))) }) (e .values .notes) .moved
         ≡ bit (cond (b && not h) (isMove (e .request)) was)
     go true true = before
     go true false = refl
     go false h = before
 
 -- another task's step leaves the notes
-pub notes-left : (t start moved : ℕ) (v : Values) → (t ≡ bias → ⊥) → noted t start moved v .notes ≡ v .notes
-notes-left t start moved v n = rw (ne-eqb t bias n) refl
+pub notes-left : (t start : ℕ) (o : Outcome) (m : Request) (before : Notes) → (t ≡ bias → ⊥) → notesAfter t start o m before ≡ before
+notes-left t start o m before n = rw (ne-eqb t bias n) refl
 
 pub bit-clear : (b : Bool) → eqb (bit b) 0 ≡ not b
 bit-clear true = refl
@@ -132,13 +113,13 @@ bit-clear false = refl
 
 -- ---- what is noted is good
 
-pub noted-good : (t start : ℕ) (o : Outcome) (m : Request) (v : Values) → GoodValues v → GoodValues (noted t start (movedAfter o m (v .notes .moved)) v)
-noted-good t start o m v g = go (eqb t bias)
+pub noted-good : (t start : ℕ) (o : Outcome) (m : Request) (v : Values) → GoodValues v → GoodValues (withNotes (notesAfter t start o m (v .notes)) v)
+noted-good t start o m v g = notes-good v g _ (go (eqb t bias))
   where
     moved : (h : Bool) → cond h (v .notes .moved) (bit (isMove m)) ≤ mostLevel
     moved true = g .notes .moved
     moved false = bit-level (isMove m)
 
-    go : (b : Bool) → GoodValues (cond b (withNotes (record { level = level start; moved = movedAfter o m (v .notes .moved) }) v) v)
-    go true = notes-good v g _ (record { level = level-level start; moved = moved (isHalt o) })
-    go false = g
+    go : (b : Bool) → GoodNotes (cond b (record { level = level start; moved = movedAfter o m (v .notes .moved) }) (v .notes))
+    go true = record { level = level-level start; moved = moved (isHalt o) }
+    go false = g .notes

@@ -23,13 +23,13 @@ use Rattle.walk_flow.specs.declared.Flow.the-variants as flow
 use Rattle.walk.specs.Blocks.{blockAt, commandAt}
 use Rattle.walk.specs.Walk.{starts}
 use Rattle.walk.proofs.Steps.Moves.{Flows, carried}
-use Rattle.state.specs.State.{runs, ended, halted, noTask, taskAt}
+use Rattle.state.specs.State.{runs, ended, halted, noTask, taskAt, withNotes}
 use Rattle.state.specs.declared.Task.{Task}
 use Rattle.state.specs.declared.Values.{Values}
 use Rattle.state.specs.declared.State.{State}
 use Rattle.machine.specs.Inputs.{Inputs, level}
 use Rattle.machine.specs.Effect.{bit, isSet, arrived}
-use Rattle.machine.specs.Engine.{goTo, callTo, returnFrom, stayWith, restarted, startAnew, tasksAfter, pointOf, contextOf, movedAfter, noted, answerTo}
+use Rattle.machine.specs.Engine.{goTo, callTo, returnFrom, stayWith, restarted, startAnew, tasksAfter, pointOf, contextOf, notesAfter, answerTo}
 use Rattle.machine.specs.Engine.{performed, step, stopped}
 use Rattle.machine.specs.declared.StepOut.{StepOut}
 use Rattle.machine.specs.Reference.{Thread, Machine, ReferenceOut, idle, goesTo, back, anew, follows, does, referenceStep}
@@ -231,7 +231,7 @@ module _ (image : List ℕ) (ok : Accepted image) (s : State) (m : Machine) (g :
       answer-is = ap (λ (q : StepOut). q .answer) (r .engine)
 
       values-are : step image s x .state .values
-          ≡ noted t (x .start) (movedAfter o (effectHere image s x .request) (effectHere image s x .values .notes .moved)) (effectHere image s x .values)
+          ≡ withNotes (notesAfter t (x .start) o (effectHere image s x .request) (effectHere image s x .values .notes)) (effectHere image s x .values)
       unfolding performed
       values-are = ap (λ (q : StepOut). q .state .values) (r .engine)
 
@@ -296,7 +296,7 @@ module _ (image : List ℕ) (ok : Accepted image) (s : State) (m : Machine) (g :
 
       -- another task's step
       notes-are : (t ≡ bias → ⊥) → step image s x .state .values .notes ≡ s .values .notes
-      notes-are d = ap (λ (v : Values). v .notes) values-are ∙ notes-left t (x .start) _ (effectHere image s x .values) d ∙ r .law .notes
+      notes-are d = ap (λ (v : Values). v .notes) values-are ∙ notes-left t (x .start) o (effectHere image s x .request) _ d ∙ r .law .notes
 
       -- the note of a move tells of this step, or of those before
       moved-is : step image s x .state .values .notes .moved ≡ bit (movedLast image s x (past .moved))
