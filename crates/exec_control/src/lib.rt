@@ -13,7 +13,7 @@ ghost use Prim.Native.Nat.{_*_, _<_};
 ghost use lib.Dec.{eqb};
 ghost use Rattle.limits.specs.Limits.{bias, plc, mathematics, mostTime};
 ghost use Rattle.state.specs.Wait.{due};
-ghost use Rattle.machine.specs.Effect.{flows, within, natural, isSet, arrived, waits, waitsVariable, timeOf, controlRows, mathematicsRows};
+ghost use Rattle.machine.specs.Effect.{flows, within, natural, arrived, waits, waitsVariable, timeOf, controlRows, mathematicsRows};
 ghost use Rattle.machine.specs.Effect.{effectIn};
 ghost use Rattle.machine.specs.declared.Outcome.the-variants.{GoOn, Stay, Jump, Call, Return, Start, Restart, End};
 

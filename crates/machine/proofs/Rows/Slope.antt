@@ -1,7 +1,7 @@
 -- When a move starts, in document 01's words: the start mark stands, or the start input is high and was low at the preceding BIAS step. Then, and only then,
 -- a move is asked for. And what a 58 comes to.
 use Prim.Native.Nat.{ℕ}
-use mathlib.Core.Path.{_≡_, refl, sym, ap, _∙_}
+use mathlib.Core.Path.{_≡_, refl, sym, _∙_}
 use mathlib.Core.Bool.{Bool, true, false, _&&_, _||_, not, cond}
 use mathlib.Core.Logic.{_⊎_, inl, inr, _↔_}
 use mathlib.Core.List.{List}

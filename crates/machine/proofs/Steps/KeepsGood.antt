@@ -27,9 +27,8 @@ use Rattle.walk.specs.Graph.{In}
 use Rattle.walk.specs.Successors.{leadsTo as walked, flowAt, successors}
 use Rattle.walk.proofs.Points.Within.{Within, Passes, passes, successors-within}
 use Rattle.state.specs.State.{runs, ended, halted, noTask, taskAt}
-use Rattle.state.specs.GoodState.{GoodWait, GoodTask, GoodValues, GoodState}
+use Rattle.state.specs.GoodState.{GoodWait, GoodTask, GoodState}
 use Rattle.state.specs.declared.Task.{Task}
-use Rattle.state.specs.declared.Values.{Values}
 use Rattle.state.specs.declared.State.{State}
 use Rattle.state.proofs.Fresh.{getD-replicate}
 use Rattle.walk_flow.specs.Terms.{under}

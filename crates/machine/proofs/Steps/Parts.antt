@@ -33,7 +33,7 @@ use Rattle.machine.specs.Engine.{goTo, callTo, returnFrom, stayWith, res
 use Rattle.machine.specs.Engine.{performed, step, stopped}
 use Rattle.machine.specs.declared.StepOut.{StepOut}
 use Rattle.machine.specs.Reference.{Thread, Machine, ReferenceOut, idle, goesTo, back, anew, follows, does, referenceStep}
-use Rattle.machine.specs.StepRule.{Calls, withCalls, withoutLatest, callsAfter, executed, commandOf, Behind, Stopped, isMoveCode}
+use Rattle.machine.specs.StepRule.{Calls, withCalls, withoutLatest, callsAfter, executed, commandOf, Behind, Stopped}
 use Rattle.machine.specs.StepRule.{movedLast, waitOver, Past, pastAfter, StepRule}
 use Rattle.machine.specs.Allows.{Allows}
 use Rattle.machine.specs.declared.Cause.{Cause}
