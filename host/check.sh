@@ -36,7 +36,7 @@ refused() {
 }
 numbers() {
     sed -n 's/^ *number_row(b"\(.*\)"),$/\1/p' crates/vectors/src/main.rt | sed 's/\\x//g' | "$out/read_numbers" > "$out/numbers.out"
-    grep '^number ' crates/vectors/stdout | cmp - "$out/numbers.out"
+    [ -s "$out/numbers.out" ] && grep '^number ' crates/vectors/stdout | cmp - "$out/numbers.out"
 }
 pins() { "$out/list_pins" > "$out/pins.out" && grep '^type ' crates/vectors/stdout | cmp - "$out/pins.out"; }
 judged() { "$out/judge_images" < crates/images/stdin > "$out/images.out" && cmp "$out/images.out" crates/images/stdout; }

@@ -40,9 +40,9 @@
  *   2. Step BIAS, then the PLC and mathematics, each once or more. Waits (59, 5A) count BIAS steps of 1,899 or 844 us, by
  *      the drive type in the image's header and not by your own cycle: step BIAS once in that time.
  *   3. Hand each motion request to the axis before the next BIAS step, and give the axis's two bits with each step:
- *      ramp_ended and in_window. They may come a cycle late: in the first BIAS step behind a move a 58 stays whatever
- *      they are. From the second BIAS step on they have to be those of the new movement, which is up to you if you step
- *      BIAS more than once in a cycle of the axis. A stop is no move: behind one they count at once.
+ *      ramp_ended and in_window. Behind a move they may come one BIAS step late: in the first BIAS step behind it a 58
+ *      stays whatever they are; from the second on they have to be those of the new movement. A stop is no move: behind
+ *      one they have to be those of the stop at once, so hold late ones back.
  *   4. Carry the output levels from the state buffer to the pins. After a load they are all 0.
  *   5. Note 19 and 20 when they come: they come once, and from then on that task answers 18. No motion is asked for when
  *      a task halts or ends; stopping the axis is up to you.
@@ -193,17 +193,18 @@ bias_verdict bias_load(const uint8_t *image, size_t image_len,
  *                       mark waits for it to be high in a BIAS step and low in the BIAS step before it (a refused step
  *                       does not count); as load leaves it, it counts as high before
  *   ramp_ended          anything but 0: the ramps of the latest movement or stop have ended
- *   in_window           anything but 0: the position is within the window around the target. The old drive's bit is set
- *                       at an active limit switch, too (the manual at 58): give it there if a 58 is to go on
+ *   in_window           anything but 0: the position is within the window around the target; let an endless move and a
+ *                       stop leave the target where the axis is. The old drive's bit is set at an active limit switch,
+ *                       too, dependent on direction (the manual at 58): give both bits there if a 58 is to go on
  *                       A 58 passes when both are given and the preceding BIAS step carried out no move (a step that was
  *                       refused or halted does not count, nor do other tasks' steps); else it stays. With no move since
  *                       the load the two bits alone decide
  *
  * 15, 16, 18 and 17 are tested in this order, and a step that they refuse leaves the state buffer as it was. 18 is no
  * fault: a task that is not running has nothing to do. 19 and 20 halt the task and, in a BIAS step, note the start
- * input's level; the rest of the state stays, and with it whether the BIAS step before was a move. The task stays halted
- * until a 54, 57 or 90 of another task starts it anew. In a run from an accepted load, with image and state left alone,
- * 16 and 17 do not come. */
+ * input's level; the rest of the state stays, and with it the note whether the latest BIAS step that was carried out was
+ * a move. The task stays halted until a 54, 57 or 90 of another task starts it anew. In a run from an accepted load,
+ * with image and state left alone, 16 and 17 do not come. */
 bias_answer bias_step(const uint8_t *image, size_t image_len,
                       uint8_t *state, size_t state_len,
                       uint32_t task,

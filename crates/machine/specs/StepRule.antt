@@ -1,6 +1,6 @@
 -- What holds at every step of a run, by itself (demand 3, parts 4 to 6 and 8 in docs/PROMISES.md): a return goes behind its task's own latest open call, a
--- task stops only itself and for a named reason, no step moves another task but by 54, 57 and 90, and a 58 goes on exactly when the position is reached and no
--- move came right before.
+-- task stops only itself and for a named reason, no step moves another task but by 54, 57 and 90, and a 58 goes on exactly when the ramp has ended, the position
+-- is in the window and no move came right before.
 use Prim.Native.Nat.{ℕ, _+_, _<_}
 use mathlib.Core.Path.{_≡_}
 use mathlib.Core.Bool.{Bool, true, false, _&&_, _||_, not, cond}

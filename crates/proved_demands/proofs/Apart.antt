@@ -164,7 +164,7 @@ module _ (d : Demand) (image : List ℕ) (n : ℕ) (b : List ℕ) where
         × (taskAt (decoded (bufferAfter image (load image n b .buffer) xs)) t .depth ≤ mostDepth)
     block-fits t l r = let p = run .permitted t l r in (permitted-fits image t _ p, p .depth)
 
-    -- 4 to 6
+    -- 4 to 6 and 8
     pub steps-are : EveryStepOn image noPast (load image n b .buffer) xs × (isState (bufferAfter image (load image n b .buffer) xs) ≡ true)
     steps-are = (run .steps, run .held)
 

@@ -1,5 +1,5 @@
 -- What is shown of every command, and how the forms of effects come by it: the outcome is in the flow, a pending time goes with a wait and is not
--- due, a halt has its reason, and good values stay good.
+-- due, a halt has its reason, good values stay good, the notes of BIAS stay, and a move is asked for only where one starts.
 use Prim.Native.Nat.{ℕ, _+_, _≤_}
 use mathlib.Core.Path.{_≡_, refl, sym, ap, _∙_}
 use mathlib.Core.Bool.{Bool, true, false, not, _||_, cond, or-true}

@@ -167,7 +167,7 @@ module _ {image : List ℕ} {past : Past} {s : State} {x : Inputs} (e : StepRule
     pub stays-outside : x .inWindow ≡ 0 → taskAt (step image s x .state) (x .task) .block ≡ taskAt s (x .task) .block
     stays-outside z = block-after false (rw (z, and-false (isSet (x .rampEnded))) refl)
 
-    -- and goes on where both are given and the BIAS step before was no move
+    -- and goes on where both are given and the latest executed BIAS step was no move
     pub goes-on : (x .rampEnded ≡ 0 → ⊥) → (x .inWindow ≡ 0 → ⊥) → past .moved ≡ false
         → taskAt (step image s x .state) (x .task) .block ≡ taskAt s (x .task) .block + 1
     goes-on r w m = block-after true (rw (ne-eqb (x .rampEnded) 0 r, ne-eqb (x .inWindow) 0 w, m) refl)
