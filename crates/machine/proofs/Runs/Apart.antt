@@ -27,7 +27,8 @@ use Rattle.machine.specs.Engine.{step, pointOf, stopped, blockFits}
 use Rattle.machine.specs.Reference.{Thread, Machine, ReferenceOut, threadAt, idle}
 use Rattle.machine.specs.Alike.{returnsOf, SameTask, SameValues, Alike}
 use Rattle.machine.specs.Run.{SameHanded, Permitted}
-use Rattle.machine.specs.StepRule.{Past, pastAfter, waitOver, levelNoted, commandOf, executed, Behind, Reason, Stopped, StepRule, EachStep}
+use Rattle.machine.specs.StepRule.{withoutLatest, counts, callsAfter, Past, pastAfter, isMoveCode, asksMotion, waitOver, levelNoted, commandOf}
+use Rattle.machine.specs.StepRule.{executed, Behind, Reason, Stopped, StepRule, EachStep}
 use Rattle.machine.specs.declared.Cause.{Cause}
 use Rattle.machine.specs.declared.Request.the-variants.{None}
 use Rattle.machine.specs.declared.Answer.{Answer}
@@ -171,6 +172,40 @@ module _ {image : List ℕ} {past : Past} {s : State} {x : Inputs} (e : StepRule
     pub goes-on : (x .rampEnded ≡ 0 → ⊥) → (x .inWindow ≡ 0 → ⊥) → past .moved ≡ false
         → taskAt (step image s x .state) (x .task) .block ≡ taskAt s (x .task) .block + 1
     goes-on r w m = block-after true (rw (ne-eqb (x .rampEnded) 0 r, ne-eqb (x .inWindow) 0 w, m) refl)
+
+-- what is told of the steps before comes from codes, answers and requests alone, of whatever state
+module _ (image : List ℕ) (past : Past) (s : State) (x : Inputs) where
+  -- a call opens, behind the block of its 52; a return takes the latest off
+  pub tells-a-call : executed (step image s x .answer) ≡ true → commandOf image s x .code ≡ 0x52
+      → pastAfter image s x past .calls (x .task) ≡ taskAt s (x .task) .block ∷ past .calls (x .task)
+  unfolding pastAfter callsAfter counts
+  tells-a-call a c = rw (a, c, eq-eqb (x .task) (x .task) refl) refl
+
+  pub tells-a-return : executed (step image s x .answer) ≡ true → commandOf image s x .code ≡ 0x53
+      → pastAfter image s x past .calls (x .task) ≡ withoutLatest (past .calls (x .task))
+  unfolding pastAfter callsAfter counts
+  tells-a-return a c = rw (a, c, eq-eqb (x .task) (x .task) refl) refl
+
+  -- a move of BIAS that was carried out
+  pub tells-a-move : x .task ≡ bias → executed (step image s x .answer) ≡ true → isMoveCode (commandOf image s x .code) ≡ true
+      → asksMotion (step image s x .request) ≡ true → pastAfter image s x past .moved ≡ true
+  unfolding pastAfter
+  tells-a-move t a c r = λ ι. cond (eq-eqb (x .task) bias t ι && a ι) (c ι && r ι) (past .moved)
+
+  -- another command of BIAS that was executed, or a move that asked for nothing
+  pub tells-none : x .task ≡ bias → executed (step image s x .answer) ≡ true
+      → (isMoveCode (commandOf image s x .code) && asksMotion (step image s x .request)) ≡ false → pastAfter image s x past .moved ≡ false
+  unfolding pastAfter
+  tells-none t a n = rw (eq-eqb (x .task) bias t, a, n) refl
+
+  -- a step of another task, and one that was refused or halted its task, leave it as it was
+  pub others-tell-nothing : (x .task ≡ bias → ⊥) → pastAfter image s x past .moved ≡ past .moved
+  unfolding pastAfter
+  others-tell-nothing n = rw (ne-eqb (x .task) bias n) refl
+
+  pub refused-tell-nothing : executed (step image s x .answer) ≡ false → pastAfter image s x past .moved ≡ past .moved
+  unfolding pastAfter
+  refused-tell-nothing f = rw (f, and-false (eqb (x .task) bias)) refl
 
 pub first-step : {image : List ℕ} {past : Past} {s : State} {x : Inputs} {xs : List Inputs} → EachStep image past s (x ∷ xs)
     → StepRule image past s x × EachStep image (pastAfter image s x past) (step image s x .state) xs
