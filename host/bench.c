@@ -1,8 +1,11 @@
 /* bench.c - times, stack and size of the library beside the reference, in one run: ns a step by group of commands, us a
- * load, ns a write, stack of each function, bytes of each archive. Buffers are warm; each figure is the best of several
+ * load, ns a write, stack of each function, bytes of each archive. Buffers are warm; in each row a round of the library
+ * and one of the reference take turns, so that a machine that slows down slows both, and each figure is the best of its
  * rounds. Usage: bench [--rounds N] [LIBRARY_ARCHIVE REFERENCE_ARCHIVE]
- *        bench --rows          the names of the steps and loads that are timed
+ *        bench --rows          the names of the steps and loads
  *        bench --once ROW      does the calls of that row once, by the library, and prints how many; for host/count.sh
+ * The worst load is looked for among worst.img of the host folder or of host/port, if it is there, and images that are
+ * made here; to be counted, each of these has a row of its own in --rows.
  */
 #define _GNU_SOURCE
 #include <pthread.h>
@@ -13,6 +16,7 @@
 #include <sys/stat.h>
 #include <time.h>
 
+#include "beside.h"
 #include "bias.h"
 #include "reference.h"
 
@@ -24,9 +28,9 @@
 #define GOAL_LOAD_RATIO 3.0
 #define GOAL_STACK 16384u
 
-enum { DEFAULT_ROUNDS = 5, STEPS_A_ROUND = 20000, WRITES_A_ROUND = 2000, MOST_ROW = 12, SIDES = 2 };
+enum { DEFAULT_ROUNDS = 9, STEPS_A_ROUND = 10000, LOADS_A_ROUND = 10, WRITES_A_ROUND = 2000, MOST_ROW = 12, SIDES = 2 };
 /* Blocks before a circle's jump back; ten rounds of most circles. */
-enum { CIRCLE = 60, STEPS_ONCE = 10 * (CIRCLE + 1) };
+enum { CIRCLE = 60, STEPS_ONCE = 10 * (CIRCLE + 1), PATH_ROOM = 4096 };
 
 typedef struct {
     const char *name;
@@ -53,6 +57,7 @@ static uint8_t marks[BIAS_MARKS_LENGTH];
 static uint8_t state[BIAS_STATE_LENGTH];
 static uint8_t inputs[BIAS_INPUTS_LENGTH];
 static int rounds = DEFAULT_ROUNDS;
+static uint32_t answers; /* so that no call is left out */
 
 /* What is asked for: times, the rows' names, or one row's calls once. */
 typedef enum { TIMES, ROWS, ONCE } purpose;
@@ -65,6 +70,26 @@ static double now(void)
     struct timespec time;
     clock_gettime(CLOCK_MONOTONIC, &time);
     return (double)time.tv_sec * 1e9 + (double)time.tv_nsec;
+}
+
+/* ---- timing ---- */
+
+/* Does so many calls by one side. */
+typedef void (*calling)(const side *, const void *, int);
+
+/* ns a call, for each side: their rounds take turns. */
+static void time_calls(calling call, const void *what, int calls, double *figures)
+{
+    for (int at = 0; at < SIDES; at++)
+        figures[at] = 1e18;
+    for (int turn = 0; turn < SIDES * rounds; turn++) {
+        const int at = turn % SIDES;
+        const double begun = now();
+        call(&sides[at], what, calls);
+        const double taken = (now() - begun) / calls;
+        if (taken < figures[at])
+            figures[at] = taken;
+    }
 }
 
 /* ---- programs ---- */
@@ -175,36 +200,18 @@ static void make_control(uint8_t code)
     make_image(BIAS_TYPE_637);
 }
 
-static uint32_t answers; /* so that no call is left out */
+/* Steps of one task from a state on. */
+typedef struct {
+    const uint8_t *begin;
+    uint32_t task;
+} stepping;
 
-/* ns a step on the state as it stands. */
-static double time_steps(const side *s, const uint8_t *begin, uint32_t task)
+static void do_steps(const side *s, const void *what, int steps)
 {
-    double best = 1e18;
-    for (int round = 0; round < rounds; round++) {
-        memcpy(state, begin, sizeof state);
-        const double begun = now();
-        for (int step = 0; step < STEPS_A_ROUND; step++)
-            answers += s->step(image, image_len, state, sizeof state, task, inputs, sizeof inputs, 0, 0, 0).number;
-        const double taken = (now() - begun) / STEPS_A_ROUND;
-        if (taken < best)
-            best = taken;
-    }
-    return best;
-}
-
-static void step_once(const uint8_t *begin, uint32_t task)
-{
-    memcpy(state, begin, sizeof state);
-    for (int step = 0; step < STEPS_ONCE; step++)
-        answers += bias_step(image, image_len, state, sizeof state, task, inputs, sizeof inputs, 0, 0, 0).number;
-    printf("%d\n", STEPS_ONCE);
-}
-
-static void load_once(void)
-{
-    answers += bias_load(image, image_len, marks, sizeof marks, state, sizeof state).number;
-    printf("1\n");
+    const stepping *from = what;
+    memcpy(state, from->begin, sizeof state);
+    for (int step = 0; step < steps; step++)
+        answers += s->step(image, image_len, state, sizeof state, from->task, inputs, sizeof inputs, 0, 0, 0).number;
 }
 
 /* What to do with a row now: TIMES to time it, ONCE to do its calls once, ROWS for nothing more. Prints its name where
@@ -221,19 +228,27 @@ static purpose begin_row(const char *name)
     return ONCE;
 }
 
+/* Begins a row: does its calls once if they are asked for; gives whether it is to be timed. */
+static int timed_row(const char *name, calling call, const void *what, int calls)
+{
+    const purpose now_asked = begin_row(name);
+    if (now_asked == ONCE) {
+        call(&sides[0], what, calls);
+        printf("%d\n", calls);
+    }
+    return now_asked == TIMES;
+}
+
 /* The slowest group, and all groups together, for the goals. */
 static double slowest_step, all_steps[SIDES];
 
 static void bench_steps(const char *name, const uint8_t *begin, uint32_t task)
 {
     double figures[SIDES];
-    const purpose now_asked = begin_row(name);
-    if (now_asked == ONCE)
-        step_once(begin, task);
-    if (now_asked != TIMES)
+    const stepping from = {begin, task};
+    if (!timed_row(name, do_steps, &from, STEPS_ONCE))
         return;
-    for (int at = 0; at < SIDES; at++)
-        figures[at] = time_steps(&sides[at], begin, task);
+    time_calls(do_steps, &from, STEPS_A_ROUND, figures);
     print_row(name, figures);
     if (figures[0] > slowest_step)
         slowest_step = figures[0];
@@ -250,10 +265,22 @@ static void load_begin(uint8_t *begin)
     }
 }
 
+/* A program of two blocks: a variable is set, then it jumps back. */
+static void make_pair(void)
+{
+    count = 0;
+    put(count++, 0x80, 0, 9, 0);
+    put_jump(count++, 0x55, 0);
+}
+
 static void bench_all_steps(void)
 {
     uint8_t begin[BIAS_STATE_LENGTH];
     print_head("a step", "ns");
+    make_pair();
+    make_image(BIAS_TYPE_637);
+    load_begin(begin);
+    bench_steps("a step (80, 55)", begin, BIAS_TASK_BIAS);
     for (size_t at = 0; at < sizeof groups / sizeof groups[0]; at++) {
         make_circle(&groups[at]);
         load_begin(begin);
@@ -281,11 +308,12 @@ static void bench_all_steps(void)
 
 /* ---- loads ---- */
 
+static uint32_t random_state = 637;
+
 static uint32_t next_random(void)
 {
-    static uint32_t seed = 637;
-    seed = seed * 1664525u + 1013904223u;
-    return seed >> 8;
+    random_state = random_state * 1664525u + 1013904223u;
+    return random_state >> 8;
 }
 
 /* One block: what a load costs whatever the length of the program. */
@@ -359,18 +387,24 @@ static void make_zigzag(void)
     put_jump(low, 0x55, low);
 }
 
-/* One chain through all blocks in random order. */
-static void make_shuffled(void)
+/* Blocks in random order, the first one first. */
+static void shuffle(uint32_t *order, uint32_t first, uint32_t length)
 {
-    static uint32_t order[BIAS_MOST_BLOCKS];
-    const uint32_t common = make_ladder(0), length = BIAS_MOST_BLOCKS - common;
     for (uint32_t at = 0; at < length; at++)
-        order[at] = common + at;
+        order[at] = first + at;
     for (uint32_t at = length - 1; at > 1; at--) {
         const uint32_t other = 1 + next_random() % at, kept = order[at];
         order[at] = order[other];
         order[other] = kept;
     }
+}
+
+/* One chain through all blocks in random order. */
+static void make_shuffled(void)
+{
+    static uint32_t order[BIAS_MOST_BLOCKS];
+    const uint32_t common = make_ladder(0), length = BIAS_MOST_BLOCKS - common;
+    shuffle(order, common, length);
     for (uint32_t at = 0; at < length; at++)
         put_jump(order[at], 0x55, order[at + 1 < length ? at + 1 : at]);
 }
@@ -385,20 +419,116 @@ static void make_both_ways(void)
     put_jump(BIAS_MOST_BLOCKS - 1, 0x55, BIAS_MOST_BLOCKS - 2);
 }
 
-static double time_load(const side *s)
+/* ---- hard images: what makes a search go far, by a seed ---- */
+
+/* Branches and jumps from anywhere to anywhere, at all depths in three tasks. */
+static void make_random(void)
 {
-    double best = 1e18;
-    for (int round = 0; round < rounds; round++) {
-        const double begun = now();
-        answers += s->load(image, image_len, marks, sizeof marks, state, sizeof state).number;
-        const double taken = (now() - begun) / 1000.0;
-        if (taken < best)
-            best = taken;
+    const uint32_t common = make_ladder(0);
+    for (uint32_t at = common; at < BIAS_MOST_BLOCKS; at++) {
+        const uint32_t to = common + next_random() % (BIAS_MOST_BLOCKS - common);
+        if (at + 1 < BIAS_MOST_BLOCKS && next_random() % 4 != 0)
+            put_branch(at, to);
+        else
+            put_jump(at, 0x55, to);
     }
-    return best;
+}
+
+/* Each block of the lower half may go to one near the far end, which leads back behind it. */
+static void make_far_and_back(void)
+{
+    uint32_t low = make_ladder(0), high = BIAS_MOST_BLOCKS - 1;
+    for (; low <= high; low++, high--) {
+        put_branch(low, high - next_random() % 8);
+        put_jump(high, 0x55, low + 1);
+    }
+}
+
+/* A chain through all blocks in random order, whose end calls its beginning: each task goes over it once for each depth
+ * in turn. Refused by 10 in the end. */
+static void make_waves(void)
+{
+    static uint32_t order[BIAS_MOST_BLOCKS];
+    const uint32_t first = 2, length = BIAS_MOST_BLOCKS - 1 - first;
+    shuffle(order, first, length);
+    put_jump(0, 0x54, first);
+    put_jump(1, 0x90, first);
+    for (uint32_t at = 0; at + 1 < length; at++)
+        put_jump(order[at], 0x55, order[at + 1]);
+    put_jump(order[length - 1], 0x52, first);
+    put_jump(BIAS_MOST_BLOCKS - 1, 0x55, first);
+    count = BIAS_MOST_BLOCKS;
+}
+
+static const struct {
+    const char *name;
+    void (*make)(void);
+} hard_images[] = {
+    {"random", make_random}, {"far and back", make_far_and_back}, {"shuffled", make_shuffled}, {"waves", make_waves},
+};
+
+/* Some of each kind, and behind them one that somebody may have found. */
+enum { SEEDS = 3, MADE = SEEDS * (int)(sizeof hard_images / sizeof hard_images[0]), HARD_IMAGES = MADE + 1 };
+enum { NAME_ROOM = 64 };
+#define WORST_ROW "load, worst found"
+
+/* Where that one may be, seen from the host folder; host/port/climb.sh puts it there. */
+static const char *const worst_files[] = {"worst.img", "port/worst.img"};
+
+/* Reads it; gives its name, or NULL where there is none. */
+static const char *read_worst(const char *program)
+{
+    char path[PATH_ROOM];
+    for (size_t at = 0; at < sizeof worst_files / sizeof worst_files[0]; at++) {
+        FILE *file = beside(program, worst_files[at], path, sizeof path) ? fopen(path, "rb") : NULL;
+        if (file != NULL) {
+            image_len = fread(image, 1, sizeof image, file);
+            fclose(file);
+            return worst_files[at];
+        }
+    }
+    return NULL;
+}
+
+/* The hard image of a number, and its name; gives 0 where there is none. */
+static int make_hard(int number, const char *program, char *name)
+{
+    const int kind = number / SEEDS, seed = number % SEEDS + 1;
+    if (number == MADE) {
+        const char *const found = read_worst(program);
+        snprintf(name, NAME_ROOM, "%s", found == NULL ? "" : found);
+        return found != NULL;
+    }
+    random_state = (uint32_t)seed;
+    hard_images[kind].make();
+    make_image(BIAS_TYPE_637);
+    snprintf(name, NAME_ROOM, "hard load, %s %d", hard_images[kind].name, seed);
+    return 1;
+}
+
+/* ---- loads timed ---- */
+
+static void do_loads(const side *s, const void *what, int loads)
+{
+    (void)what;
+    for (int at = 0; at < loads; at++)
+        answers += s->load(image, image_len, marks, sizeof marks, state, sizeof state).number;
 }
 
 static double worst_load, worst_load_ratio, straight_load;
+
+/* us a load of the image as it stands. */
+static void time_load(const char *name, double *figures)
+{
+    time_calls(do_loads, NULL, LOADS_A_ROUND, figures);
+    for (int at = 0; at < SIDES; at++)
+        figures[at] /= 1000.0;
+    print_row(name, figures);
+    if (figures[0] > worst_load)
+        worst_load = figures[0];
+    if (figures[0] / figures[1] > worst_load_ratio)
+        worst_load_ratio = figures[0] / figures[1];
+}
 
 static void bench_load(const char *name, void (*make)(void))
 {
@@ -406,26 +536,57 @@ static void bench_load(const char *name, void (*make)(void))
     make();
     make_image(BIAS_TYPE_637);
     load_begin(state);
-    const purpose now_asked = begin_row(name);
-    if (now_asked == ONCE)
-        load_once();
-    if (now_asked != TIMES)
+    if (!timed_row(name, do_loads, NULL, 1))
         return;
-    for (int at = 0; at < SIDES; at++)
-        figures[at] = time_load(&sides[at]);
-    print_row(name, figures);
-    if (figures[0] > worst_load)
-        worst_load = figures[0];
-    if (figures[0] / figures[1] > worst_load_ratio)
-        worst_load_ratio = figures[0] / figures[1];
+    time_load(name, figures);
     if (make == make_straight)
         straight_load = figures[0];
 }
 
-static void bench_all_loads(void)
+/* Which hard image takes the library longest, by the quickest load of each; they take turns, too. */
+static int hardest(const char *program)
 {
-    print_head("a load of 1,500 blocks, the first of one", "us");
+    double quickest[HARD_IMAGES] = {0};
+    char name[NAME_ROOM];
+    int most = 0;
+    for (int turn = 0; turn < HARD_IMAGES * rounds; turn++) {
+        const int number = turn % HARD_IMAGES;
+        if (!make_hard(number, program, name))
+            continue;
+        const double begun = now();
+        do_loads(&sides[0], NULL, 1);
+        const double taken = now() - begun;
+        if (turn < HARD_IMAGES || taken < quickest[number])
+            quickest[number] = taken;
+    }
+    for (int number = 1; number < HARD_IMAGES; number++)
+        if (quickest[number] > quickest[most])
+            most = number;
+    return most;
+}
+
+/* The worst load. Which image that is, is told by time and so may change from run to run: to be counted, each image has
+ * a row of its own. */
+static void bench_worst(const char *program)
+{
+    double figures[SIDES];
+    char name[NAME_ROOM];
+    if (asked == TIMES) {
+        make_hard(hardest(program), program, name);
+        time_load(WORST_ROW, figures);
+        printf("  (%s)\n", name);
+        return;
+    }
+    for (int number = 0; number < HARD_IMAGES; number++)
+        if (make_hard(number, program, name))
+            timed_row(number < MADE ? name : WORST_ROW, do_loads, NULL, 1);
+}
+
+static void bench_all_loads(const char *program)
+{
+    print_head("a load of 1,500 blocks, or as many as it says", "us");
     bench_load("one block", make_one);
+    bench_load("load of 2 blocks", make_pair);
     bench_load("straight code", make_straight);
     bench_load("branches everywhere", make_branches);
     bench_load("calls at all depths in three tasks", make_calls);
@@ -433,25 +594,23 @@ static void bench_all_loads(void)
     bench_load("all places, zigzag", make_zigzag);
     bench_load("all places, shuffled", make_shuffled);
     bench_load("all places, both ways", make_both_ways);
+    bench_worst(program);
 }
 
 /* ---- writes ---- */
 
+static void do_writes(const side *s, const void *what, int writes)
+{
+    const uint32_t *blocks_count = what;
+    for (int at = 0; at < writes; at++)
+        answers += s->write(BIAS_FORMAT, BIAS_TYPE_637, 0, 0, 0, *blocks_count, &blocks[0][0],
+                            sizeof(block) * *blocks_count, image, sizeof image).number;
+}
+
 static void bench_writes(uint32_t blocks_count, const char *name)
 {
     double figures[SIDES];
-    for (int at = 0; at < SIDES; at++) {
-        figures[at] = 1e18;
-        for (int round = 0; round < rounds; round++) {
-            const double begun = now();
-            for (int write = 0; write < WRITES_A_ROUND; write++)
-                answers += sides[at].write(BIAS_FORMAT, BIAS_TYPE_637, 0, 0, 0, blocks_count, &blocks[0][0],
-                                           sizeof(block) * blocks_count, image, sizeof image).number;
-            const double taken = (now() - begun) / WRITES_A_ROUND;
-            if (taken < figures[at])
-                figures[at] = taken;
-        }
-    }
+    time_calls(do_writes, &blocks_count, WRITES_A_ROUND, figures);
     print_row(name, figures);
 }
 
@@ -586,10 +745,10 @@ static int wrong_usage(void)
 }
 
 /* The rows' names, or the calls of one row. */
-static int do_rows(void)
+static int do_rows(const char *program)
 {
     bench_all_steps();
-    bench_all_loads();
+    bench_all_loads(program);
     if (asked == ONCE && !row_found) {
         fprintf(stderr, "bench: no row '%s'\n", wanted_row);
         return 2;
@@ -604,12 +763,12 @@ int main(int argc, char **argv)
     inputs[11] = 1;
     if (strcmp(option, "--rows") == 0) {
         asked = ROWS;
-        return argc == 2 ? do_rows() : wrong_usage();
+        return argc == 2 ? do_rows(argv[0]) : wrong_usage();
     }
     if (strcmp(option, "--once") == 0) {
         asked = ONCE;
         wanted_row = argv[2];
-        return argc == 3 ? do_rows() : wrong_usage();
+        return argc == 3 ? do_rows(argv[0]) : wrong_usage();
     }
     if (strcmp(option, "--rounds") == 0) {
         rounds = argc > 2 ? atoi(argv[2]) : 0;
@@ -618,7 +777,7 @@ int main(int argc, char **argv)
     if (rounds < 1 || (argc != at && argc != at + 2))
         return wrong_usage();
     bench_all_steps();
-    bench_all_loads();
+    bench_all_loads(argv[0]);
     print_head("a write", "ns");
     bench_writes(14, "14 blocks");
     bench_writes(BIAS_MOST_BLOCKS, "1,500 blocks");

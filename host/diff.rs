@@ -5,6 +5,8 @@
 mod case;
 #[path = "diff/crash.rs"]
 mod crash;
+#[path = "diff/ends.rs"]
+mod ends;
 #[path = "diff/library.rs"]
 mod library;
 #[path = "diff/make.rs"]
@@ -112,11 +114,11 @@ fn compare(options: &Options) -> Result<(), String> {
             said = Instant::now();
         }
     }
-    println!("seed {}, {number} cases, {} steps, {:.1} s", options.seed, tally.steps_done(), begun.elapsed().as_secs_f64());
+    println!("seed {}, {number} cases, {:.1} s", options.seed, begun.elapsed().as_secs_f64());
     let missing = tally.report();
     if missing.is_empty() {
         println!("no difference; all 57 commands carried out, all numbers 0 to 20 and 23 met,");
-        println!("58s that passed and that a move held back, halts right behind a move");
+        println!("58s that passed and that a move held back, halts right behind a move, all ends of ranges");
         return Ok(());
     }
     Err(format!("not all was met: {}", missing.join(", ")))

@@ -1,16 +1,21 @@
-/* example.c - the main job: loads a BIAS image, steps its three tasks cycle by cycle with a simple axis, and prints a
- * trace that a person can read. Usage: example [--cycles N] [--quiet] [FILE]
+/* example.c - the main job: loads a BIAS image, steps its three tasks cycle by cycle with a simple axis and with input
+ * levels by a script, and prints a trace that a person can read.
+ * Usage: example [--cycles N] [--quiet] [--inputs SCRIPT] [FILE]
  */
+#include <limits.h>
 #include <stdio.h>
 #include <stdlib.h>
 #include <string.h>
 
+#include "beside.h"
 #include "bias.h"
+#include "inputs.h"
 #include "listing.h"
 
-enum { TASKS = 3, TEXT_ROOM = 96, CHANGES_ROOM = 512, DEFAULT_CYCLES = 3000, EXIT_REFUSED = 1, EXIT_USAGE = 2 };
+enum { TASKS = 3, TEXT_ROOM = 96, CHANGES_ROOM = 512, PATH_ROOM = 4096, DEFAULT_CYCLES = 3000 };
+enum { EXIT_REFUSED = 1, EXIT_USAGE = 2 };
 enum { WAIT_FOR_POSITION = 0x58 };
-#define DEFAULT_IMAGE "host/feed.img"
+#define DEFAULT_IMAGE "feed.img"
 
 /* Where a trace finds the rest of the state (docs/STATE.md). Firmware has no need of these: they may move. */
 enum {
@@ -48,7 +53,9 @@ typedef struct {
     uint8_t *image;
     size_t image_len;
     uint8_t state[BIAS_STATE_LENGTH];
-    uint8_t inputs[BIAS_INPUTS_LENGTH];
+    const char *script_name; /* NULL for none */
+    inputs_script script;
+    uint8_t levels[INPUTS_COUNT]; /* of the pins, which are lent as they stand here, and of the rest of the script */
     axis axis;
     axis_bits given; /* with the steps of this cycle */
     unsigned long cycles, cycle;
@@ -254,8 +261,8 @@ static int step_task(run *program, unsigned task)
     uint8_t before[BIAS_STATE_LENGTH];
     memcpy(before, program->state, sizeof before);
     bias_answer answer = bias_step(program->image, program->image_len, program->state, sizeof program->state, task,
-                                   program->inputs, sizeof program->inputs, 0, program->given.ramp_ended,
-                                   program->given.in_window);
+                                   program->levels, BIAS_INPUTS_LENGTH, program->levels[INPUTS_START],
+                                   program->given.ramp_ended, program->given.in_window);
     if (answer.number == BIAS_NOT_RUNNING)
         return 1;
     if (answer.number == BIAS_BAD_INPUTS || answer.number == BIAS_NO_STATE || answer.number == BIAS_OTHER_IMAGE) {
@@ -271,6 +278,24 @@ static int step_task(run *program, unsigned task)
     return 1;
 }
 
+/* Puts into force what the script has for this cycle. */
+static void follow_script(run *program)
+{
+    char text[TEXT_ROOM];
+    for (const inputs_line *line; (line = inputs_due(&program->script, program->cycle)) != NULL;) {
+        program->levels[line->what] = line->level;
+        inputs_text(line, text, sizeof text);
+        if (!program->quiet)
+            printf("%7lu  %-16s  %s\n", program->cycle, "host", text);
+    }
+}
+
+/* What the script has for a bit of the axis goes before what the axis says. */
+static uint8_t bit_given(const run *program, uint32_t what, uint8_t reported)
+{
+    return program->levels[what] == INPUTS_AXIS ? reported : program->levels[what];
+}
+
 /* Document 01: BIAS, PLC and mathematics, one command each in a trajectory cycle; then the axis moves. Its bits come a
  * cycle late: it reports before the steps of a cycle, and the steps of the next cycle are given that. So in the cycle
  * after a start they still speak of the movement before. Nothing is done about it here: the library has a 58 stay. */
@@ -278,7 +303,9 @@ static int run_cycles(run *program)
 {
     axis_bits report = axis_report(&program->axis);
     for (program->cycle = 0; program->cycle < program->cycles; program->cycle++) {
-        program->given = report;
+        follow_script(program);
+        program->given.ramp_ended = bit_given(program, INPUTS_RAMP, report.ramp_ended);
+        program->given.in_window = bit_given(program, INPUTS_WINDOW, report.in_window);
         report = axis_report(&program->axis);
         for (unsigned task = 0; task < TASKS; task++)
             if (!step_task(program, task))
@@ -299,13 +326,19 @@ static void print_summary(const run *program)
             printf(" at block %u, depth %u", word(record + IN_TASK_BLOCK), record[IN_TASK_DEPTH]);
         printf(", %lu steps\n", program->steps[task]);
     }
+    if (program->script_name != NULL)
+        printf("%s: %lu of %lu lines came into force\n", program->script_name, (unsigned long)program->script.next,
+               (unsigned long)program->script.count);
 }
 
+/* Gives an exit status. */
 static int load(run *program, const char *name)
 {
     uint8_t *marks = malloc(BIAS_MARKS_LENGTH);
-    if (marks == NULL)
-        return 0;
+    if (marks == NULL) {
+        perror("marks");
+        return EXIT_USAGE;
+    }
     bias_verdict verdict = bias_load(program->image, program->image_len, marks, BIAS_MARKS_LENGTH, program->state,
                                      sizeof program->state);
     free(marks);
@@ -313,7 +346,7 @@ static int load(run *program, const char *name)
         printf("%s: accepted, %lu bytes, drive %s, program start %u, %u blocks\n", name, (unsigned long)program->image_len,
                listing_type(program->state[AT_HEADER + 1]), word(program->state + AT_HEADER + 4),
                word(program->state + AT_HEADER + 6));
-        return 1;
+        return EXIT_SUCCESS;
     }
     fprintf(stderr, "%s: refused by %u at %s %llu", name, (unsigned)verdict.number, listing_place(verdict.number),
             (unsigned long long)verdict.place);
@@ -322,7 +355,7 @@ static int load(run *program, const char *name)
     char text[LISTING_ROOM];
     listing_verdict(program->image, &verdict, text, sizeof text);
     fprintf(stderr, ": %s\n", text);
-    return 0;
+    return EXIT_REFUSED;
 }
 
 /* Reads a whole file; one byte more than the longest image is enough to have it refused. */
@@ -346,54 +379,83 @@ static int read_image(run *program, const char *name)
 
 static void usage(FILE *to)
 {
-    fprintf(to, "usage: example [--cycles N] [--quiet] [FILE]\n"
-                "Loads a BIAS image (default " DEFAULT_IMAGE "), runs it for N trajectory cycles (default %d)\n"
-                "with a simple axis, and prints each step: cycle, task, block, depth, command, what changed,\n"
-                "motion request. --quiet prints motion requests, halts and the summary only.\n", DEFAULT_CYCLES);
+    fprintf(to, "usage: example [--cycles N] [--quiet] [--inputs SCRIPT] [FILE]\n"
+                "Loads a BIAS image, runs it for N trajectory cycles (default %d) with a simple axis, and prints each\n"
+                "step: cycle, task, block, depth, command, what changed, motion request. Without FILE it runs\n"
+                DEFAULT_IMAGE ", which stands beside the program or in the checkout's host folder.\n"
+                "--quiet prints motion requests, halts and the summary only.\n"
+                "--inputs gives levels by a script of lines CYCLE WHAT LEVEL. From its cycle on a level holds; cycles\n"
+                "count from 0 and do not go backwards; what no line names is 0, and the bits are the axis's own.\n"
+                "    120 7 1        input pin 7 (0 to 255)\n"
+                "    200 start 1    the start input; a program that reads it as a pin as well needs a line for the pin\n"
+                "    210 ramp 0     ramp ended, whatever the axis says; ramp axis gives the bit back to the axis\n"
+                "    210 window 1   in window, likewise\n"
+                "    # a comment\n", DEFAULT_CYCLES);
 }
 
-/* Gives the image's name, or NULL after a message. */
-static const char *options(run *program, int argc, char **argv)
+/* Reads the command line; gives 0 for one that is not understood. */
+static int options(run *program, int argc, char **argv, const char **image_name)
 {
-    const char *name = DEFAULT_IMAGE;
     for (int at = 1; at < argc; at++) {
-        char *end = NULL;
         if (strcmp(argv[at], "--quiet") == 0) {
             program->quiet = 1;
         } else if (strcmp(argv[at], "--cycles") == 0 && at + 1 < argc) {
-            program->cycles = strtoul(argv[++at], &end, 10);
-            if (*end != '\0' || end == argv[at])
-                return NULL;
+            if (!inputs_number(argv[++at], ULONG_MAX, &program->cycles))
+                return 0;
+        } else if (strcmp(argv[at], "--inputs") == 0 && at + 1 < argc) {
+            program->script_name = argv[++at];
         } else if (argv[at][0] == '-') {
-            return NULL;
+            return 0;
         } else {
-            name = argv[at];
+            *image_name = argv[at];
         }
     }
-    return name;
+    return 1;
+}
+
+/* Reads and loads the image that is named, or else the one that goes with the program, which the trace calls by its name
+ * alone. Gives an exit status. */
+static int open_image(run *program, const char *program_name, const char *image_name)
+{
+    char path[PATH_ROOM];
+    if (image_name == NULL && !beside(program_name, DEFAULT_IMAGE, path, sizeof path)) {
+        fprintf(stderr, "example: no " DEFAULT_IMAGE " beside the program: name an image\n");
+        return EXIT_USAGE;
+    }
+    if (!read_image(program, image_name == NULL ? path : image_name))
+        return EXIT_USAGE;
+    return load(program, image_name == NULL ? DEFAULT_IMAGE : image_name);
+}
+
+static int run_and_tell(run *program)
+{
+    printf("%7s  %-4s %5s %5s  %-44s %s\n", "cycle", "task", "block", "depth", "command",
+           "what changed => motion request");
+    const int good = run_cycles(program);
+    print_summary(program);
+    return good ? EXIT_SUCCESS : EXIT_REFUSED;
 }
 
 int main(int argc, char **argv)
 {
     static run program;
+    const char *image_name = NULL;
     program.cycles = DEFAULT_CYCLES;
+    program.levels[INPUTS_RAMP] = program.levels[INPUTS_WINDOW] = INPUTS_AXIS;
     if (argc == 2 && strcmp(argv[1], "--help") == 0) {
         usage(stdout);
         return EXIT_SUCCESS;
     }
-    const char *name = options(&program, argc, argv);
-    if (name == NULL) {
+    if (!options(&program, argc, argv, &image_name)) {
         usage(stderr);
         return EXIT_USAGE;
     }
-    if (!read_image(&program, name))
+    if (program.script_name != NULL && !inputs_read(&program.script, program.script_name))
         return EXIT_USAGE;
-    int good = load(&program, name);
-    if (good) {
-        printf("%7s  %-4s %5s %5s  %-44s %s\n", "cycle", "task", "block", "depth", "command", "what changed => motion request");
-        good = run_cycles(&program);
-        print_summary(&program);
-    }
+    int status = open_image(&program, argv[0], image_name);
+    if (status == EXIT_SUCCESS)
+        status = run_and_tell(&program);
+    free(program.script.lines);
     free(program.image);
-    return good ? EXIT_SUCCESS : EXIT_REFUSED;
+    return status;
 }

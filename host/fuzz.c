@@ -1,6 +1,8 @@
 /* fuzz.c - the C border under odd lengths and contents. Every lent buffer ends (or begins) at a page that must not be
  * touched, lies at any alignment, and has guard bytes around it; buffers that are only read are write-protected during
- * the call. Each call is done twice at different places and must answer and leave the same. To be built with
+ * the call. Each call is done twice at different places and must answer and leave the same. Programs are for every
+ * drive type and up to the longest. The run fails where a number that a function can answer was not met, or where no
+ * longest image of some type was accepted, refused, stepped or written. To be built with
  * -fsanitize=address,undefined. Usage: fuzz [--seed S] [--calls N]
  */
 #define _DEFAULT_SOURCE
@@ -16,7 +18,7 @@
 typedef char verdict_has_24_bytes[sizeof(bias_verdict) == 24 ? 1 : -1];
 typedef char answer_has_48_bytes[sizeof(bias_answer) == 48 ? 1 : -1];
 
-enum { GUARD = 0xA5, DEFAULT_CALLS = 100000, TASKS = 3, HIGHEST_NUMBER = BIAS_BOARD_MISSING };
+enum { GUARD = 0xA5, DEFAULT_CALLS = 100000, TASKS = 3, TYPES = 5, HIGHEST_NUMBER = BIAS_BOARD_MISSING };
 #define DEFAULT_SEED 631u
 
 /* ---- random numbers ---- */
@@ -46,7 +48,6 @@ typedef struct {
 } region;
 
 static unsigned long current_call;
-static unsigned long loads[HIGHEST_NUMBER + 1], steps[HIGHEST_NUMBER + 1], writes[HIGHEST_NUMBER + 1];
 
 static void fail(const char *what)
 {
@@ -116,15 +117,6 @@ typedef struct {
 static content image, marks, state, inputs, blocks, out;
 static region image_region, marks_region, state_region, inputs_region, blocks_region, out_region;
 
-/* A program with all three tasks, calls, waits, an output of a board and a division that can halt. */
-static const uint8_t program[][BIAS_BLOCK_LENGTH] = {
-    {0x54, 8, 0}, {0x90, 12, 0}, {0x52, 15, 0}, {0x0E}, {0x01}, {0x58}, {0x59, 3, 0}, {0x51, 0},
-    {0x72, 217, 1}, {0x63, 1, 11}, {0x57, 2, 0}, {0x51, 0},
-    {0x82, 1, 1, 1, 0, 0, 0}, {0x8D, 2, 1, 1}, {0x51, 0},
-    {0x20, 1, 2, 3, 4}, {0x52, 18, 0}, {0x53},
-    {0x86, 3, 0, 32}, {0x53},
-};
-
 static void content_fill(content *c, size_t length)
 {
     c->length = length;
@@ -132,10 +124,11 @@ static void content_fill(content *c, size_t length)
         c->bytes[at] = (uint8_t)random_next();
 }
 
-static void content_damage(content *c)
+/* Up to two of the first bytes are others. */
+static void content_damage(content *c, size_t front)
 {
     for (size_t times = random_below(3); times > 0 && c->length > 0; times--)
-        c->bytes[random_below(c->length)] = (uint8_t)random_next();
+        c->bytes[random_below(front < c->length ? front : c->length)] = (uint8_t)random_next();
 }
 
 static size_t odd_length(size_t right)
@@ -150,19 +143,165 @@ static size_t odd_length(size_t right)
     }
 }
 
-/* A program's image, whole, damaged, cut off, lengthened, without its board, or noise. */
+/* ---- what was met ---- */
+
+/* A function of the border: the numbers that it can answer, and how often each was met. */
+typedef struct {
+    const char *name;
+    uint32_t numbers[HIGHEST_NUMBER + 1];
+    size_t count;
+    unsigned long met[HIGHEST_NUMBER + 1];
+} function;
+
+static function load = {"load", {0, 1, 2, 3, 4, 5, 6, 7, 8, 9, 10, 11, 12, 13, 16, 23}, 16, {0}};
+static function step = {"step", {0, 15, 16, 17, 18, 19, 20}, 7, {0}};
+static function writing = {"write", {0, 1, 3, 4, 14}, 5, {0}};
+
+static void meet(function *f, uint32_t number)
+{
+    for (size_t at = 0; at < f->count; at++)
+        if (f->numbers[at] == number) {
+            f->met[number]++;
+            return;
+        }
+    fail("no such number of that function");
+}
+
+/* What was done with images of the greatest length, by drive type. */
+typedef enum { ACCEPTED, REFUSED, STEPPED, WRITTEN, DEEDS } deed;
+static const char *const deeds[DEEDS] = {"accepted", "refused", "stepped", "written"};
+static unsigned long longest[TYPES][DEEDS];
+
+static void meet_longest(size_t length, uint32_t type, deed done)
+{
+    if (length == BIAS_MOST_IMAGE_LENGTH && type < TYPES)
+        longest[type][done]++;
+}
+
+/* ---- programs ---- */
+
+/* A drive, and an input and an output that it has, where it can with boards. */
+typedef struct {
+    uint32_t type, slot_b, slot_c;
+    uint8_t input, output;
+} drive;
+
+static const drive drives[TYPES] = {
+    {BIAS_TYPE_631, BIAS_SLOT_B_EMPTY, BIAS_SLOT_C_EMPTY, 7, 5},
+    {BIAS_TYPE_635, BIAS_SLOT_B_RP_EA5, BIAS_SLOT_C_EMPTY, 101, 109},
+    {BIAS_TYPE_637, BIAS_SLOT_B_EMPTY, BIAS_SLOT_C_RP_EAE, 11, 217},
+    {BIAS_TYPE_637_PLUS, BIAS_SLOT_B_RP_EA5, BIAS_SLOT_C_RP_EAE, 201, 110},
+    {BIAS_TYPE_637F, BIAS_SLOT_B_RP_2C8, BIAS_SLOT_C_RP_SBT, 91, 125},
+};
+
+enum { INPUT = 1, OUTPUT = 2, BEHIND = 23, LEAST_BLOCKS = BEHIND + 1 };
+
+/* A program with all three tasks, calls, waits, pins, a division and a parameter that can halt. Blocks count from its
+ * own beginning; each task goes on in what stands behind it. INPUT and OUTPUT are the drive's. */
+static const uint8_t program[BEHIND][BIAS_BLOCK_LENGTH] = {
+    {0x54, 10}, {0x90, 14}, {0x52, 18}, {0x80, 4, 100}, {0x31, 4}, {0x0E}, {0x01}, {0x58}, {0x59, 3}, {0x55, BEHIND},
+    {0x72, OUTPUT, 1}, {0x63, 1, INPUT}, {0x57, 2}, {0x55, BEHIND},
+    {0x82, 1, 1, 1}, {0x8D, 2, 1, 1}, {0x8A, 4, 4, 2}, {0x55, BEHIND},
+    {0x20, 1, 2, 3, 4}, {0x52, 21}, {0x53},
+    {0x86, 3, 0, 32}, {0x53},
+};
+
+/* What every task may do: templates of the blocks around it. */
+static const uint8_t filling[][BIAS_BLOCK_LENGTH] = {
+    {0x50}, {0x51, 0}, {0x40, 0}, {0x43, 1}, {0x55}, {0x60, 1, 1}, {0x61, 1, 0, 1}, {0x65, 1, 2, 3}, {0x68, 2, 1},
+    {0x63, 2, INPUT}, {0x64, 3, OUTPUT}, {0x70, INPUT, 0, 1}, {0x71, OUTPUT, 1, 1}, {0x72, OUTPUT, 1},
+    {0x73, OUTPUT, 1}, {0x80, 1, 0}, {0x80, 4, 200}, {0x81, 1, 3, 0, 0, 0, 0x30}, {0x82, 1, 2, 255}, {0x85, 2, 1, 7},
+    {0x88, 5, 4}, {0x89, 1, 2, 2}, {0x8B, 4, 1, 2}, {0x8C, 3, 3, 4},
+};
+
+static void put_address(uint8_t *b, uint32_t address)
+{
+    const uint8_t low = (uint8_t)(address % 256), high = (uint8_t)(address / 256);
+    switch (b[0]) {
+    case 0x52: case 0x54: case 0x55: case 0x57: case 0x90: b[1] = low; b[2] = high; break;
+    case 0x61: case 0x70: case 0x71: case 0x89: b[4] = low; b[5] = high; break;
+    case 0x81: b[6] = (uint8_t)(b[6] + high); b[7] = low; break;
+    default: break;
+    }
+}
+
+static void put_pins(uint8_t *b, const drive *d)
+{
+    switch (b[0]) {
+    case 0x63: b[2] = d->input; break;
+    case 0x64: b[2] = d->output; break;
+    case 0x70: b[1] = d->input; break;
+    case 0x71: case 0x72: case 0x73: b[1] = d->output; break;
+    default: break;
+    }
+}
+
+/* One block that is refused: by itself, or where a walk meets it. */
+static void put_odd(uint8_t *first, uint32_t count)
+{
+    static const uint8_t odd[][BIAS_BLOCK_LENGTH] = {
+        {0x02},       /* no such command */
+        {0x72, 8, 1}, /* an output that is never written */
+        {0x51, 4},    /* no such task to end */
+        {0x50, 1},    /* an unused byte */
+        {0x20},       /* forbidden to the PLC and to mathematics */
+        {0x52},       /* a call of itself */
+        {0x53},       /* a return without a call */
+        {0x50},       /* goes past the end, where it is the last */
+    };
+    const size_t which = random_below(sizeof odd / sizeof odd[0]);
+    const uint32_t at = which + 1 < sizeof odd / sizeof odd[0] ? (uint32_t)random_below(count) : count - 1;
+    memcpy(first + BIAS_BLOCK_LENGTH * at, odd[which], BIAS_BLOCK_LENGTH);
+    put_address(first + BIAS_BLOCK_LENGTH * at, at);
+}
+
+/* The program from block `start` on, filling on both sides of it. A walk comes into it by its beginning alone: filling
+ * leads to filling, and the block before it and the last one return to a start. */
+static void make_blocks(uint32_t start, uint32_t count, const drive *d)
+{
+    for (uint32_t at = 0; at < count; at++) {
+        uint8_t *b = blocks.bytes + BIAS_BLOCK_LENGTH * at;
+        const int inside = at >= start && at < start + BEHIND, turns = at + 1 == start || at + 1 == count;
+        const size_t drawn = turns ? 1 : random_below(sizeof filling / sizeof filling[0]);
+        const uint32_t other = (uint32_t)random_below(count - BEHIND);
+        memcpy(b, inside ? program[at - start] : filling[drawn], BIAS_BLOCK_LENGTH);
+        put_address(b, inside ? start + b[1] : other < start ? other : other + BEHIND);
+        put_pins(b, d);
+    }
+    blocks.length = BIAS_BLOCK_LENGTH * count;
+}
+
+/* Few blocks, or any number, or the most, with a start that takes two bytes: the longest image. */
+static void draw_size(uint32_t *start, uint32_t *count)
+{
+    const size_t way = random_below(4);
+    *count = way == 0 ? LEAST_BLOCKS + (uint32_t)random_below(40)
+        : way == 1 ? LEAST_BLOCKS + (uint32_t)random_below(BIAS_MOST_BLOCKS - LEAST_BLOCKS)
+        : BIAS_MOST_BLOCKS;
+    *start = way < 2 ? (uint32_t)random_below(*count - BEHIND) : 128 + (uint32_t)random_below(*count - BEHIND - 128);
+}
+
+/* A program's image, whole, damaged in one way or another, without its boards, or noise. */
 static void draw_image(void)
 {
-    const uint32_t slot_c = random_below(8) == 0 ? BIAS_SLOT_C_EMPTY : BIAS_SLOT_C_RP_EAE;
-    bias_verdict verdict = bias_write(BIAS_FORMAT, BIAS_TYPE_637, 0, slot_c, 0, sizeof program / sizeof program[0],
-                                      &program[0][0], sizeof program, image.bytes, sizeof image.bytes);
+    const drive *d = &drives[random_below(TYPES)];
+    const int bare = random_below(8) == 0;
+    const size_t way = random_below(8);
+    uint32_t start, count;
+    draw_size(&start, &count);
+    make_blocks(start, count, d);
+    if (way == 0)
+        put_odd(blocks.bytes, count);
+    bias_verdict verdict = bias_write(BIAS_FORMAT, d->type, bare ? 0 : d->slot_b, bare ? 0 : d->slot_c, start, count,
+                                      blocks.bytes, blocks.length, image.bytes, sizeof image.bytes);
     check(verdict.number == BIAS_SUCCESS, "the program was not written");
     image.length = (size_t)verdict.place;
-    switch (random_below(6)) {
-    case 0: content_damage(&image); break;
-    case 1: image.length = random_below(image.length + 1); break;
-    case 2: image.length += random_below(20); break;
-    case 3: content_fill(&image, random_below(64)); break;
+    switch (way) {
+    case 1: content_damage(&image, image.length); break;
+    case 2: content_damage(&image, 8); break;
+    case 3: image.length = random_below(image.length + 1); break;
+    case 4: image.length += random_below(20); break;
+    case 5: content_fill(&image, random_below(64)); break;
     default: break;
     }
 }
@@ -191,8 +330,6 @@ static int same_verdicts(bias_verdict a, bias_verdict b)
 
 static void check_load(bias_verdict verdict)
 {
-    check(verdict.number <= BIAS_MARKS_SHORT || verdict.number == BIAS_NO_STATE || verdict.number == BIAS_BOARD_MISSING,
-          "load: no such number");
     check((verdict.number == BIAS_MARKS_SHORT) == (marks.length < BIAS_MARKS_LENGTH), "load: 13 by another length");
     if (verdict.number == BIAS_SUCCESS) {
         check(verdict.place == 0 && verdict.task == 0 && verdict.depth == 0, "load: success with a place");
@@ -216,7 +353,8 @@ static void fuzz_load(void)
     content_fill(&state, random_below(8) == 0 ? odd_length(BIAS_STATE_LENGTH) : BIAS_STATE_LENGTH);
     bias_verdict first = place_and_load(1);
     check_load(first);
-    loads[first.number]++;
+    meet(&load, first.number);
+    meet_longest(image.length, image.bytes[1], first.number == BIAS_SUCCESS ? ACCEPTED : REFUSED);
     static content left;
     left.length = state.length;
     if (left.length != 0)
@@ -261,8 +399,6 @@ static int same_answers(const bias_answer *a, const bias_answer *b)
 static void check_step(const bias_answer *answer)
 {
     const int move = answer->motion >= BIAS_MOTION_MOVE_TO && answer->motion <= BIAS_MOTION_ENDLESS_BACKWARD;
-    check(answer->number == BIAS_SUCCESS
-          || (answer->number >= BIAS_BAD_INPUTS && answer->number <= BIAS_BAD_CONTENT), "step: no such number");
     check(answer->motion <= BIAS_MOTION_STOP, "step: no such motion");
     check(answer->number == BIAS_SUCCESS || answer->motion == BIAS_MOTION_NONE, "step: refused, with a motion");
     check(move || (answer->position == 0 && answer->speed == 0 && answer->acceleration == 0), "step: a field too many");
@@ -299,11 +435,11 @@ static void fuzz_step(void)
     image = loaded;
     state = running;
     if (random_below(50) == 0)
-        content_damage(&image);
+        content_damage(&image, image.length);
     if (random_below(50) == 0)
         given.task = (uint32_t)random_next();
     if (random_below(20) == 0)
-        content_damage(&state);
+        content_damage(&state, state.length);
     if (random_below(100) == 0)
         state.bytes[BIAS_STATE_LAYOUT_AT] = (uint8_t)random_below(2 * BIAS_STATE_LAYOUT);
     if (random_below(40) == 0)
@@ -311,7 +447,9 @@ static void fuzz_step(void)
     content_fill(&inputs, random_below(40) == 0 ? odd_length(BIAS_INPUTS_LENGTH) : BIAS_INPUTS_LENGTH);
     bias_answer first = place_and_step(1, given);
     check_step(&first);
-    steps[first.number]++;
+    meet(&step, first.number);
+    if (first.number == BIAS_SUCCESS)
+        meet_longest(image.length, image.bytes[1], STEPPED);
     static content left;
     left.length = state.length;
     if (left.length != 0)
@@ -346,8 +484,6 @@ static bias_verdict place_and_write(int at_end, header h)
 static void check_write(bias_verdict verdict)
 {
     const size_t written = verdict.number == BIAS_SUCCESS ? (size_t)verdict.place : 0;
-    check(verdict.number == BIAS_SUCCESS || verdict.number == BIAS_ENDS_EARLY || verdict.number == BIAS_BAD_HEADER
-          || verdict.number == BIAS_LEFT_OVER || verdict.number == BIAS_ROOM_SHORT, "write: no such number");
     check(verdict.task == 0 && verdict.depth == 0, "write: a task or depth");
     check(written <= out.length, "write: longer than its room");
     check(memcmp(out_region.bytes + written, out.bytes + written, out.length - written) == 0,
@@ -361,15 +497,18 @@ static uint32_t odd_number(uint32_t right)
 
 static void fuzz_write(void)
 {
-    const uint32_t count = odd_number((uint32_t)random_below(1500) + 1);
-    const size_t right = BIAS_BLOCK_LENGTH * (count <= 1600 ? (size_t)count : 1600);
-    header h = {odd_number(1), odd_number((uint32_t)random_below(5)), odd_number(0), odd_number(0),
-                odd_number((uint32_t)random_below(count < 1500 ? count + 1 : 1500)), count};
+    const uint32_t most = BIAS_MOST_BLOCKS;
+    const uint32_t count = odd_number(random_below(4) == 0 ? most : (uint32_t)random_below(most) + 1);
+    const size_t right = BIAS_BLOCK_LENGTH * (size_t)(count <= most + 100 ? count : most + 100);
+    header h = {odd_number(BIAS_FORMAT), odd_number((uint32_t)random_below(TYPES)), odd_number(0), odd_number(0),
+                odd_number((uint32_t)random_below(count < most ? count + 1 : most)), count};
     content_fill(&blocks, random_below(4) == 0 ? odd_length(right + 1) : right);
     content_fill(&out, random_below(2) == 0 ? odd_length(right + 7) : right + 8);
     bias_verdict first = place_and_write(1, h);
     check_write(first);
-    writes[first.number]++;
+    meet(&writing, first.number);
+    if (first.number == BIAS_SUCCESS)
+        meet_longest((size_t)first.place, h.type, WRITTEN);
     bias_verdict second = place_and_write(0, h);
     check_write(second);
     check(same_verdicts(first, second), "write: another answer at another place");
@@ -408,7 +547,7 @@ static void fuzz_huge(void)
 
 static void open_regions(void)
 {
-    region_open(&image_region, 4096);
+    region_open(&image_region, 2 * BIAS_MOST_IMAGE_LENGTH);
     region_open(&marks_region, MOST_CONTENT + 8);
     region_open(&state_region, 2 * BIAS_STATE_LENGTH + 8);
     region_open(&inputs_region, 2 * BIAS_INPUTS_LENGTH + 8);
@@ -417,13 +556,38 @@ static void open_regions(void)
     content_fill(&marks, sizeof marks.bytes);
 }
 
-static void print_numbers(const char *what, const unsigned long *numbers)
+/* Prints how often each number was met; gives how many never were. */
+static int tell_numbers(const function *f)
 {
-    printf("%s by number:", what);
-    for (int number = 0; number <= HIGHEST_NUMBER; number++)
-        if (numbers[number] != 0)
-            printf(" %d: %lu", number, numbers[number]);
+    int missed = 0;
+    printf("%s by number:", f->name);
+    for (size_t at = 0; at < f->count; at++)
+        printf(" %lu: %lu", (unsigned long)f->numbers[at], f->met[f->numbers[at]]);
     printf("\n");
+    for (size_t at = 0; at < f->count; at++)
+        if (f->met[f->numbers[at]] == 0) {
+            fprintf(stderr, "fuzz: no %s answered %lu\n", f->name, (unsigned long)f->numbers[at]);
+            missed++;
+        }
+    return missed;
+}
+
+/* The same of the longest images. */
+static int tell_longest(void)
+{
+    int missed = 0;
+    for (unsigned type = 0; type < TYPES; type++) {
+        printf("longest images of type %u:", type);
+        for (unsigned done = 0; done < DEEDS; done++)
+            printf(" %s %lu", deeds[done], longest[type][done]);
+        printf("\n");
+        for (unsigned done = 0; done < DEEDS; done++)
+            if (longest[type][done] == 0) {
+                fprintf(stderr, "fuzz: no longest image of type %u was %s\n", type, deeds[done]);
+                missed++;
+            }
+    }
+    return missed;
 }
 
 int main(int argc, char **argv)
@@ -452,9 +616,11 @@ int main(int argc, char **argv)
         else
             fuzz_write();
     }
-    print_numbers("loads", loads);
-    print_numbers("steps", steps);
-    print_numbers("writes", writes);
-    printf("fuzz: %lu calls, each at two places, and the huge ones: nothing found\n", calls);
-    return 0;
+    const int missed = tell_numbers(&load) + tell_numbers(&step) + tell_numbers(&writing) + tell_longest();
+    unsigned long accepted = 0;
+    for (unsigned type = 0; type < TYPES; type++)
+        accepted += longest[type][ACCEPTED];
+    printf("counted: %lu calls at two places each, %lu longest images accepted, %d things not met\n", calls, accepted,
+           missed);
+    return missed == 0 ? 0 : 1;
 }

@@ -1,150 +1,315 @@
-/* listing.c - a BIAS program's blocks and refusals in words. Command names are those of the manual (000, chapter 4). */
+/* listing.c - the table of commands and pins; blocks and refusals of a BIAS program in words. Names, operands, ranges,
+ * tasks and drives are those of the manual (000, chapters 3 and 4) as document 01 and docs/DECISIONS.md have them; R1
+ * and the like are entries there.
+ */
 #include "listing.h"
 
 #include <stdio.h>
 
-static const char *const comparisons[] = {">", "<", "==", ">=", "<=", "!=", "->", "-<"};
+/* ---- the table ---- */
 
-/* Ramps are coded in 5 rpm/s (document 01, "The commands carried"); 59 counts 2 ms (ruling 3). */
-enum { RAMP_UNIT = 5, WAIT_UNIT = 2 };
+enum { FLAGS = 256 };
 
-static unsigned word(const uint8_t *at)
+#define ANY_LONG INT32_MIN, INT32_MAX
+#define LETTER NULL /* called X, Y or Z, whichever comes next in its command */
+#define PLAIN(name, least, most) {name, LETTER, least, most, 1, "", "", ""}
+
+static const listing_kind kinds[LISTING_KINDS] = {
+    [LISTING_NO_OPERAND] = {"", "", 0, 0, 1, "", "", ""},
+    [LISTING_VARIABLE] = PLAIN("variable", 0, 255),
+    [LISTING_FLAG] = PLAIN("flag", 0, 255),
+    [LISTING_FIRST_FLAG] = {"first flag", LETTER, 0, 255, 1, "", "", "Y + Z at most 256"},
+    [LISTING_NUMBER_OF_FLAGS] = PLAIN("number of flags", 1, 32),
+    [LISTING_BIT] = PLAIN("bit", 0, 31),
+    [LISTING_INPUT] = PLAIN("input pin", 0, 255),
+    [LISTING_OUTPUT_READ] = PLAIN("output pin to read", 0, 255),
+    [LISTING_OUTPUT_WRITTEN] = PLAIN("output pin to write", 0, 255),
+    [LISTING_LEVEL] = {"", "const.", 0, 1, 1, "", "", ""},
+    [LISTING_CONSTANT] = {"", "const.", ANY_LONG, 1, "", "", ""},
+    [LISTING_DIVISOR] = {"", "const.", ANY_LONG, 1, "", "", "not 0"},
+    [LISTING_EQUALITY] = {"condition", "?", 0, 1, 1, "", "0 ==, 1 !=", ""},
+    [LISTING_COMPARISON] = {"condition", "?", 0, 7, 1, "", "0 >, 1 <, 2 ==, 3 >=, 4 <=, 5 !=, 6 ->, 7 -<", ""},
+    [LISTING_BLOCK] = {"block", LETTER, 0, BIAS_MOST_BLOCKS - 1, 1, "", "", "below the count"},
+    [LISTING_POSITION] = {"position", LETTER, ANY_LONG, 1, "increments", "", ""},
+    [LISTING_SPEED] = {"speed", LETTER, 1, 12000, 1, "rpm", "", ""},
+    [LISTING_ACCELERATION] = {"acceleration", LETTER, 1, 64000, 5, "rpm/s", "", ""},
+    [LISTING_DECELERATION] = {"deceleration", LETTER, 1, 64000, 5, "rpm/s", "", ""},
+    [LISTING_TIME] = {"time", LETTER, 0, 65535, 2, "ms", "", ""}, /* R3 */
+    [LISTING_TIME_IN_VARIABLE] = {"time", LETTER, 0, 65535, 1, "ms", "631, 635, 637: an odd one is rounded down",
+                                  ""}, /* R4 */
+    [LISTING_END_MODE] = {"mode", LETTER, 0, 3, 1, "",
+                          "0 back to the task's start, 1 end of BIAS, 2 of the PLC, 3 of mathematics",
+                          "1 to 3 only in the task that they end"}, /* R2; a block alone does not tell it */
+    [LISTING_STOP_MODE] = {"mode", LETTER, 0, 1, 1, "", "0 abrupt, 1 guided", ""},
+    [LISTING_AXIS] = {"axis", "", 0, 0, 1, "", "", ""},
+    [LISTING_TARGET] = {"target", "", 0, 0, 1, "", "", ""},
+};
+
+/* Operands by their first byte. */
+#define NONE {LISTING_NO_OPERAND, LISTING_BYTE, 0, LISTING_NO_OPERAND}
+#define ONE_BYTE(kind, at) {kind, LISTING_BYTE, at, LISTING_NO_OPERAND}
+#define TWO_BYTES(kind, at) {kind, LISTING_WORD, at, LISTING_NO_OPERAND}
+#define FOUR_BYTES(kind, at) {kind, LISTING_LONG, at, LISTING_NO_OPERAND}
+#define VARIABLE(at) ONE_BYTE(LISTING_VARIABLE, at)
+#define VARIABLE_WITH(content, at) {LISTING_VARIABLE, LISTING_BYTE, at, content}
+#define FLAG(at) ONE_BYTE(LISTING_FLAG, at)
+#define LEVEL(at) ONE_BYTE(LISTING_LEVEL, at)
+#define EQUALITY(at) ONE_BYTE(LISTING_EQUALITY, at)
+#define COMPARISON(at) ONE_BYTE(LISTING_COMPARISON, at)
+#define BLOCK(at) TWO_BYTES(LISTING_BLOCK, at)
+#define CONSTANT(at) FOUR_BYTES(LISTING_CONSTANT, at)
+
+/* Tasks and drive types. */
+enum {
+    B = 1 << BIAS_TASK_BIAS, P = 1 << BIAS_TASK_PLC, M = 1 << BIAS_TASK_MATHEMATICS, BPM = B + P + M,
+    TYPE_631 = 1 << BIAS_TYPE_631, TYPE_637F = 1 << BIAS_TYPE_637F, EVERY = (1 << (BIAS_TYPE_637F + 1)) - 1,
+    NOT_631 = EVERY - TYPE_631, NOT_637_PLUS = EVERY - (1 << BIAS_TYPE_637_PLUS)
+};
+
+static const listing_command commands[] = {
+    /* the axis */
+    {0x00, B, EVERY, "Move position", {ONE_BYTE(LISTING_AXIS, 1), ONE_BYTE(LISTING_TARGET, 2)}},
+    {0x01, B, EVERY, "Move incremental position", {ONE_BYTE(LISTING_AXIS, 1), ONE_BYTE(LISTING_TARGET, 2)}},
+    {0x03, B, EVERY, "Move infinite positive", {ONE_BYTE(LISTING_AXIS, 1), ONE_BYTE(LISTING_TARGET, 2)}},
+    {0x04, B, EVERY, "Move infinite negative", {ONE_BYTE(LISTING_AXIS, 1), ONE_BYTE(LISTING_TARGET, 2)}},
+    {0x0E, B, EVERY, "Start axis", {NONE}},
+    {0x0F, B + P, EVERY, "Stop axis; mode = %1", {ONE_BYTE(LISTING_STOP_MODE, 1), ONE_BYTE(LISTING_AXIS, 2)}},
+    {0x1F, B + P, EVERY, "Stop axis; mode = %1 a- = %2 rpm/s", /* tasks: R1 */
+     {ONE_BYTE(LISTING_STOP_MODE, 1), TWO_BYTES(LISTING_DECELERATION, 2)}},
+    /* the parameters of a move */
+    {0x20, B, EVERY, "Position = %1 INCR", {FOUR_BYTES(LISTING_POSITION, 1)}},
+    {0x21, B, EVERY, "Speed = %1 rpm", {TWO_BYTES(LISTING_SPEED, 1)}},
+    {0x22, B, EVERY, "Acceleration = %1 rpm/s", {TWO_BYTES(LISTING_ACCELERATION, 1)}},
+    {0x23, B, EVERY, "Deceleration = %1 rpm/s", {TWO_BYTES(LISTING_DECELERATION, 1)}},
+    {0x30, B, EVERY, "Position = [variable %1]", {VARIABLE_WITH(LISTING_POSITION, 1)}},
+    {0x31, B, EVERY, "Speed = [variable %1]", {VARIABLE_WITH(LISTING_SPEED, 1)}},
+    {0x32, B, EVERY, "Acceleration = [variable %1]", {VARIABLE_WITH(LISTING_ACCELERATION, 1)}},
+    {0x33, B, EVERY, "Deceleration = [variable %1]", {VARIABLE_WITH(LISTING_DECELERATION, 1)}},
+    {0x40, BPM, EVERY, "[Variable %1] = position", {VARIABLE(1)}},
+    {0x41, BPM, EVERY, "[Variable %1] = speed", {VARIABLE(1)}},
+    {0x42, BPM, EVERY, "[Variable %1] = acceleration", {VARIABLE(1)}},
+    {0x43, BPM, EVERY, "[Variable %1] = deceleration", {VARIABLE(1)}},
+    /* program control */
+    {0x50, BPM, EVERY, "NOP", {NONE}},
+    {0x51, BPM, EVERY, "End of program, mode = %1", {ONE_BYTE(LISTING_END_MODE, 1)}},
+    {0x52, BPM, EVERY, "Sub-program %1", {BLOCK(1)}},
+    {0x53, BPM, EVERY, "End of sub-program", {NONE}},
+    {0x54, B + M, EVERY, "PLC-program %1", {BLOCK(1)}},
+    {0x55, BPM, EVERY, "Jump %1", {BLOCK(1)}},
+    {0x57, P + M, EVERY, "BIAS-execution pointer = %1", {BLOCK(1)}},
+    {0x58, B, EVERY, "Wait for \"position reached\"", {NONE}},
+    {0x59, B, EVERY, "Wait time %1 ms", {TWO_BYTES(LISTING_TIME, 1)}},
+    {0x5A, B, EVERY, "Wait time [variable %1]", {VARIABLE_WITH(LISTING_TIME_IN_VARIABLE, 1)}},
+    /* flags */
+    {0x60, BPM, EVERY, "Flag %1 = %2", {FLAG(1), LEVEL(2)}},
+    {0x61, BPM, EVERY, "If flag %1 %2 %3 then jump %4", {FLAG(1), EQUALITY(2), LEVEL(3), BLOCK(4)}},
+    {0x62, BPM, EVERY, "Flag %1 = flag %2", {FLAG(1), FLAG(2)}},
+    {0x63, BPM, EVERY, "Flag %1 = input %2", {FLAG(1), ONE_BYTE(LISTING_INPUT, 2)}},
+    {0x64, BPM, EVERY, "Flag %1 = output %2", {FLAG(1), ONE_BYTE(LISTING_OUTPUT_READ, 2)}},
+    {0x65, BPM, EVERY, "Flag %1 = flag %2 & flag %3", {FLAG(1), FLAG(2), FLAG(3)}},
+    {0x66, BPM, EVERY, "Flag %1 = flag %2 | flag %3", {FLAG(1), FLAG(2), FLAG(3)}},
+    {0x67, BPM, EVERY, "Flag %1 = flag %2 ^ flag %3", {FLAG(1), FLAG(2), FLAG(3)}},
+    {0x68, BPM, EVERY, "Flag %1 = !flag %2", {FLAG(1), FLAG(2)}},
+    {0x6E, BPM, NOT_637_PLUS, "If [variable %1].bit %2 %3 0 then jump %4", /* drives and constant: R5b, R5a */
+     {VARIABLE(1), ONE_BYTE(LISTING_BIT, 2), EQUALITY(3), BLOCK(4)}},
+    /* pins */
+    {0x70, BPM, EVERY, "If input %1 %2 %3 then jump %4",
+     {ONE_BYTE(LISTING_INPUT, 1), EQUALITY(2), LEVEL(3), BLOCK(4)}},
+    {0x71, BPM, EVERY, "If output %1 %2 %3 then jump %4",
+     {ONE_BYTE(LISTING_OUTPUT_READ, 1), EQUALITY(2), LEVEL(3), BLOCK(4)}},
+    {0x72, BPM, EVERY, "Output %1 = %2", {ONE_BYTE(LISTING_OUTPUT_WRITTEN, 1), LEVEL(2)}},
+    {0x73, BPM, EVERY, "Output %1 = flag %2", {ONE_BYTE(LISTING_OUTPUT_WRITTEN, 1), FLAG(2)}},
+    /* variables */
+    {0x80, BPM, EVERY, "[Variable %1] = %2", {VARIABLE(1), CONSTANT(2)}},
+    {0x81, BPM, EVERY, "If [variable %1] %3 %2 then jump %4", /* bytes: R6 */
+     {VARIABLE(1), CONSTANT(2), {LISTING_COMPARISON, LISTING_UPPER_HALF, 6, LISTING_NO_OPERAND},
+      {LISTING_BLOCK, LISTING_LOWER_HALF_AND_BYTE, 6, LISTING_NO_OPERAND}}},
+    {0x82, BPM, EVERY, "[Variable %1] = [variable %2] + %3", {VARIABLE(1), VARIABLE(2), CONSTANT(3)}},
+    {0x83, BPM, EVERY, "[Variable %1] = [variable %2] - %3", {VARIABLE(1), VARIABLE(2), CONSTANT(3)}},
+    {0x84, BPM, EVERY, "[Variable %1] = [variable %2] * %3", {VARIABLE(1), VARIABLE(2), CONSTANT(3)}},
+    {0x85, BPM, EVERY, "[Variable %1] = [variable %2] / %3",
+     {VARIABLE(1), VARIABLE(2), FOUR_BYTES(LISTING_DIVISOR, 3)}},
+    {0x86, B + P, EVERY, "[Variable %1] = flag %2, number = %3", /* range: R13b */
+     {VARIABLE(1), ONE_BYTE(LISTING_FIRST_FLAG, 2), ONE_BYTE(LISTING_NUMBER_OF_FLAGS, 3)}},
+    {0x88, BPM, EVERY, "[Variable %1] = [variable %2]", {VARIABLE(1), VARIABLE(2)}},
+    {0x89, BPM, EVERY, "If [variable %1] %2 [variable %3] then jump %4",
+     {VARIABLE(1), COMPARISON(2), VARIABLE(3), BLOCK(4)}},
+    {0x8A, BPM, EVERY, "[Variable %1] = [variable %2] + [variable %3]", {VARIABLE(1), VARIABLE(2), VARIABLE(3)}},
+    {0x8B, BPM, EVERY, "[Variable %1] = [variable %2] - [variable %3]", {VARIABLE(1), VARIABLE(2), VARIABLE(3)}},
+    {0x8C, BPM, EVERY, "[Variable %1] = [variable %2] * [variable %3]", {VARIABLE(1), VARIABLE(2), VARIABLE(3)}},
+    {0x8D, BPM, EVERY, "[Variable %1] = [variable %2] / [variable %3]", {VARIABLE(1), VARIABLE(2), VARIABLE(3)}},
+    /* mathematics */
+    {0x90, B + P, EVERY, "Mathematic program %1", {BLOCK(1)}},
+};
+
+#define NO_PINS {{0, 0}}
+
+/* Terminals: source document 000 at 63, lines 6488 to 6491: "RP-EAE (Slot C)", "Pin no at X200 Sub-D-female", and so
+ * on, for the outputs at 72, lines 7293 to 7295. Pins: document 01, "Drive and pins". */
+static const listing_home homes[] = {
+    {"X10", NULL, 0, 0, TYPE_631, {{{7, 10}}, {{5, 6}}, {{5, 6}}}},
+    {"X10", NULL, 0, 0, NOT_631,
+     {{{2, 2}, {4, 4}, {11, 11}, {15, 15}, {22, 22}, {24, 25}}, {{8, 8}, {12, 13}, {20, 20}, {23, 23}},
+      {{12, 13}, {20, 20}, {23, 23}}}},
+    {"COM2", "RP-EA5", 'B', BIAS_SLOT_B_RP_EA5, NOT_631, {{{101, 102}, {106, 108}}, {{109, 110}}, {{109, 110}}}},
+    {"X120", "RP-2C8", 'B', BIAS_SLOT_B_RP_2C8, TYPE_637F, {{{121, 124}}, {{125, 128}}, {{125, 128}}}},
+    {"X200", "RP-EAE", 'C', BIAS_SLOT_C_RP_EAE, NOT_631,
+     {{{201, 208}, {211, 216}}, {{209, 210}, {217, 224}}, {{209, 210}, {217, 224}}}},
+    {"X290", "RP-SBT", 'C', BIAS_SLOT_C_RP_SBT, TYPE_637F, {{{91, 91}, {93, 93}}, NO_PINS, NO_PINS}},
+};
+
+const listing_command *listing_command_of(uint8_t code)
 {
-    return at[0] + 256u * at[1];
+    for (size_t n = 0; n < sizeof commands / sizeof commands[0]; n++)
+        if (commands[n].code == code)
+            return commands + n;
+    return NULL;
 }
 
-static long signed_long(const uint8_t *at)
+const listing_kind *listing_kind_of(unsigned kind)
 {
-    uint32_t value = at[0] | (uint32_t)at[1] << 8 | (uint32_t)at[2] << 16 | (uint32_t)at[3] << 24;
-    return value < 0x80000000u ? (long)value : -(long)(0xFFFFFFFFu - value) - 1;
+    return kinds + (kind < LISTING_KINDS ? kind : LISTING_NO_OPERAND);
 }
 
-static const char *comparison(unsigned condition)
+const listing_home *listing_homes(size_t *count)
 {
-    return condition < 8 ? comparisons[condition] : "?";
+    *count = sizeof homes / sizeof homes[0];
+    return homes;
 }
 
-static const char *equality(unsigned condition)
+int listing_has_pin(const listing_home *home, unsigned use, unsigned pin)
 {
-    return condition == 0 ? "==" : condition == 1 ? "!=" : "?";
+    for (const listing_pins *pins = home->pins[use - LISTING_INPUT]; pins->least != 0; pins++)
+        if (pin >= pins->least && pin <= pins->most)
+            return 1;
+    return 0;
 }
 
-/* 00 to 1F: the axis. */
-static int motion(const uint8_t *b, char *text, size_t room)
+const listing_operand *listing_pin_operand(const listing_command *command)
 {
-    switch (b[0]) {
-    case 0x00: return snprintf(text, room, "Move position");
-    case 0x01: return snprintf(text, room, "Move incremental position");
-    case 0x03: return snprintf(text, room, "Move infinite positive");
-    case 0x04: return snprintf(text, room, "Move infinite negative");
-    case 0x0E: return snprintf(text, room, "Start axis");
-    case 0x0F: return snprintf(text, room, "Stop axis; mode = %u", b[1]);
-    case 0x1F: return snprintf(text, room, "Stop axis; mode = %u a- = %u rpm/s", b[1], RAMP_UNIT * word(b + 2));
-    default: return -1;
+    for (const listing_operand *operand = command->operands; operand->kind != LISTING_NO_OPERAND; operand++)
+        if (operand->kind >= LISTING_INPUT && operand->kind <= LISTING_OUTPUT_WRITTEN)
+            return operand;
+    return NULL;
+}
+
+unsigned listing_bytes(const listing_operand *operand)
+{
+    switch (operand->coding) {
+    case LISTING_WORD: case LISTING_LOWER_HALF_AND_BYTE: return 2;
+    case LISTING_LONG: return 4;
+    default: return 1;
     }
 }
 
-/* 20 to 43: the parameters of a move. */
-static int parameter(const uint8_t *b, char *text, size_t room)
+static int32_t signed_long(const uint8_t *at)
 {
-    switch (b[0]) {
-    case 0x20: return snprintf(text, room, "Position = %ld INCR", signed_long(b + 1));
-    case 0x21: return snprintf(text, room, "Speed = %u rpm", word(b + 1));
-    case 0x22: return snprintf(text, room, "Acceleration = %u rpm/s", RAMP_UNIT * word(b + 1));
-    case 0x23: return snprintf(text, room, "Deceleration = %u rpm/s", RAMP_UNIT * word(b + 1));
-    case 0x30: return snprintf(text, room, "Position = [variable %u]", b[1]);
-    case 0x31: return snprintf(text, room, "Speed = [variable %u]", b[1]);
-    case 0x32: return snprintf(text, room, "Acceleration = [variable %u]", b[1]);
-    case 0x33: return snprintf(text, room, "Deceleration = [variable %u]", b[1]);
-    case 0x40: return snprintf(text, room, "[Variable %u] = position", b[1]);
-    case 0x41: return snprintf(text, room, "[Variable %u] = speed", b[1]);
-    case 0x42: return snprintf(text, room, "[Variable %u] = acceleration", b[1]);
-    case 0x43: return snprintf(text, room, "[Variable %u] = deceleration", b[1]);
-    default: return -1;
+    const uint32_t value = at[0] | (uint32_t)at[1] << 8 | (uint32_t)at[2] << 16 | (uint32_t)at[3] << 24;
+    return value < 0x80000000u ? (int32_t)value : -(int32_t)(0xFFFFFFFFu - value) - 1;
+}
+
+int32_t listing_value(const listing_operand *operand, const uint8_t *block)
+{
+    const uint8_t *at = block + operand->at;
+    switch (operand->coding) {
+    case LISTING_WORD: return at[0] + 256 * at[1];
+    case LISTING_LONG: return signed_long(at);
+    case LISTING_UPPER_HALF: return at[0] / 16;
+    case LISTING_LOWER_HALF_AND_BYTE: return 256 * (at[0] % 16) + at[1];
+    default: return at[0];
     }
 }
 
-/* 50 to 5A and 90: program control. */
-static int control(const uint8_t *b, char *text, size_t room)
+int listing_in_range(const listing_operand *operand, const uint8_t *block, unsigned count)
 {
-    switch (b[0]) {
-    case 0x50: return snprintf(text, room, "NOP");
-    case 0x51: return snprintf(text, room, "End of program, mode = %u", b[1]);
-    case 0x52: return snprintf(text, room, "Sub-program %u", word(b + 1));
-    case 0x53: return snprintf(text, room, "End of sub-program");
-    case 0x54: return snprintf(text, room, "PLC-program %u", word(b + 1));
-    case 0x55: return snprintf(text, room, "Jump %u", word(b + 1));
-    case 0x57: return snprintf(text, room, "BIAS-execution pointer = %u", word(b + 1));
-    case 0x58: return snprintf(text, room, "Wait for \"position reached\"");
-    case 0x59: return snprintf(text, room, "Wait time %u ms", WAIT_UNIT * word(b + 1));
-    case 0x5A: return snprintf(text, room, "Wait time [variable %u]", b[1]);
-    case 0x90: return snprintf(text, room, "Mathematic program %u", word(b + 1));
-    default: return -1;
+    const listing_kind *kind = listing_kind_of(operand->kind);
+    const int32_t value = listing_value(operand, block);
+    if (value < kind->least || value > kind->most)
+        return 0;
+    switch (operand->kind) {
+    case LISTING_BLOCK: return (unsigned)value < count;
+    case LISTING_DIVISOR: return value != 0;
+    case LISTING_FIRST_FLAG: return value + listing_value(operand + 1, block) <= FLAGS;
+    default: return 1;
     }
 }
 
-/* 60 to 73: flags and pins. */
-static int level(const uint8_t *b, char *text, size_t room)
+const char *listing_symbol(const listing_command *command, const listing_operand *operand)
 {
-    switch (b[0]) {
-    case 0x60: return snprintf(text, room, "Flag %u = %u", b[1], b[2]);
-    case 0x61: return snprintf(text, room, "If flag %u %s %u then jump %u", b[1], equality(b[2]), b[3], word(b + 4));
-    case 0x62: return snprintf(text, room, "Flag %u = flag %u", b[1], b[2]);
-    case 0x63: return snprintf(text, room, "Flag %u = input %u", b[1], b[2]);
-    case 0x64: return snprintf(text, room, "Flag %u = output %u", b[1], b[2]);
-    case 0x65: return snprintf(text, room, "Flag %u = flag %u & flag %u", b[1], b[2], b[3]);
-    case 0x66: return snprintf(text, room, "Flag %u = flag %u | flag %u", b[1], b[2], b[3]);
-    case 0x67: return snprintf(text, room, "Flag %u = flag %u ^ flag %u", b[1], b[2], b[3]);
-    case 0x68: return snprintf(text, room, "Flag %u = !flag %u", b[1], b[2]);
-    case 0x6E:
-        return snprintf(text, room, "If [variable %u].bit %u %s 0 then jump %u", b[1], b[2], equality(b[3]), word(b + 4));
-    case 0x70: return snprintf(text, room, "If input %u %s %u then jump %u", b[1], equality(b[2]), b[3], word(b + 4));
-    case 0x71: return snprintf(text, room, "If output %u %s %u then jump %u", b[1], equality(b[2]), b[3], word(b + 4));
-    case 0x72: return snprintf(text, room, "Output %u = %u", b[1], b[2]);
-    case 0x73: return snprintf(text, room, "Output %u = flag %u", b[1], b[2]);
-    default: return -1;
+    static const char *const letters[] = {"X", "Y", "Z"};
+    const char *symbol = listing_kind_of(operand->kind)->symbol;
+    if (symbol != LETTER)
+        return symbol;
+    unsigned before = 0;
+    for (const listing_operand *other = command->operands; other != operand; other++)
+        before += listing_kind_of(other->kind)->symbol == LETTER;
+    return letters[before];
+}
+
+/* ---- in words ---- */
+
+/* Text that is written bit by bit, and cut off where there is no more room. */
+typedef struct {
+    char *text;
+    size_t room, used;
+} line;
+
+static void put_words(line *out, const char *words)
+{
+    for (; *words != '\0' && out->used + 1 < out->room; words++)
+        out->text[out->used++] = *words;
+    if (out->room != 0)
+        out->text[out->used] = '\0';
+}
+
+/* An operand as a number of its unit, or as the sign of its condition. */
+static void put_operand(line *out, const listing_operand *operand, const uint8_t *block)
+{
+    static const char *const comparisons[] = {">", "<", "==", ">=", "<=", "!=", "->", "-<"};
+    static const char *const equalities[] = {"==", "!="};
+    const int32_t value = listing_value(operand, block);
+    const listing_kind *kind = listing_kind_of(operand->kind);
+    char number[24];
+    snprintf(number, sizeof number, "%lld", (long long)value * (long long)kind->factor);
+    if (operand->kind == LISTING_COMPARISON)
+        put_words(out, value <= kind->most ? comparisons[value] : "?");
+    else if (operand->kind == LISTING_EQUALITY)
+        put_words(out, value <= kind->most ? equalities[value] : "?");
+    else
+        put_words(out, number);
+}
+
+/* A command's text, with the operands of a block, or with their symbols if there is none. */
+static void put_command(line *out, const listing_command *command, const uint8_t *block)
+{
+    for (const char *at = command->text; *at != '\0'; at++) {
+        const char letter[] = {*at, '\0'};
+        if (*at != '%') {
+            put_words(out, letter);
+            continue;
+        }
+        const listing_operand *operand = command->operands + (*++at - '1');
+        if (block == NULL)
+            put_words(out, listing_symbol(command, operand));
+        else
+            put_operand(out, operand, block);
     }
 }
 
-/* 80 to 8D: variables. */
-static int variable(const uint8_t *b, char *text, size_t room)
+void listing_form(const listing_command *command, char *text, size_t room)
 {
-    static const char operators[] = "+-*/";
-    if (b[0] >= 0x82 && b[0] <= 0x85)
-        return snprintf(text, room, "[Variable %u] = [variable %u] %c %ld", b[1], b[2], operators[b[0] - 0x82],
-                        signed_long(b + 3));
-    if (b[0] >= 0x8A && b[0] <= 0x8D)
-        return snprintf(text, room, "[Variable %u] = [variable %u] %c [variable %u]", b[1], b[2], operators[b[0] - 0x8A],
-                        b[3]);
-    switch (b[0]) {
-    case 0x80: return snprintf(text, room, "[Variable %u] = %ld", b[1], signed_long(b + 2));
-    case 0x81:
-        return snprintf(text, room, "If [variable %u] %s %ld then jump %u", b[1], comparison(b[6] / 16u),
-                        signed_long(b + 2), 256u * (b[6] % 16u) + b[7]);
-    case 0x86: return snprintf(text, room, "[Variable %u] = flag %u, number = %u", b[1], b[2], b[3]);
-    case 0x88: return snprintf(text, room, "[Variable %u] = [variable %u]", b[1], b[2]);
-    case 0x89:
-        return snprintf(text, room, "If [variable %u] %s [variable %u] then jump %u", b[1], comparison(b[2]), b[3],
-                        word(b + 4));
-    default: return -1;
-    }
+    line out = {text, room, 0};
+    put_command(&out, command, NULL);
 }
 
 void listing_block(const uint8_t *block, char *text, size_t room)
 {
-    int length;
-    if (block[0] < 0x20)
-        length = motion(block, text, room);
-    else if (block[0] < 0x50)
-        length = parameter(block, text, room);
-    else if (block[0] < 0x60 || block[0] == 0x90)
-        length = control(block, text, room);
-    else if (block[0] < 0x80)
-        length = level(block, text, room);
-    else
-        length = variable(block, text, room);
-    if (length < 0)
+    const listing_command *command = listing_command_of(block[0]);
+    line out = {text, room, 0};
+    if (command == NULL)
         snprintf(text, room, "(code %02X)", block[0]);
+    else
+        put_command(&out, command, block);
 }
 
 const char *listing_refusal(uint32_t number)
@@ -177,22 +342,6 @@ const char *listing_refusal(uint32_t number)
     return known ? meanings[number] : "unknown number";
 }
 
-/* A board: the least and the greatest of its pins, its terminal and its slot. */
-typedef struct {
-    uint8_t least, greatest;
-    const char *name, *terminal;
-    char slot;
-} board;
-
-/* Source document 000 at 63, lines 6488 to 6491: "RP-EAE (Slot C)", "Pin no at X200 Sub-D-female", and so on; for the
- * outputs at 72, lines 7293 to 7295. */
-static const board boards[] = {
-    {91, 93, "RP-SBT", "X290", 'C'},
-    {101, 110, "RP-EA5", "COM2", 'B'},
-    {121, 128, "RP-2C8", "X120", 'B'},
-    {201, 224, "RP-EAE", "X200", 'C'},
-};
-
 /* A block of an image whose header is good: four numbers of one byte, then start and count of one or two. */
 static const uint8_t *block_of(const uint8_t *image, uint64_t number)
 {
@@ -200,42 +349,30 @@ static const uint8_t *block_of(const uint8_t *image, uint64_t number)
     return count + (count[0] < 128 ? 1 : 2) + BIAS_BLOCK_LENGTH * number;
 }
 
-static unsigned pin_of(const uint8_t *b)
-{
-    return b[0] < 0x70 ? b[2] : b[1];
-}
-
-/* As what a command uses its pin; NULL for one that uses none. */
-static const char *use_of(const uint8_t *b)
-{
-    switch (b[0]) {
-    case 0x63: case 0x70: return "an input";
-    case 0x64: case 0x71: return "an output to read";
-    case 0x72: case 0x73: return "an output to write";
-    default: return NULL;
-    }
-}
-
 /* 6: what the type has with no board. */
-static void not_on_drive(const uint8_t *image, const uint8_t *b, char *text, size_t room)
+static void not_on_drive(const uint8_t *image, const uint8_t *block, char *text, size_t room)
 {
-    const char *type = listing_type(image[1]), *use = use_of(b);
-    if (use == NULL)
+    static const char *const uses[LISTING_USES] = {"an input", "an output to read", "an output to write"};
+    const listing_operand *pin = listing_pin_operand(listing_command_of(block[0]));
+    const char *type = listing_type(image[1]);
+    if (pin == NULL)
         snprintf(text, room, " (a %s never has this command)", type);
     else
-        snprintf(text, room, " (a %s never has pin %u as %s)", type, pin_of(b), use);
+        snprintf(text, room, " (a %s never has pin %ld as %s)", type, (long)listing_value(pin, block),
+                 uses[pin->kind - LISTING_INPUT]);
 }
 
 /* 23: the board that can be bought. */
-static void board_missing(const uint8_t *image, const uint8_t *b, char *text, size_t room)
+static void board_missing(const uint8_t *image, const uint8_t *block, char *text, size_t room)
 {
-    const unsigned pin = pin_of(b);
-    for (size_t n = 0; n < sizeof boards / sizeof boards[0]; n++) {
-        const board *has = boards + n;
+    const listing_operand *operand = listing_pin_operand(listing_command_of(block[0]));
+    const unsigned pin = (unsigned)listing_value(operand, block);
+    for (size_t n = 0; n < sizeof homes / sizeof homes[0]; n++) {
+        const listing_home *has = homes + n;
         const int empty = image[has->slot == 'B' ? 2 : 3] == 0;
-        if (pin >= has->least && pin <= has->greatest)
+        if (has->board != NULL && listing_has_pin(has, operand->kind, pin))
             snprintf(text, room, ": pin %u is on terminal %s of board %s, which this drive can take in slot %c%s", pin,
-                     has->terminal, has->name, has->slot, empty ? "" : ", in exchange for the board there");
+                     has->terminal, has->board, has->slot, empty ? "" : ", in exchange for the board there");
     }
 }
 

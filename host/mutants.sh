@@ -1,37 +1,76 @@
 #!/bin/sh
 # Tests the differential tests: puts one fault at a time into the stand-in and demands that the random part of host/diff
-# finds it. Takes some minutes, so it is not in the gate. Needs host/build.sh to have run. Usage: host/mutants.sh [NAME]
+# finds it. First the stand-in without a fault has to pass, or nothing that follows would tell anything. Each run has a
+# time limit, LIMIT seconds (300 unless set): the stand-in without a fault has to end in it, and a fault that keeps the
+# tests from ending in it is found. Takes some minutes, so it is not in the gate. Needs host/build.sh to have run.
+# Usage: host/mutants.sh [NAME]
 set -eu
 cd "$(dirname "$0")/.."
 out=target/host
 work=$out/mutant
+limit=${LIMIT:-300}
+only=${1:-}
 passed=0
 failed=0
+command -v timeout > /dev/null || { echo "host/mutants.sh: no timeout" >&2; exit 1; }
+
+# The stand-in's files, to be changed.
+copy() { rm -rf "$work" && mkdir -p "$work" && cp host/reference/*.rs "$work"; }
+
+build() {
+    rustc --edition 2021 -O --cap-lints allow --cfg stand_in --crate-type staticlib --crate-name mutant \
+        "$work/lib.rs" -o "$work/libmutant.a" \
+        && rustc --edition 2021 -C opt-level=1 host/diff.rs --extern reference="$out/libreference.rlib" \
+            -C link-arg="$work/libmutant.a" -o "$work/diff"
+}
+
+# Runs the tests on what was built; $ended says how that went.
+run() {
+    status=0
+    timeout "$limit" "$work/diff" --random > "$work/log" 2>&1 || status=$?
+    case $status in
+    0) ended=passed ;;
+    124) ended="the tests did not end in $limit s" ;;
+    *) ended=$(tail -n 1 "$work/log") ;;
+    esac
+}
+
+fail() {
+    echo "FAILED  $1"
+    failed=$((failed + 1))
+}
 
 # name, file of host/reference, sed command; the first twelve are document 01's own list of faults
 mutant() {
     [ "${only:-$1}" = "$1" ] || return 0
-    rm -rf "$work" && mkdir -p "$work" && cp host/reference/*.rs "$work"
+    copy
     sed -i "$3" "$work/$2"
     if cmp -s "$work/$2" "host/reference/$2"; then
-        echo "FAILED  $1: the edit changed nothing"
-        failed=$((failed + 1))
+        fail "$1: the edit changed nothing"
         return 0
     fi
-    rustc --edition 2021 -O --cap-lints allow --cfg stand_in --crate-type staticlib --crate-name mutant \
-        "$work/lib.rs" -o "$work/libmutant.a"
-    rustc --edition 2021 -C opt-level=1 host/diff.rs --extern reference="$out/libreference.rlib" \
-        -C link-arg="$work/libmutant.a" -o "$work/diff"
-    if "$work/diff" --random > "$work/log" 2>&1; then
-        echo "FAILED  $1: not found"
-        failed=$((failed + 1))
-    else
-        echo "found   $1: $(tail -n 1 "$work/log")"
-        passed=$((passed + 1))
+    if ! build; then
+        fail "$1: the edit does not compile"
+        return 0
     fi
+    run
+    if [ "$ended" = passed ]; then
+        fail "$1: not found"
+        return 0
+    fi
+    echo "found   $1: $ended"
+    passed=$((passed + 1))
 }
 
-only=${1:-}
+copy
+build
+run
+if [ "$ended" != passed ]; then
+    echo "host/mutants.sh: the stand-in without a fault has to pass first: $ended" >&2
+    exit 1
+fi
+echo "passed  the stand-in without a fault: $(sed -n 's/^counted: //p' "$work/log")"
+
 mutant one_path_for_all_tasks state.rs 's/record(task) + PATH + 2 \* depth/record(0) + PATH + 2 * depth/'
 mutant output_8_writable drive.rs 's/12 | 13 | 20 | 23 => /8 | &/'
 mutant high_start_at_load_is_a_slope state.rs 's/state.set_start_level(1)/state.set_start_level(0)/'
@@ -101,5 +140,17 @@ mutant board_of_637f_missing_on_637_plus drive.rs 's/board <= most_board(self.ki
 mutant seven_before_a_missing_board command.rs 's/Presence::OnBoard => /Presence::OnBoard if !row.in_range(header, block) => return BAD_OPERAND,\n        &/'
 mutant step_without_the_board engine.rs 's/command::judge(&header, block) == SUCCESS/matches!(command::judge(\&header, block), SUCCESS | BOARD_MISSING)/'
 mutant step_answers_23 engine.rs 's/None => Answer::refused(Verdict::at_place(OTHER_IMAGE, place))/None => Answer::refused(Verdict::at_place(match image::read(image) { Ok((header, blocks)) if header == state.header() \&\& command::judge(\&header, image::block(blocks, place.block)) == BOARD_MISSING => BOARD_MISSING, _ => OTHER_IMAGE }, place))/'
+mutant speed_of_12001_read effect.rs 's/within(content(), MOST_SPEED)/within(content(), MOST_SPEED + 1)/'
+mutant ramp_of_64001_read effect.rs 's/within(content(), MOST_RAMP)/within(content(), MOST_RAMP + 1)/'
+mutant ramp_of_64000_not_read effect.rs 's/within(content(), MOST_RAMP)/within(content(), MOST_RAMP - 1)/'
+mutant wait_of_65536_read effect.rs 's/(0..=MOST_VARIABLE_WAIT)/(0..=MOST_VARIABLE_WAIT + 1)/'
+mutant wait_of_minus_1_read effect.rs 's/(0..=MOST_VARIABLE_WAIT)/(-1..=MOST_VARIABLE_WAIT)/'
+mutant ramp_of_64001_loaded command.rs 's/let ramp = 1..=MOST_RAMP;/let ramp = 1..=MOST_RAMP + 1;/'
+mutant address_at_the_count_loaded command.rs 's/(named as usize) < header.count/(named as usize) <= header.count/'
+mutant speed_of_12001_is_a_state state.rs 's/(1..=MOST_SPEED)/(1..=MOST_SPEED + 1)/'
 echo "$passed found, $failed failed"
+if [ $((passed + failed)) -eq 0 ]; then
+    echo "host/mutants.sh: no fault is named '$only'" >&2
+    exit 1
+fi
 [ "$failed" -eq 0 ]

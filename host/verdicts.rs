@@ -37,6 +37,6 @@ fn main() -> ExitCode {
             eprintln!("image {count}: expected {line:?}, status {status}; got {got:?}");
         }
     }
-    println!("{count} images, {wrong} wrong");
+    println!("counted: {count} images, {wrong} wrong");
     if count > 0 && wrong == 0 { ExitCode::SUCCESS } else { ExitCode::FAILURE }
 }

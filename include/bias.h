@@ -1,8 +1,9 @@
 /* bias.h - load, step and write BIAS motion programs.
  *
- * For drive firmware that has to run an old BIAS program (631, 635, 637, 637+, 637f). You keep the program's image and a
- * state buffer; bias_load judges the image and fills the state; then, in each cycle of the old drive, bias_step carries
- * out one command of the task that you name and tells you whether the axis is to be moved. bias_write makes an image.
+ * For drive firmware that has to run an old BIAS program (631, 635, 637, 637+, 637f). You keep the program's image and
+ * a state buffer; bias_load judges the image and fills the state; then, in each cycle of the old drive, bias_step
+ * carries out one command of the task that you name and tells you whether the axis is to be moved. bias_write makes an
+ * image; what is in one, byte by byte, is in docs/IMAGE.md.
  *
  * What is written here of answers, of their order and of the content of lent buffers is proved of the library's source
  * (docs/PROMISES.md). What is not proved says so.
@@ -19,8 +20,8 @@
  *   - Between a load and the steps after it the image stays as it is. Another header or length is refused by 17, and so
  *     is a current block that is no permitted command there. Any other change goes unnoticed, and then what runs is not
  *     the program that was judged: 17 is no checksum.
- *   - Nobody but the library writes a state buffer. 16 refuses what is no state; it is no checksum either. A copy of the
- *     buffer, byte for byte, is the same state.
+ *   - Nobody but the library writes a state buffer. 16 refuses what is no state; it is no checksum either. A copy of
+ *     the buffer, byte for byte, is the same state.
  *   - A state buffer has the layout of the release that loaded it. Its byte at BIAS_STATE_LAYOUT_AT is the layout
  *     number, which is raised by each release that moves a byte or gives one another meaning (a rule for releases, not
  *     proved). A state with another number is refused by 16: load anew, which begins the program from its start. So is
@@ -36,16 +37,22 @@
  * Besides, a step uses under 8 KiB of stack and a load or a write under 1 KiB, as measured on x86-64 (docs/BENCH.md).
  *
  * IN EACH CYCLE
- *   1. Read the input pins into inputs, and the start input (which is a pin as well: lend it in both places).
- *   2. Step BIAS, then the PLC and mathematics, each once or more. Waits (59, 5A) count BIAS steps of 1,899 or 844 us, by
- *      the drive type in the image's header and not by your own cycle: step BIAS once in that time.
- *   3. Hand each motion request to the axis before the next BIAS step, and give the axis's two bits with each step:
- *      ramp_ended and in_window. Behind a move they may come one BIAS step late: in the first BIAS step behind it a 58
- *      stays whatever they are; from the second on they have to be those of the new movement. A stop is no move: behind
- *      one they have to be those of the stop at once, so hold late ones back.
+ *   1. Read the input pins into inputs, and the start input. On the old drives that is pin 11 of terminal X10, if it
+ *      was configured with function 0, and on a 631 pin 9, if it was configured with function 3. It is an input pin as
+ *      well, which 63 and 70 read however it was configured: lend its level in both places. The image does not tell the
+ *      configuration. For a machine without a start input give start_input as 0 always: moves then start by 0E alone.
+ *   2. Step BIAS, then the PLC and mathematics, each once or more. Waits (59, 5A) count BIAS steps of 1,899 or 844 us,
+ *      by the drive type in the image's header and not by your own cycle: step BIAS once in that time.
+ *   3. Hand each motion request to the axis before the next BIAS step, also while the axis still moves (what that means
+ *      stands at the motion requests below). Give the axis's two bits with each step: ramp_ended and in_window.
+ *      They count as given from the first step on, before any move: for an axis that is at rest and was never asked to
+ *      move give 1 and 1. Bits that stay 0 until something has moved keep a 58 before the first move waiting for ever.
+ *      Behind a move they may come one BIAS step late: in the first BIAS step behind it a 58 stays whatever they are;
+ *      from the second on they have to be those of the new movement. A stop is no move: behind one they have to be
+ *      those of the stop at once, so hold late ones back.
  *   4. Carry the output levels from the state buffer to the pins. After a load they are all 0.
- *   5. Note 19 and 20 when they come: they come once, and from then on that task answers 18. No motion is asked for when
- *      a task halts or ends; stopping the axis is up to you.
+ *   5. Note 19 and 20 when they come: they come once, and from then on that task answers 18. No motion is asked for
+ *      when a task halts or ends; stopping the axis is up to you.
  */
 #ifndef BIAS_H
 #define BIAS_H
@@ -56,6 +63,15 @@
 #ifdef __cplusplus
 extern "C" {
 #endif
+
+/* The version of this header: raised by each release that changes a signature, a limit or the layout of the state (a
+ * rule for releases, not proved), so that firmware can refuse to be built with another: #if BIAS_VERSION != 4. So far:
+ *   1   release 1
+ *   2   five nested calls instead of eight, so 27,000 bytes of marks instead of 40,500; shorter records in the state
+ *   3   the layout number in the state; what is behind it stands a byte further
+ *   4   bias_step takes ramp_ended and in_window instead of position_reached; the state notes moves
+ * Nothing in the archive tells its version: take header and archive from one release. */
+#define BIAS_VERSION 4u
 
 /* Lengths of lent buffers, in bytes. */
 #define BIAS_MARKS_LENGTH 27000u
@@ -98,17 +114,26 @@ enum {
     BIAS_TASK_MATHEMATICS = 2       /* runs once a 90 started it */
 };
 
-/* Motion requests: what a step asks of the axis, and which fields of bias_answer carry it. */
+/* Motion requests: what a step asks of the axis, and which fields of bias_answer carry it.
+ *
+ * A request can come while the axis still carries out an earlier one: a program need not wait by 58 before its next
+ * move, and the PLC may stop the axis at any time. The newest counts: let it take the place of the earlier one at once,
+ * also of one from the same cycle. The library keeps no list of requests and does not know whether the axis is at rest.
+ * How the axis goes from one movement into the next is up to you; in the old drive (the manual at 22 and 23) the
+ * acceleration is the ramp to any other speed in the same direction, a lower one too, and where the direction changes
+ * the axis comes to rest by the deceleration and goes on by the acceleration. Parameters that a program sets during a
+ * movement (20 to 23, 30 to 33) go with its next request and leave the movement as it is. */
 enum {
     BIAS_MOTION_NONE = 0,
     BIAS_MOTION_MOVE_TO = 1,          /* to an absolute position: position, speed, acceleration, deceleration */
-    BIAS_MOTION_MOVE_BY = 2,          /* by a distance from the axis's latest target: the same four */
+    BIAS_MOTION_MOVE_BY = 2,          /* by a distance from the axis's latest target, reached or not: the same four */
     BIAS_MOTION_ENDLESS_FORWARD = 3,  /* the same four; position has no meaning for the movement */
     BIAS_MOTION_ENDLESS_BACKWARD = 4, /* likewise */
     BIAS_MOTION_STOP = 5              /* mode and deceleration */
 };
 enum {
-    BIAS_STOP_ABRUPT = 0,             /* the target becomes the present position; a deceleration is carried all the same */
+    BIAS_STOP_ABRUPT = 0,             /* the target becomes the present position; a deceleration is carried all the
+                                         same */
     BIAS_STOP_GUIDED = 1              /* along the deceleration ramp */
 };
 
@@ -118,9 +143,10 @@ enum {
     BIAS_SUCCESS = 0,
     /* the image, from bias_load; 1, 3 and 4 also from bias_write */
     BIAS_ENDS_EARLY = 1,              /* the image's length; bias_write: blocks too short, their length */
-    BIAS_NOT_SHORTEST = 2,            /* a header number longer than needed, or a second byte of 128 or more: its first byte */
-    BIAS_BAD_HEADER = 3,              /* a header number out of range, a board not for the type, a start not below the count:
-                                         its first byte; bias_write: the byte where it would stand */
+    BIAS_NOT_SHORTEST = 2,            /* a header number longer than needed, or a second byte of 128 or more: its first
+                                         byte */
+    BIAS_BAD_HEADER = 3,              /* a header number out of range, a board not for the type, a start not below the
+                                         count: its first byte; bias_write: the byte where it would stand */
     BIAS_LEFT_OVER = 4,               /* the first byte left over; bias_write: blocks too long, their length */
     BIAS_BAD_CODE = 5,                /* a command that is not carried: block */
     BIAS_NOT_ON_DRIVE = 6,            /* the type lacks the command, or lacks the pin with any board, as an input or
@@ -160,7 +186,7 @@ typedef struct {
 
 /* The answer of bias_step. Fields that the motion request does not carry are 0. */
 typedef struct {
-    uint64_t place;                   /* of 17, 19 and 20 the block before the step, of 15 the number or length, else 0 */
+    uint64_t place;                   /* of 17, 19, 20 the block before the step, of 15 the number or length, else 0 */
     uint32_t number;                  /* BIAS_SUCCESS or the refusal */
     uint32_t task, depth;             /* of 17, 19 and 20, else 0 */
     uint32_t motion;                  /* BIAS_MOTION_...; a refused or halting step has none */
@@ -171,9 +197,9 @@ typedef struct {
     uint32_t mode;                    /* of a stop: BIAS_STOP_... */
 } bias_answer;
 
-/* Judges an image and, when it is accepted, writes the state of a program about to begin: BIAS at the program start, the
- * PLC and mathematics never started, all variables, flags and outputs 0, the start input taken as high before, no move
- * before.
+/* Judges an image and, when it is accepted, writes the state of a program about to begin: BIAS at the program start,
+ * the PLC and mathematics never started, all variables, flags and outputs 0, the start input taken as high before, no
+ * move before.
  *
  * The first of these is told: 13, 16, the header's numbers by 1, 2, 3, the length by 1 or 4, each block upwards by 5, 6
  * or 23, 7, 8; then what the program can reach, with every condition taken both ways: 7 for a 51 that would end another
@@ -189,22 +215,25 @@ bias_verdict bias_load(const uint8_t *image, size_t image_len,
  *   state, state_len    what bias_load left and the steps since have changed
  *   task                BIAS_TASK_...; call once for each task and cycle, or in any order you like
  *   inputs, inputs_len  BIAS_INPUTS_LENGTH levels, inputs[n] for pin n; anything but 0 is high
- *   start_input         the start input's level; anything but 0 is high; looked at in BIAS steps. A move without a start
- *                       mark waits for it to be high in a BIAS step and low in the BIAS step before it (a refused step
- *                       does not count); as load leaves it, it counts as high before
- *   ramp_ended          anything but 0: the ramps of the latest movement or stop have ended
+ *   start_input         the start input's level (which pin: "IN EACH CYCLE" above); anything but 0 is high; looked at
+ *                       in BIAS steps. A move without a start mark waits for it to be high in a BIAS step and low in
+ *                       the BIAS step before it (a refused step does not count); as load leaves it, it counts as high
+ *                       before
+ *   ramp_ended          anything but 0: the ramps of the latest movement or stop have ended, or none was asked for yet
+ *                       and the axis is at rest
  *   in_window           anything but 0: the position is within the window around the target; let an endless move and a
- *                       stop leave the target where the axis is. The old drive's bit is set at an active limit switch,
- *                       too, dependent on direction (the manual at 58): give both bits there if a 58 is to go on
- *                       A 58 passes when both are given and the preceding BIAS step carried out no move (a step that was
- *                       refused or halted does not count, nor do other tasks' steps); else it stays. With no move since
- *                       the load the two bits alone decide
+ *                       stop leave the target where the axis is, and before the first move let the target be there too.
+ *                       The old drive's bit is set at an active limit switch, too, dependent on direction (the manual
+ *                       at 58): give both bits there if a 58 is to go on
+ *                       A 58 passes when both are given and the preceding BIAS step carried out no move (a step that
+ *                       was refused or halted does not count, nor do other tasks' steps); else it stays. With no move
+ *                       since the load the two bits alone decide: the library takes neither for granted
  *
  * 15, 16, 18 and 17 are tested in this order, and a step that they refuse leaves the state buffer as it was. 18 is no
  * fault: a task that is not running has nothing to do. 19 and 20 halt the task and, in a BIAS step, note the start
- * input's level; the rest of the state stays, and with it the note whether the latest BIAS step that was carried out was
- * a move. The task stays halted until a 54, 57 or 90 of another task starts it anew. In a run from an accepted load,
- * with image and state left alone, 16 and 17 do not come. */
+ * input's level; the rest of the state stays, and with it the note whether the latest BIAS step that was carried out
+ * was a move. The task stays halted until a 54, 57 or 90 of another task starts it anew. In a run from an accepted
+ * load, with image and state left alone, 16 and 17 do not come. */
 bias_answer bias_step(const uint8_t *image, size_t image_len,
                       uint8_t *state, size_t state_len,
                       uint32_t task,
@@ -220,9 +249,9 @@ bias_answer bias_step(const uint8_t *image, size_t image_len,
  *   blocks, blocks_len  BIAS_BLOCK_LENGTH bytes for each block
  *   out, out_len        room for the image; bytes behind it stay as they are
  *
- * Refusals, in this order: 3 (place: the byte where that number would stand), 1 or 4 for blocks that are too short or too
- * long (place: their length), 14 (place: the length needed). A refused write leaves `out` as it was. On success `place`
- * is the image's length. */
+ * Refusals, in this order: 3 (place: the byte where that number would stand), 1 or 4 for blocks that are too short or
+ * too long (place: their length), 14 (place: the length needed). A refused write leaves `out` as it was. On success
+ * `place` is the image's length. */
 bias_verdict bias_write(uint32_t format, uint32_t type, uint32_t slot_b, uint32_t slot_c,
                         uint32_t start, uint32_t count,
                         const uint8_t *blocks, size_t blocks_len,

@@ -1,6 +1,7 @@
 //! One case: an image, a load, and a list of steps, done on the library and on the reference side by side. Every answer
 //! field, motion request, state byte and untouched byte is compared.
 
+use crate::ends;
 use crate::library::{self, Guarded};
 use crate::tally::Tally;
 use reference::engine::Given;
@@ -99,6 +100,8 @@ pub struct Stood {
     pub block: u16,
     /// Whether the note of a move was set.
     pub moved: bool,
+    /// The content of the variable that the command reads within a range.
+    pub content: Option<i32>,
 }
 
 /// What a step of the player met.
@@ -164,7 +167,7 @@ impl Case {
         let mut state = vec![self.fill; self.state_len];
         let ours = library::load(&image, marks.inner(), library.inner());
         let theirs = reference::load(&self.image, &mut vec![self.fill; self.marks_len], &mut state);
-        tally.load(theirs.number);
+        tally.load(&self.image, &theirs);
         same("load, number", ours.number, theirs.number)?;
         same("load, place", ours.place, theirs.place)?;
         same("load, task", ours.task, theirs.task)?;
@@ -193,6 +196,9 @@ impl Sides {
         let played = self.reference.play(&self.image, action);
         let after = played.taken_back.as_ref().unwrap_or(&self.reference.state);
         tally.step(&played.answer, played.before, after, action);
+        if !action.pokes.is_empty() {
+            tally.poked(&prepared.state, &played.answer);
+        }
         same_answers(&ours, &played.answer)?;
         same_bytes("state after the step", self.library.seen(), after)?;
         held("wrote outside the state", self.library.intact())?;
@@ -202,11 +208,13 @@ impl Sides {
 
 /// Where the task stands, when there is such a thing.
 fn stood(image: &[u8], state: &mut [u8], task: u32) -> Option<Stood> {
+    let task = Some(task as usize).filter(|task| *task < TASKS)?;
     let state = State::of(state)?;
     let (header, blocks) = image::read(image).ok()?;
-    let block = if (task as usize) < TASKS { state.block(task as usize) } else { return None };
-    let code = || image::block(blocks, block as usize)[0];
-    ((block as usize) < header.count).then(|| Stood { code: code(), block, moved: state.moved() != 0 })
+    let number = state.block(task);
+    let block = image::block(blocks, Some(number as usize).filter(|number| *number < header.count)?);
+    let content = ends::content_read(&state, task, block);
+    Some(Stood { code: block[0], block: number, moved: state.moved() != 0, content })
 }
 
 fn same_answers(ours: &Answer, theirs: &Answer) -> Checked {

@@ -1,13 +1,13 @@
 //! Random cases: an image, then steps of mixed tasks, among them refused ones and hostile states.
 
 use crate::case::{Action, Case, Player};
+use crate::ends;
 use crate::program;
 use crate::random::Random;
 use reference::image;
 use reference::number::*;
 use reference::state::{
-    record, State, ACCELERATION, BLOCK, COUNT, DECELERATION, DEPTH, FLAGS, HEADER, LAYOUT_AT, MOVED, PATH, POSITION,
-    RECORD_LENGTH, RUNNING, SPEED, START, STARTS, START_LEVEL, START_MARK, STATE_LENGTH, STATUS, TIME, TURNS, UNUSED,
+    record, State, BLOCK, DEPTH, FLAGS, LAYOUT_AT, PATH, RECORD_LENGTH, RUNNING, STATE_LENGTH, STATUS, TIME, TURNS,
 };
 
 /// A case. Its steps are drawn while the reference does them, so that most are for tasks that run.
@@ -32,7 +32,7 @@ pub fn case(random: &mut Random) -> Case {
 
 /// A load alone, of an image that is likely to be refused.
 pub fn load(random: &mut Random) -> Case {
-    let image = program::changed(random);
+    let image = if random.chance(10) { program::headed(random) } else { program::changed(random) };
     Case { image, marks_len: MARKS_LENGTH, state_len: STATE_LENGTH, fill: random.byte(), actions: Vec::new() }
 }
 
@@ -111,6 +111,11 @@ impl Drawing<'_> {
             action.keep = true;
             return;
         }
+        if let Some(bytes) = self.content_to_read(action.task) {
+            action.pokes = bytes;
+            action.keep = true;
+            return;
+        }
         match self.random.below(300) {
             0 => action.inputs_len = self.random.pick(&[0, 1, 255, 257, 512, 1000]),
             1 => action.state_len = self.random.pick(&[0, 1, STATE_LENGTH - 1, STATE_LENGTH + 1, 4096]),
@@ -121,22 +126,38 @@ impl Drawing<'_> {
             }
             4..=5 => action.lent = self.pin_at_the_pointer(action.task),
             6..=35 => {
-                action.pokes = pokes(self.random, self.count);
+                action.pokes = pokes(self.random, self.count, &self.player.state);
                 action.keep = self.random.chance(40);
             }
             _ => (),
         }
     }
 
+    /// Where the block that the task stands at begins in the image.
+    fn block_at(&mut self, task: usize) -> Option<usize> {
+        let block = State::of(&mut self.player.state)?.block(task) as usize;
+        let first = self.image.len().checked_sub(BLOCK_LENGTH * self.count.checked_sub(block)?)?;
+        self.image.get(first..first + BLOCK_LENGTH).map(|_| first)
+    }
+
     /// The image with another block where the task stands, one that uses a pin.
     fn pin_at_the_pointer(&mut self, task: u32) -> Option<Vec<u8>> {
-        let task = (task as usize).min(TASKS - 1);
-        let block = State::of(&mut self.player.state)?.block(task) as usize;
-        let behind = BLOCK_LENGTH * self.count.checked_sub(block)?;
+        let first = self.block_at((task as usize).min(TASKS - 1))?;
         let mut other = self.image.clone();
-        let first = other.len().checked_sub(behind)?;
-        other.get_mut(first..first + BLOCK_LENGTH)?.copy_from_slice(&program::pin_block(self.random));
+        other[first..first + BLOCK_LENGTH].copy_from_slice(&program::pin_block(self.random));
         Some(other)
+    }
+
+    /// Now and then, what the task is about to read within a range is at an end of it.
+    fn content_to_read(&mut self, task: u32) -> Option<Vec<(usize, u8)>> {
+        let task = Some(task as usize).filter(|task| *task < TASKS)?;
+        let first = self.block_at(task)?;
+        let block = self.image[first..first + BLOCK_LENGTH].try_into().ok()?;
+        let state = State::of(&mut self.player.state)?;
+        let (variable, content) = ends::content_to_read(self.random, &state, task, &block)?;
+        let mut bytes = Vec::new();
+        put(&mut bytes, 4 * variable as usize, 4, content as u32);
+        self.random.chance(20).then_some(bytes)
     }
 
     /// A task that runs at its start, or at some block.
@@ -178,15 +199,8 @@ impl Drawing<'_> {
     }
 }
 
-/// Where the fields of a state stand (docs/STATE.md), the layout number first, and how many bytes each has.
-const FIELDS: [(usize, usize); 18] = [
-    (LAYOUT_AT, 1), (HEADER, 1), (HEADER + 1, 1), (HEADER + 2, 1), (HEADER + 3, 1), (START, 2), (COUNT, 2),
-    (POSITION, 4), (SPEED, 2), (ACCELERATION, 2), (DECELERATION, 2), (START_MARK, 1), (START_LEVEL, 1), (MOVED, 1),
-    (STARTS, 2), (STARTS + 2, 2), (UNUSED, 1), (STATE_LENGTH - 1, 1),
-];
-
 /// What somebody else might write: one to three fields, mostly near the ends of their ranges.
-fn pokes(random: &mut Random, count: usize) -> Vec<(usize, u8)> {
+fn pokes(random: &mut Random, count: usize, state: &[u8]) -> Vec<(usize, u8)> {
     let mut bytes = Vec::new();
     for _ in 0..random.between(1, 3) {
         match random.below(10) {
@@ -194,14 +208,10 @@ fn pokes(random: &mut Random, count: usize) -> Vec<(usize, u8)> {
             1 => bytes.push((FLAGS + random.below(LAYOUT_AT - FLAGS), random.below(3) as u8)),
             2 => {
                 let variable = if random.chance(50) { random.below(8) } else { program::GOOD.start + random.below(4) };
-                put(&mut bytes, 4 * variable, 4, variable_value(random));
+                put(&mut bytes, 4 * variable, 4, ends::content(random) as u32);
             }
-            3 => {
-                let (at, width) = random.pick(&FIELDS);
-                let value = field_value(random, count);
-                put(&mut bytes, at, width, value);
-            }
-            4..=5 => poke_wait(random, &mut bytes),
+            3..=4 => bytes.extend(ends::field(random, state)),
+            5 => poke_wait(random, &mut bytes),
             _ => poke_task(random, count, &mut bytes),
         }
     }
@@ -212,21 +222,16 @@ fn put(bytes: &mut Vec<(usize, u8)>, at: usize, width: usize, value: u32) {
     bytes.extend(value.to_le_bytes().into_iter().take(width).enumerate().map(|(step, byte)| (at + step, byte)));
 }
 
-fn variable_value(random: &mut Random) -> u32 {
-    if random.chance(80) { random.pick(&program::EDGES) } else { random.next() as u32 }
-}
-
-fn field_value(random: &mut Random, count: usize) -> u32 {
+fn block_value(random: &mut Random, count: usize) -> u32 {
     let count = count as u32;
-    let edges = [0, 1, 2, 3, 4, 5, count - 1, count, count + 1, 1499, 1500, 1501, 12000, 12001, 64000, 64001, 65535];
-    random.pick(&edges)
+    random.pick(&[0, 1, count - 1, count, count + 1, 1499, 1500, 1501, 65535])
 }
 
 /// Status, depth, block and return entries of a task.
 fn poke_task(random: &mut Random, count: usize, bytes: &mut Vec<(usize, u8)>) {
     let at = record(random.below(TASKS));
     let inside = random.below(count) as u32;
-    let block = if random.chance(85) { inside } else { field_value(random, count) };
+    let block = if random.chance(85) { inside } else { block_value(random, count) };
     match random.below(5) {
         0 => bytes.push((at + STATUS, random.pick(&[0, 1, 1, 2, 3, 4, 255]))),
         1..=2 => {

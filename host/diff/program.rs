@@ -1,5 +1,6 @@
 //! Random images: programs grown until they are accepted, damaged ones, and noise.
 
+use crate::ends;
 use crate::random::Random;
 use reference::command::{codes, row};
 use reference::drive::{most_board, Drive, Presence, TYPE_637F};
@@ -40,6 +41,13 @@ pub fn accepted(random: &mut Random) -> Vec<u8> {
     let (start, mut blocks) = maker.program();
     maker.mend(start, &mut blocks);
     maker.image(start, &blocks)
+}
+
+/// An accepted program with a header number at an end of its range, or just past it: refused by 3, 1 or 4, or by its
+/// blocks, if at all.
+pub fn headed(random: &mut Random) -> Vec<u8> {
+    let image = accepted(random);
+    ends::header(random, &image)
 }
 
 /// The same without mending: blocks pass 5 to 8 and 23, walks decide.
@@ -128,9 +136,6 @@ const OFTEN: [u8; 24] = [
 ];
 /// Variables that are set to good parameters, mostly, at a program's beginning.
 pub const GOOD: std::ops::Range<usize> = 16..20;
-/// Contents at the ends of the ranges of 31 to 33 and 5A.
-pub const EDGES: [u32; 15] =
-    [0, 1, 2, 3, 11999, 12000, 12001, 63999, 64000, 64001, 65534, 65535, 65536, 1 << 31, u32::MAX];
 
 impl Maker<'_> {
     pub fn new(random: &mut Random) -> Maker<'_> {
@@ -171,7 +176,7 @@ impl Maker<'_> {
         let byte = self.random.below(BLOCK_LENGTH);
         let code = self.code();
         let [low, high] = (at as u16).to_le_bytes();
-        match self.random.below(9) {
+        match self.random.below(11) {
             0 => blocks[at][0] = self.random.byte(),
             1 => blocks[at][byte] = self.random.byte(),
             2 => blocks[at][byte] = blocks[at][byte].wrapping_add(1),
@@ -180,6 +185,10 @@ impl Maker<'_> {
             5 => blocks[at] = [0x52, low, high, 0, 0, 0, 0, 0],
             6 => blocks[self.count - 1] = self.block(code, 0),
             7 => blocks[at] = pin_block(self.random),
+            8..=9 => {
+                let operand = ends::operand(self.random);
+                blocks[at] = operand.put(self.block(operand.code, 0), self.count);
+            }
             _ => blocks[at] = self.block(code, 0),
         }
     }
@@ -263,8 +272,8 @@ impl Maker<'_> {
         }
         let mut block = self.block(0x80, section);
         block[1] = (GOOD.start + at) as u8;
-        let good = self.random.between(1, MOST_SPEED as usize) as u32;
-        let value = if self.random.chance(80) { good } else { self.random.pick(&EDGES) };
+        let good = self.random.between(1, MOST_SPEED as usize) as i32;
+        let value = if self.random.chance(80) { good } else { ends::content(self.random) };
         block[2..6].copy_from_slice(&value.to_le_bytes());
         block
     }
@@ -314,7 +323,7 @@ impl Maker<'_> {
             0 => i32::MIN,
             1 => i32::MAX,
             2 => -1,
-            3 => self.random.pick(&[0, 1, 2, -2, 12000, 12001, 64000, 64001, 65535, 65536, i32::MIN + 1]),
+            3 => ends::content(self.random),
             4 => self.random.next() as i32,
             5 => -(self.random.below(100) as i32),
             _ => self.random.below(100) as i32,

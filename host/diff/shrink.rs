@@ -1,6 +1,7 @@
 //! Makes a case that differs smaller: fewer steps, fewer and plainer blocks; and prints it.
 
 use crate::case::{Action, Case};
+use crate::ends;
 use crate::tally::Tally;
 use reference::command::row;
 use reference::hex::digits_of;
@@ -253,12 +254,7 @@ fn move_pokes(pokes: &mut [(usize, u8)], moved: &dyn Fn(usize) -> usize) {
 fn readdressed(block: &Block, moved: &dyn Fn(usize) -> usize) -> Block {
     let mut block = *block;
     if let Some(named) = row(block[0]).and_then(|row| row.named(&block)) {
-        let [low, high] = (moved(named as usize) as u16).to_le_bytes();
-        match block[0] {
-            0x81 => (block[6], block[7]) = ((block[6] & 0xF0) | high, low),
-            0x52 | 0x54 | 0x55 | 0x57 | 0x90 => block[1..3].copy_from_slice(&[low, high]),
-            _ => block[4..6].copy_from_slice(&[low, high]),
-        }
+        ends::put_address(&mut block, moved(named as usize) as u16);
     }
     block
 }

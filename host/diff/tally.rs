@@ -1,11 +1,12 @@
-//! What a run has met: loads, steps and writes by number, commands carried out by code and where they went, and what
-//! the note of a move is for.
+//! What a run has met: loads, steps and writes by number, commands carried out by code and where they went, what the
+//! note of a move is for, and the ends of ranges.
 
 use crate::case::{Action, Stood};
+use crate::ends::Met;
 use reference::command::codes;
 use reference::number::*;
 use reference::state::State;
-use reference::Answer;
+use reference::{Answer, Verdict};
 
 /// Room for every number, and those that there are.
 const NUMBERS: usize = BOARD_MISSING as usize + 1;
@@ -33,6 +34,7 @@ pub struct Tally {
     /// 58s that stayed by the note of a move alone, and BIAS steps right behind a move that halted.
     held_back: u64,
     halted_behind: u64,
+    ends: Met,
 }
 
 impl Tally {
@@ -47,11 +49,13 @@ impl Tally {
             motions: [0; 6],
             held_back: 0,
             halted_behind: 0,
+            ends: Met::default(),
         }
     }
 
-    pub fn load(&mut self, number: u32) {
-        self.loads[number as usize] += 1;
+    pub fn load(&mut self, image: &[u8], verdict: &Verdict) {
+        self.loads[verdict.number as usize] += 1;
+        self.ends.load(image, verdict);
     }
 
     pub fn write(&mut self, number: u32) {
@@ -67,6 +71,9 @@ impl Tally {
         self.steps[answer.number as usize] += 1;
         if let Some(stood) = before {
             self.note_of_a_move(answer, stood, action);
+            if let Some(content) = stood.content {
+                self.ends.content(stood.code, content, answer.number);
+            }
         }
         let (SUCCESS, Some(Stood { code, block, .. })) = (answer.number, before) else {
             return;
@@ -87,6 +94,11 @@ impl Tally {
         }
     }
 
+    /// A step on a state that somebody else had written.
+    pub fn poked(&mut self, lent: &[u8], answer: &Answer) {
+        self.ends.state(lent, answer.number);
+    }
+
     /// Change request 4: what a step was that the note of a move decides, or that leaves it.
     fn note_of_a_move(&mut self, answer: &Answer, stood: Stood, action: &Action) {
         let both = action.ramp_ended != 0 && action.in_window != 0;
@@ -97,7 +109,7 @@ impl Tally {
         }
     }
 
-    /// Prints the whole; gives what was never met: codes, numbers, and what the note of a move is for.
+    /// Prints the whole; gives what was never met: codes, numbers, what the note of a move is for, ends of ranges.
     pub fn report(&self) -> Vec<String> {
         print_numbers("loads by number", &self.loads);
         print_numbers("writes by number", &self.writes);
@@ -112,7 +124,13 @@ impl Tally {
         }
         println!("58s that stayed by the note of a move alone: {}", self.held_back);
         println!("halts of BIAS right behind a move: {}", self.halted_behind);
-        self.missing()
+        let (ends, rarest, lost_ends) = self.ends.missing();
+        println!("ends of ranges: {ends}, the rarest met {rarest} times");
+        let (steps, images) = (self.steps_done(), self.loads.iter().sum::<u64>());
+        println!("counted: {steps} steps, {images} images, {} of {ends} ends of ranges", ends - lost_ends.len());
+        let mut missing = self.missing();
+        missing.extend(lost_ends);
+        missing
     }
 
     fn cell(&self, code: u8) -> String {

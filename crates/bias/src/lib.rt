@@ -2,6 +2,8 @@
 // each answers whatever bytes a host lends.
 use bias_results::BiasAnswer;
 use bias_results::BiasVerdict;
+use command_operands::Command;
+use exec_step::Ready;
 use image_header::reader;
 use limits::INPUTS_LENGTH;
 use limits::MARKS_LENGTH;
@@ -10,19 +12,25 @@ use limits::TASK_COUNT;
 use machine::Answer;
 use machine::Request;
 use state::State;
+use state::Task;
 use walk::Verdict;
 ghost use mathlib.Core.Path.{_≡_};
+ghost use mathlib.Core.Bool.{true};
 ghost use mathlib.Core.List.{[], _∷_};
+ghost use Prim.Native.Nat.{_<_};
 ghost use lib.ListN.{length};
-ghost use Rattle.limits.specs.Limits.{marksLength, stateLength};
+ghost use Rattle.limits.specs.Limits.{taskCount, marksLength, stateLength, inputsLength};
 ghost use Rattle.walk.specs.Verdict.{verdictOf};
 ghost use Rattle.walk_search.specs.After.{After};
 ghost use Rattle.image_writer.specs.Writer.{written, outAfter};
-ghost use Rattle.state.specs.GoodState.{GoodState};
-ghost use Rattle.state_layout.specs.Layout.{encoded};
+ghost use Rattle.state.specs.State.{taskAt};
+ghost use Rattle.state_layout.specs.Layout.{decoded};
+ghost use Rattle.state_layout.specs.IsState.{isState};
 ghost use Rattle.machine.specs.Inputs.{inputsOf};
-ghost use Rattle.machine.specs.Engine.{step};
+ghost use Rattle.machine.specs.Engine.{termsHeld, taskStep};
 ghost use Rattle.machine.specs.Theorem.{loaded};
+ghost use Rattle.exec_step.specs.Readiness.{readyFor};
+ghost use Rattle.exec_step.specs.declared.Ready.the-variants.{Carries};
 ghost use Rattle.bias_results.specs.Results.{writtenFor};
 ghost use Rattle.bias.specs.Load.{load, judgedLoad};
 ghost use Rattle.bias.specs.Step.{handed, stepState, stepped};
@@ -56,7 +64,7 @@ fn load_image(image: &[u8], marks: &mut [u8], state: &mut [u8]) -> BiasVerdict
     if !walk_verdict::is_accepted(verdict) {
         return bias_results::verdict(verdict);
     }
-    put_state(state, fresh(image));
+    state_encode::encode(state, fresh(image));
     bias_results::verdict(verdict)
 }
 
@@ -66,15 +74,6 @@ fn fresh(image: &[u8]) -> State
 {
     let read = reader::read(image);
     State::fresh(read.header)
-}
-
-// The bytes of a state into the buffer.
-fn put_state(state: &mut [u8], s: State)
-    requires { ⌜ length (now state) ≡ stateLength ⌝ }
-    ensures { λ _. ⌜ now (state .exit) ≡ encoded s ⌝ }
-{
-    let b = state_encode::encode(s);
-    state_copy::copy_out(state, &b);
 }
 
 // Steps a task: 15, then 16, then 18, 17 or the command.
@@ -99,58 +98,108 @@ pub extern "C" fn bias_step(
     if n != INPUTS_LENGTH {
         return bias_results::answer(Request::None, Answer::Inputs(n));
     }
-    if state.len() != STATE_LENGTH {
-        return bias_results::no_state();
-    }
-    step_buffer(image, state, task, inputs, start, ramp_ended, in_window)
+    step_buffer(
+        image,
+        state,
+        task as u8,
+        inputs,
+        start,
+        ramp_ended,
+        in_window,
+    )
 }
 
-// Steps a task of the state that a buffer holds, if it holds one.
+// Steps a task of the state that a buffer holds, if it holds one: 16, then 18 and 17, which leave the buffer alone, then the command.
 fn step_buffer(
     image: &[u8],
     state: &mut [u8],
-    task: u32,
+    t: u8,
     inputs: &[u8],
     start: u8,
     ramp_ended: u8,
     in_window: u8,
 ) -> BiasAnswer
-    requires { ⌜ length (now state) ≡ stateLength ⌝ }
-    ensures { λ r. ⌜ r ≡ stepState (now (image .entry)) (now (state .entry)) (inputsOf task (now (inputs .entry)) start «ramp_ended» «in_window») .answer ⌝ }
+    requires { ⌜ t < taskCount ⌝ }
+    requires { ⌜ length (now inputs) ≡ inputsLength ⌝ }
+    ensures { λ r. ⌜ r ≡ stepState (now (image .entry)) (now (state .entry)) (inputsOf t (now (inputs .entry)) start «ramp_ended» «in_window») .answer ⌝ }
     ensures { λ _. ⌜ now (state .exit)
-        ≡ stepState (now (image .entry)) (now (state .entry)) (inputsOf task (now (inputs .entry)) start «ramp_ended» «in_window») .buffer ⌝ }
+        ≡ stepState (now (image .entry)) (now (state .entry)) (inputsOf t (now (inputs .entry)) start «ramp_ended» «in_window») .buffer ⌝ }
 {
-    let b = state_copy::copy_in(state);
-    let s = state_decode::decode(&b);
-    if !state_judge::frame_is(&b) {
+    if !state_judge::is_state(state) {
         return bias_results::no_state();
     }
-    if !state_judge::state_is(s) {
-        return bias_results::no_state();
+    let header = state_decode::header_in(state);
+    let task = state_decode::task_at(state, t);
+    match exec_step::ready_for(image, header, t, task) {
+        Ready::Refused(answer) => bias_results::answer(Request::None, answer),
+        Ready::Carries(c) => {
+            carry_out(
+                image,
+                state,
+                t,
+                inputs,
+                start,
+                ramp_ended,
+                in_window,
+                task,
+                c,
+            )
+        }
     }
-    step_state(image, state, s, task, inputs, start, ramp_ended, in_window)
 }
 
-// Steps a task of a good state, and puts the state after it into the buffer.
-fn step_state(
+// Carries out the command c of a task: its effect on the values of the state, and the state after it into the buffer.
+fn carry_out(
     image: &[u8],
     state: &mut [u8],
-    s: State,
-    task: u32,
+    t: u8,
     inputs: &[u8],
     start: u8,
     ramp_ended: u8,
     in_window: u8,
+    task: Task,
+    c: Command,
 ) -> BiasAnswer
-    requires { ⌜ length (now state) ≡ stateLength ⌝ }
-    requires { ⌜ GoodState s ⌝ }
-    ensures { λ r. ⌜ r ≡ handed (step (now (image .entry)) s (inputsOf task (now (inputs .entry)) start «ramp_ended» «in_window»)) .answer ⌝ }
-    ensures { λ _. ⌜ now (state .exit) ≡ handed (step (now (image .entry)) s (inputsOf task (now (inputs .entry)) start «ramp_ended» «in_window»)) .buffer ⌝ }
+    requires { ⌜ isState (now state) ≡ true ⌝ }
+    requires { ⌜ t < taskCount ⌝ }
+    requires { ⌜ task ≡ taskAt (decoded (now state)) t ⌝ }
+    requires { ⌜ Carries c ≡ readyFor (now image) (termsHeld (decoded (now state))) t task ⌝ }
+    ensures { λ r. ⌜ r
+        ≡ handed (taskStep (now (image .entry)) (decoded (now (state .entry))) (inputsOf t (now (inputs .entry)) start «ramp_ended» «in_window») task)
+        .answer ⌝ }
+    ensures { λ _. ⌜ now (state .exit)
+        ≡ handed (taskStep (now (image .entry)) (decoded (now (state .entry))) (inputsOf t (now (inputs .entry)) start «ramp_ended» «in_window») task)
+        .buffer ⌝ }
 {
-    let out = exec_step::step(image, s, task, inputs, start, ramp_ended, in_window);
-    let request = out.request;
-    let answer = out.answer;
-    put_state(state, out.state);
+    let header = state_decode::header_in(state);
+    let tasks = state_decode::tasks_in(state);
+    let e = exec_step::carry_out(
+        header.drive,
+        c,
+        inputs,
+        start,
+        ramp_ended,
+        in_window,
+        task.time,
+        task.turns,
+        state_decode::values_in(state),
+    );
+    let outcome = e.outcome;
+    let request = e.request;
+    let motion = e.values.motion;
+    let notes = exec_step::notes_after(t, start, outcome, request, e.values.notes);
+    let after = exec_tasks::after(header.start, t, task, outcome, tasks);
+    let answer = exec_step::answer_to(outcome, exec_step::point_of(t, task));
+    state_encode::encode_parts(
+        state,
+        &e.values.cells.variables,
+        &e.values.cells.flags,
+        &e.values.cells.outputs,
+        header,
+        motion,
+        notes,
+        after,
+    );
     bias_results::answer(request, answer)
 }
 

@@ -6,7 +6,8 @@ use drive::Presence;
 use image_header::Header;
 use limits::BLOCK_LENGTH;
 ghost use mathlib.Core.Path.{_≡_};
-ghost use Rattle.command_judge.specs.BlockFault.{operandFault, commandFault, blockFault, blockFaultNumber};
+ghost use Rattle.command_judge.specs.BlockFault.{operandFault, commandFault, rowFault, blockFault, blockFaultNumber};
+ghost use Rattle.command_operands.specs.Operands.{laidOut};
 
 pub mod devices;
 pub mod ranges;
@@ -47,11 +48,19 @@ pub fn judge(header: Header, block: [u8; BLOCK_LENGTH]) -> BlockFault
     ensures { λ r. ⌜ r ≡ blockFault header block ⌝ }
 {
     let row = command_table::find(block[0]);
+    let layout = row.layout;
+    judge_read(row, header, block, command_operands::lay_out(layout, block))
+}
+
+// The same, where the block's row and its operands c were read before.
+pub fn judge_read(row: Row, header: Header, block: [u8; BLOCK_LENGTH], c: Command) -> BlockFault
+    requires { ⌜ c ≡ laidOut (row .layout) block ⌝ }
+    ensures { λ r. ⌜ r ≡ rowFault row header block ⌝ }
+{
     if !row.carried {
         return BlockFault::NotCarried;
     }
-    let layout = row.layout;
-    judge_command(row, header, block, command_operands::lay_out(layout, block))
+    judge_command(row, header, block, c)
 }
 
 // A block whose code has this row, with its operands c: what the drive must have, then the operands.

@@ -1,46 +1,38 @@
-// One step of one task: the tests in document 01's order (15, 18, 17; 16 is the buffer's), then the command.
+// One step of one task: the tests in document 01's order (18, 17; 15 and 16 are the border's), then the command's effect, and what it makes of notes and
+// answer.
 use command_operands::Command;
+use drive::Drive;
 use image_header::Header;
 use image_header::reader;
 use image_header::reader::HeaderRead;
+use limits::BLOCK_LENGTH;
 use machine::Answer;
 use machine::Context;
 use machine::Effect;
 use machine::Outcome;
 use machine::Request;
-use machine::StepOut;
 use state::Notes;
-use state::State;
 use state::Task;
+use state::Values;
+use walk_blocks::Instruction;
 use walk_point::Point;
 ghost use mathlib.Core.Path.{_≡_};
-ghost use mathlib.Core.List.{[]};
-ghost use mathlib.Core.Bool.{true};
-ghost use Prim.Native.Nat.{_<_, _≤_};
-ghost use Rattle.limits.specs.Limits.{taskCount, mostBlocks, mostDepth};
-ghost use Rattle.walk.specs.Blocks.{commandAt};
-ghost use Rattle.state.specs.State.{taskAt};
-ghost use Rattle.state.specs.GoodState.{GoodState};
+ghost use mathlib.Core.Bool.{_||_, not};
+ghost use Prim.Native.Nat.{_<_};
 ghost use Rattle.walk_flow.specs.Terms.{under};
-ghost use Rattle.machine.specs.Inputs.{inputsOf};
-ghost use Rattle.machine.specs.Effect.{bit};
-ghost use Rattle.machine.specs.DepthAllows.{DepthAllows};
-ghost use Rattle.machine.specs.Engine.{refuse, isWait, isLoaded, blockFits, waitFits, fitsAs, isMove, movedAfter, notesAfter, answerTo, pointOf};
-ghost use Rattle.machine.specs.Engine.{performed, carriedOut, taskStep, step, termsHeld};
+ghost use Rattle.walk_blocks.specs.Instructions.{instructionOf};
+ghost use Rattle.machine.specs.Effect.{bit, isSet, effectOf};
+ghost use Rattle.machine.specs.Engine.{isWait, isLoaded, isMove, movedAfter, notesAfter, answerTo, pointOf};
+ghost use Rattle.exec_step.specs.Readiness.{contextWith, passes, readyFor};
 
-// A step that is refused: nothing changes, and no motion is asked for.
-fn refuse(state: State, answer: Answer) -> StepOut
-    ensures { λ r. ⌜ r ≡ refuse state answer ⌝ }
-{
-    StepOut {
-        state: state,
-        request: Request::None,
-        answer: answer,
-    }
+// What stands against a step, by 18 or 17, or the command that it carries out.
+pub enum Ready {
+    Refused(Answer),
+    Carries(Command),
 }
 
 // Where a task is.
-fn point_of(t: u8, task: Task) -> Point
+pub fn point_of(t: u8, task: Task) -> Point
     ensures { λ r. ⌜ r ≡ pointOf t task ⌝ }
 {
     Point {
@@ -58,7 +50,7 @@ fn is_wait(code: u8) -> bool
 }
 
 // The answer to a command that was carried out, or halted its task.
-fn answer_to(outcome: Outcome, p: Point) -> Answer
+pub fn answer_to(outcome: Outcome, p: Point) -> Answer
     ensures { λ r. ⌜ r ≡ answerTo outcome p ⌝ }
 {
     match outcome {
@@ -107,7 +99,7 @@ fn moved_after(outcome: Outcome, request: Request, before: u8) -> u8
 }
 
 // The notes after a step: a BIAS step takes the start input's level and whether it carried out a move.
-fn notes_after(t: u8, start: u8, outcome: Outcome, request: Request, before: Notes) -> Notes
+pub fn notes_after(t: u8, start: u8, outcome: Outcome, request: Request, before: Notes) -> Notes
     ensures { λ r. ⌜ r ≡ notesAfter t start outcome request before ⌝ }
 {
     if t != limits::BIAS {
@@ -119,12 +111,23 @@ fn notes_after(t: u8, start: u8, outcome: Outcome, request: Request, before: Not
     }
 }
 
-// 17: whether the lent image, whose header and blocks these are, is the loaded one, the block at the pointer passes 5 to 12 and 23 there, and a pending
-// wait stands at a wait.
-fn fits(read: HeaderRead, blocks: &[u8], header: Header, t: u8, task: Task) -> bool
-    ensures { λ r. ⌜ r ≡ fitsAs read (now (blocks .entry)) (under header) t task ⌝ }
+// 18, then 17, of the task t with this record, in a program that was loaded with this header: header, block and row are read once.
+pub fn ready_for(image: &[u8], header: Header, t: u8, task: Task) -> Ready
+    ensures { λ r. ⌜ r ≡ readyFor (now (image .entry)) (under header) t task ⌝ }
 {
-    is_loaded(read, header) & (block_fits(header, blocks, t, task) & wait_fits(blocks, task))
+    if task.status != state::RUNNING {
+        return Ready::Refused(Answer::NotRunning);
+    }
+    let read = reader::read(image);
+    let block = walk_blocks::block_at(reader::part_of(image, read), task.block);
+    let i = walk_blocks::decode(block);
+    let c = i.command;
+    let p = point_of(t, task);
+    if !(is_loaded(read, header)
+        & (block_fits(header, block, i, p) & wait_fits(c.code, task.time))) {
+        return Ready::Refused(Answer::Differs(p));
+    }
+    Ready::Carries(c)
 }
 
 // Whether what was read of the lent image is this header.
@@ -135,134 +138,47 @@ fn is_loaded(read: HeaderRead, header: Header) -> bool
     result.is_done() & reader::same(read.header, header)
 }
 
-// Whether the block at a task's pointer passes 5 to 8 and 23 by itself, and 9 to 12 where the task is.
-fn block_fits(header: Header, blocks: &[u8], t: u8, task: Task) -> bool
-    ensures { λ r. ⌜ r ≡ blockFits (under header) (now (blocks .entry)) t task ⌝ }
+// Whether a block, whose instruction this is, passes 5 to 8 and 23 by itself, and 9 to 12 at a point.
+fn block_fits(header: Header, block: [u8; BLOCK_LENGTH], i: Instruction, p: Point) -> bool
+    requires { ⌜ i ≡ instructionOf block ⌝ }
+    ensures { λ r. ⌜ r ≡ passes header block (i .command) p ⌝ }
 {
-    let fault = walk_blocks::fault_at(header, blocks, point_of(t, task));
-    let block_fault = walk_blocks::block_fault_at(header, blocks, task.block);
-    (block_fault.number() == 0) & (fault.number() == 0)
-}
-
-// The command at a task's block.
-fn command_here(blocks: &[u8], task: Task) -> Command
-    ensures { λ r. ⌜ r ≡ commandAt (now (blocks .entry)) (task .block) ⌝ }
-{
-    walk_blocks::command_at(blocks, task.block)
+    let row = i.row;
+    let c = i.command;
+    let by_itself = command_judge::judge_read(row, header, block, c);
+    let there = p.fault(header, row, c);
+    (by_itself.number() == 0) & (there.number() == 0)
 }
 
 // Whether a pending wait stands at a wait.
-fn wait_fits(blocks: &[u8], task: Task) -> bool
-    ensures { λ r. ⌜ r ≡ waitFits (now (blocks .entry)) task ⌝ }
+fn wait_fits(code: u8, time: u32) -> bool
+    ensures { λ r. ⌜ r ≡ (not (isSet time) || isWait code) ⌝ }
 {
-    let c = command_here(blocks, task);
-    (task.time == 0) | is_wait(c.code)
+    (time == 0) | is_wait(code)
 }
 
-// What a command comes to: the values with the notes of a BIAS step, the tasks after its outcome, its request, its answer.
-fn performed(state: State, t: u8, start: u8, task: Task, e: Effect) -> StepOut
-    requires { ⌜ task .block < mostBlocks ⌝ }
-    requires { ⌜ DepthAllows (task .depth) (e .outcome) ⌝ }
-    ensures { λ r. ⌜ r ≡ performed state (inputsOf t [] start 0 0) task e ⌝ }
-{
-    let header = state.header;
-    let before = state.tasks;
-    let outcome = e.outcome;
-    let request = e.request;
-    let notes = notes_after(t, start, outcome, request, e.values.notes);
-    let after = exec_tasks::after(header.start, t, task, outcome, before);
-    let answer = answer_to(outcome, point_of(t, task));
-    let values = e.values.with_notes(notes);
-    StepOut {
-        state: State {
-            values: values,
-            header: header,
-            tasks: after,
-        },
-        request: request,
-        answer: answer,
-    }
-}
-
-// The command at the task's block, carried out.
-fn carry_out(
-    blocks: &[u8],
-    s: State,
-    t: u8,
+// What a command does, in a program for this drive, with the task's pending wait.
+pub fn carry_out(
+    drive: Drive,
+    c: Command,
     inputs: &[u8],
     start: u8,
     ramp_ended: u8,
     in_window: u8,
-    task: Task,
-) -> StepOut
-    requires { ⌜ task .block < mostBlocks ⌝ }
-    requires { ⌜ task .depth ≤ mostDepth ⌝ }
-    requires { ⌜ task .turns < 4294967295 ⌝ }
-    requires { ⌜ blockFits (termsHeld s) (now blocks) t task ≡ true ⌝ }
-    ensures { λ r. ⌜ r ≡ carriedOut (now (blocks .entry)) s (inputsOf t (now (inputs .entry)) start «ramp_ended» «in_window») task ⌝ }
+    time: u32,
+    turns: u32,
+    values: Values,
+) -> Effect
+    requires { ⌜ turns < 4294967295 ⌝ }
+    ensures { λ r. ⌜ r ≡ effectOf (now (inputs .entry)) (contextWith drive start «ramp_ended» «in_window» time turns) c values ⌝ }
 {
-    let c = command_here(blocks, task);
-    let header = s.header;
-    let drive = header.drive;
-    let values = s.values;
     let context = Context {
         drive: drive,
         start: exec_effect::level(start),
         ramp_ended: exec_effect::level(ramp_ended),
         in_window: exec_effect::level(in_window),
-        time: task.time,
-        turns: task.turns,
+        time: time,
+        turns: turns,
     };
-    let e = exec_dispatch::perform(context, inputs, c, values);
-    performed(s, t, start, task, e)
-}
-
-// 18, then 17, then the command.
-fn task_step(
-    image: &[u8],
-    s: State,
-    t: u8,
-    inputs: &[u8],
-    start: u8,
-    ramp_ended: u8,
-    in_window: u8,
-) -> StepOut
-    requires { ⌜ GoodState s ⌝ }
-    requires { ⌜ t < taskCount ⌝ }
-    ensures { λ r. ⌜ r ≡ taskStep (now (image .entry)) s (inputsOf t (now (inputs .entry)) start «ramp_ended» «in_window») (taskAt s t) ⌝ }
-{
-    let tasks = s.tasks;
-    let task = tasks[t as usize];
-    if task.status != state::RUNNING {
-        return refuse(s, Answer::NotRunning);
-    }
-    let read = reader::read(image);
-    let blocks = reader::part_of(image, read);
-    if !fits(read, blocks, s.header, t, task) {
-        return refuse(s, Answer::Differs(point_of(t, task)));
-    }
-    carry_out(blocks, s, t, inputs, start, ramp_ended, in_window, task)
-}
-
-// One step of a task, on a good state: 15 first, the task number, then the length of the input levels.
-pub fn step(
-    image: &[u8],
-    s: State,
-    task: u32,
-    inputs: &[u8],
-    start: u8,
-    ramp_ended: u8,
-    in_window: u8,
-) -> StepOut
-    requires { ⌜ GoodState s ⌝ }
-    ensures { λ r. ⌜ r ≡ step (now (image .entry)) s (inputsOf task (now (inputs .entry)) start «ramp_ended» «in_window») ⌝ }
-{
-    if task >= limits::TASK_COUNT {
-        return refuse(s, Answer::NoTask(task));
-    }
-    let n = inputs.len();
-    if n != limits::INPUTS_LENGTH {
-        return refuse(s, Answer::Inputs(n));
-    }
-    task_step(image, s, task as u8, inputs, start, ramp_ended, in_window)
+    exec_dispatch::perform(context, inputs, c, values)
 }

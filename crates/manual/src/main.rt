@@ -137,9 +137,11 @@ fn put_byte(steps: &[u8], at: usize, state: &mut [u8])
     let low = steps[at + 1];
     let high = steps[at + 2];
     let value = steps[at + 3];
-    let mut bytes = state_copy::copy_in(state);
-    state_bytes::put_byte(&mut bytes, num_le::read_u16([low, high]), value);
-    state_copy::copy_out(state, &bytes);
+    let place = num_le::read_u16([low, high]) as usize;
+    if place >= STATE_LENGTH {
+        return;
+    }
+    state_bytes::put_byte(state, place, value);
 }
 
 // The input levels of the record at a place.

@@ -4,9 +4,9 @@ use Prim.Native.Nat.{ℕ, zero, suc, _+_, _*_, _<_, _≤_}
 use native.Mathlib.Omega.{arith}
 use native.Mathlib.Nat.{add-zero, mul-suc}
 use native.Mathlib.Numerals.{add-one}
-use mathlib.Core.List.{List, [], _∷_, _++_}
-use lib.ListN.{length, getD, set, take, drop, replicate, length-append, length-replicate}
-use lib.Seq.{sets, length-sets, sets-eq, take-suc, take-all, length-take-le}
+use mathlib.Core.List.{List, [], _∷_, _++_, append-nil}
+use lib.ListN.{length, getD, set, take, drop, length-append}
+use lib.Seq.{drop-length, sets, length-sets, sets-eq, take-suc, take-all, length-take-le}
 use Rattle.num_le.specs.LittleEndian.{leBytes}
 use Rattle.state_bytes.specs.Bytes.{puts, concatenated}
 
@@ -17,6 +17,10 @@ puts-sets l i (v ∷ vs) = puts-sets (set l i v) (i + 1) vs ∙ ap (λ (k : ℕ)
 
 pub length-puts : (l : List ℕ) (i : ℕ) (vs : List ℕ) → length (puts l i vs) ≡ length l
 length-puts l i vs = ap length (puts-sets l i vs) ∙ length-sets l i vs
+
+-- of what a function leaves
+pub puts-long : (l s : List ℕ) (i : ℕ) (vs : List ℕ) → l ≡ puts s i vs → length l ≡ length s
+puts-long l s i vs e = ap length e ∙ length-puts s i vs
 
 puts-append : (l : List ℕ) (i : ℕ) (vs ws : List ℕ) → puts l i (vs ++ ws) ≡ puts (puts l i vs) (i + length vs) ws
 unfolding puts
@@ -43,23 +47,13 @@ pub four : (s l l′ l″ l‴ b : List ℕ) (at v : ℕ) → b ≡ leBytes 4 v 
 unfolding puts
 four s l l′ l″ l‴ b at v e f g h i = rw (i, h, g, f, e)
 
--- ---- into zeros
+-- ---- over all of a list
 
-drop-replicate : (n m x : ℕ) → drop n (replicate (n + m) x) ≡ replicate m x
-drop-replicate zero m x = let q : 0 + m ≡ m = omega arith in ap (λ (k : ℕ). replicate k x) q
-drop-replicate (suc n) m x = (let q : suc n + m ≡ suc (n + m) = omega arith in ap (λ (k : ℕ). drop (suc n) (replicate k x)) q) ∙ drop-replicate n m x
-
--- what is put at the front of zeros has zeros behind it
-pub into-zeros : (n m k : ℕ) (l vs : List ℕ) → length vs ≡ n → k ≡ n + m → l ≡ puts (replicate k 0) 0 vs → l ≡ vs ++ replicate m 0
-into-zeros n m k l vs h q e =
-    let long : length {A = ℕ} (replicate k 0) ≡ k = length-replicate {A = ℕ} k 0 in
-    let z : 0 + length vs ≡ n = omega arith in
-    e ∙ puts-sets (replicate k 0) 0 vs ∙ sets-eq vs (replicate k 0) 0 (omega arith)
-    ∙ ap (λ (j : ℕ). vs ++ drop j (replicate k 0)) z
-    ∙ ap (λ (j : ℕ). vs ++ drop n (replicate j 0)) q
-    ∙ ap (λ (r : List ℕ). vs ++ r) (drop-replicate n m 0)
-
--- ---- a list put element by element
+-- bytes put over a list of their length are what stands there
+pub over : (l vs : List ℕ) → length vs ≡ length l → puts l 0 vs ≡ vs
+over l vs h =
+    let z : 0 + length vs ≡ length l = omega arith in
+    puts-sets l 0 vs ∙ sets-eq vs l 0 (omega arith) ∙ ap (λ (j : ℕ). vs ++ drop j l) z ∙ ap (λ (r : List ℕ). vs ++ r) (drop-length l) ∙ append-nil vs
 
 pub puts-none : (s : List ℕ) (at : ℕ) (l : List ℕ) → s ≡ puts s at (take 0 l)
 unfolding puts

@@ -3,7 +3,7 @@ use drive::Drive;
 use image_header::Header;
 use limits::CELLS;
 use limits::STACK_LENGTH;
-use limits::STATE_LENGTH;
+use limits::TASKS;
 use state::Axis;
 use state::Cells;
 use state::Motion;
@@ -12,29 +12,21 @@ use state::State;
 use state::Task;
 use state::Values;
 ghost use mathlib.Core.Path.{_≡_};
-ghost use Prim.Native.Nat.{_+_, _*_, _≤_};
-ghost use Rattle.limits.specs.Limits.{mostDepth, stateLength};
-ghost use Rattle.state_layout.specs.Codecs.{variablesLength, variablesIn, levelsLength, levelsIn, headerIn, motionIn, stackIn, taskLength, taskIn};
-ghost use Rattle.state_layout.specs.Layout.{headerAt, motionAt, valuesIn, decoded};
+ghost use Prim.Native.Nat.{_+_, _*_, _<_, _≤_};
+ghost use lib.ListN.{length};
+ghost use Rattle.limits.specs.Limits.{taskCount, mostDepth, stateLength};
+ghost use Rattle.state.specs.State.{taskAt};
+ghost use Rattle.state_layout.specs.Codecs.{variablesLength, variablesIn, levelsLength, levelsIn, headerIn, motionIn, notesIn, stackIn, taskLength, taskIn};
+ghost use Rattle.state_layout.specs.Layout.{headerAt, motionAt, notesAt, valuesIn, biasIn, plcIn, mathematicsIn, tasksIn, decoded};
 
 // The state that a buffer holds.
-pub fn decode(b: &[u8; STATE_LENGTH]) -> State
+pub fn decode(b: &[u8]) -> State
+    requires { ⌜ length (now b) ≡ stateLength ⌝ }
     ensures { λ r. ⌜ r ≡ decoded (now (b .entry)) ⌝ }
 {
     let values = values_in(b);
     let header = header_in(b);
-    let bias = task_in(b, state_layout::TASKS_AT, header.start);
-    let plc = task_in(
-        b,
-        state_layout::TASKS_AT + state_layout::TASK_LENGTH,
-        state_bytes::word(b, state_layout::STARTS_AT),
-    );
-    let mathematics = task_in(
-        b,
-        state_layout::TASKS_AT + 2 * state_layout::TASK_LENGTH,
-        state_bytes::word(b, state_layout::STARTS_AT + 2),
-    );
-    let tasks = [bias, plc, mathematics];
+    let tasks = tasks_in(b);
     State {
         values: values,
         header: header,
@@ -42,45 +34,109 @@ pub fn decode(b: &[u8; STATE_LENGTH]) -> State
     }
 }
 
-fn values_in(b: &[u8; STATE_LENGTH]) -> Values
+// The three tasks.
+pub fn tasks_in(b: &[u8]) -> [Task; TASKS]
+    requires { ⌜ length (now b) ≡ stateLength ⌝ }
+    ensures { λ r. ⌜ r ≡ tasksIn (now (b .entry)) ⌝ }
+{
+    [bias_in(b), plc_in(b), mathematics_in(b)]
+}
+
+// One of them.
+pub fn task_at(b: &[u8], t: u8) -> Task
+    requires { ⌜ length (now b) ≡ stateLength ⌝ }
+    requires { ⌜ t < taskCount ⌝ }
+    ensures { λ r. ⌜ r ≡ taskAt (decoded (now (b .entry))) t ⌝ }
+{
+    if t == limits::BIAS {
+        return bias_in(b);
+    }
+    if t == limits::PLC {
+        return plc_in(b);
+    }
+    mathematics_in(b)
+}
+
+pub fn bias_in(b: &[u8]) -> Task
+    requires { ⌜ length (now b) ≡ stateLength ⌝ }
+    ensures { λ r. ⌜ r ≡ biasIn (now (b .entry)) ⌝ }
+{
+    task_in(
+        b,
+        state_layout::TASKS_AT,
+        state_bytes::word(b, state_layout::START_AT),
+    )
+}
+
+pub fn plc_in(b: &[u8]) -> Task
+    requires { ⌜ length (now b) ≡ stateLength ⌝ }
+    ensures { λ r. ⌜ r ≡ plcIn (now (b .entry)) ⌝ }
+{
+    task_in(
+        b,
+        state_layout::TASKS_AT + state_layout::TASK_LENGTH,
+        state_bytes::word(b, state_layout::STARTS_AT),
+    )
+}
+
+pub fn mathematics_in(b: &[u8]) -> Task
+    requires { ⌜ length (now b) ≡ stateLength ⌝ }
+    ensures { λ r. ⌜ r ≡ mathematicsIn (now (b .entry)) ⌝ }
+{
+    task_in(
+        b,
+        state_layout::TASKS_AT + 2 * state_layout::TASK_LENGTH,
+        state_bytes::word(b, state_layout::STARTS_AT + 2),
+    )
+}
+
+pub fn values_in(b: &[u8]) -> Values
+    requires { ⌜ length (now b) ≡ stateLength ⌝ }
     ensures { λ r. ⌜ r ≡ valuesIn (now (b .entry)) ⌝ }
 {
     let variables = variables_in(b, state_layout::VARIABLES_AT);
-    let flags = levels_in(b, state_layout::FLAGS_AT as usize);
-    let outputs = levels_in(b, state_layout::OUTPUTS_AT as usize);
+    let flags = levels_in(b, state_layout::FLAGS_AT);
+    let outputs = levels_in(b, state_layout::OUTPUTS_AT);
     let cells = Cells {
         variables: variables,
         flags: flags,
         outputs: outputs,
     };
     let motion = motion_in(b);
-    let notes = Notes {
-        level: state_bytes::byte(b, state_layout::NOTES_AT),
-        moved: state_bytes::byte(b, state_layout::NOTES_AT + 1),
-    };
     Values {
         cells: cells,
         motion: motion,
-        notes: notes,
+        notes: notes_in(b),
     }
 }
 
-fn variables_in(b: &[u8; STATE_LENGTH], at: u16) -> [i32; CELLS]
-    requires { ⌜ at + variablesLength ≤ stateLength ⌝ }
+// The notes of BIAS.
+pub fn notes_in(b: &[u8]) -> Notes
+    requires { ⌜ length (now b) ≡ stateLength ⌝ }
+    ensures { λ r. ⌜ r ≡ notesIn (now (b .entry)) notesAt ⌝ }
+{
+    Notes {
+        level: state_bytes::byte(b, state_layout::NOTES_AT),
+        moved: state_bytes::byte(b, state_layout::NOTES_AT + 1),
+    }
+}
+
+fn variables_in(b: &[u8], at: usize) -> [i32; CELLS]
+    requires { ⌜ at + variablesLength ≤ length (now b) ⌝ }
     ensures { λ r. ⌜ r ≡ variablesIn (now (b .entry)) at ⌝ }
 {
     let mut r = [0i32; CELLS];
     let mut k: usize = 0;
     while k < CELLS {
-        r[k] = state_bytes::signed(b, at + 4 * (k as u16));
+        r[k] = state_bytes::signed(b, at + 4 * k);
         k += 1;
     }
     r
 }
 
 // Flags, or outputs.
-fn levels_in(b: &[u8; STATE_LENGTH], at: usize) -> [u8; CELLS]
-    requires { ⌜ at + levelsLength ≤ stateLength ⌝ }
+fn levels_in(b: &[u8], at: usize) -> [u8; CELLS]
+    requires { ⌜ at + levelsLength ≤ length (now b) ⌝ }
     ensures { λ r. ⌜ r ≡ levelsIn (now (b .entry)) at ⌝ }
 {
     let mut r = [0u8; CELLS];
@@ -92,7 +148,8 @@ fn levels_in(b: &[u8; STATE_LENGTH], at: usize) -> [u8; CELLS]
     r
 }
 
-fn header_in(b: &[u8; STATE_LENGTH]) -> Header
+pub fn header_in(b: &[u8]) -> Header
+    requires { ⌜ length (now b) ≡ stateLength ⌝ }
     ensures { λ r. ⌜ r ≡ headerIn (now (b .entry)) headerAt ⌝ }
 {
     let drive = Drive {
@@ -103,13 +160,14 @@ fn header_in(b: &[u8; STATE_LENGTH]) -> Header
     Header {
         format: state_bytes::byte(b, state_layout::HEADER_AT),
         drive: drive,
-        start: state_bytes::word(b, state_layout::HEADER_AT + 4),
+        start: state_bytes::word(b, state_layout::START_AT),
         count: state_bytes::word(b, state_layout::HEADER_AT + 6),
     }
 }
 
 // The axis and the start mark.
-fn motion_in(b: &[u8; STATE_LENGTH]) -> Motion
+pub fn motion_in(b: &[u8]) -> Motion
+    requires { ⌜ length (now b) ≡ stateLength ⌝ }
     ensures { λ r. ⌜ r ≡ motionIn (now (b .entry)) motionAt ⌝ }
 {
     let axis = Axis {
@@ -125,8 +183,8 @@ fn motion_in(b: &[u8; STATE_LENGTH]) -> Motion
 }
 
 // The task whose record stands at a place.
-fn task_in(b: &[u8; STATE_LENGTH], at: u16, start: u16) -> Task
-    requires { ⌜ at + taskLength ≤ stateLength ⌝ }
+fn task_in(b: &[u8], at: usize, start: u16) -> Task
+    requires { ⌜ at + taskLength ≤ length (now b) ⌝ }
     ensures { λ r. ⌜ r ≡ taskIn (now (b .entry)) at start ⌝ }
 {
     let stack = stack_in(b, at + state_layout::STACK_AT);
@@ -141,14 +199,14 @@ fn task_in(b: &[u8; STATE_LENGTH], at: u16, start: u16) -> Task
     }
 }
 
-fn stack_in(b: &[u8; STATE_LENGTH], at: u16) -> [u16; STACK_LENGTH]
-    requires { ⌜ at + 2 * mostDepth ≤ stateLength ⌝ }
+fn stack_in(b: &[u8], at: usize) -> [u16; STACK_LENGTH]
+    requires { ⌜ at + 2 * mostDepth ≤ length (now b) ⌝ }
     ensures { λ r. ⌜ r ≡ stackIn (now (b .entry)) at ⌝ }
 {
     let mut r = [0u16; STACK_LENGTH];
     let mut i: usize = 0;
     while i < STACK_LENGTH {
-        r[i] = state_bytes::word(b, at + 2 * (i as u16));
+        r[i] = state_bytes::word(b, at + 2 * i);
         i += 1;
     }
     r

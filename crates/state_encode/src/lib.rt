@@ -3,6 +3,7 @@ use image_header::Header;
 use limits::CELLS;
 use limits::STACK_LENGTH;
 use limits::STATE_LENGTH;
+use limits::TASKS;
 use state::Motion;
 use state::Notes;
 use state::State;
@@ -10,64 +11,90 @@ use state::Task;
 ghost use mathlib.Core.Path.{_≡_};
 ghost use mathlib.Core.List.{[], _∷_};
 ghost use Prim.Native.Nat.{_+_, _*_, _≤_};
-ghost use lib.ListN.{length};
-ghost use Rattle.limits.specs.Limits.{mostDepth, stateLength};
+ghost use lib.ListN.{length, replicate};
+ghost use Rattle.limits.specs.Limits.{mostDepth, cells, stateLength};
 ghost use Rattle.state_bytes.specs.Bytes.{puts};
 ghost use Rattle.state_sections.specs.Records.{recordBytes};
 ghost use Rattle.state_layout.specs.Codecs.{variablesLength, variableBytes, layoutBytes, headerBytes, motionBytes, notesBytes, startWidths, stackBytes};
 ghost use Rattle.state_layout.specs.Codecs.{taskLength, taskBytes};
-ghost use Rattle.state_layout.specs.Layout.{layoutAt, headerAt, motionAt, notesAt, startsAt, encoded};
+ghost use Rattle.state_layout.specs.Layout.{layoutAt, headerAt, motionAt, notesAt, startsAt, unusedAt, unusedLength, stateOf, encoded};
 
-// The bytes of a state.
-pub fn encode(s: State) -> [u8; STATE_LENGTH]
-    ensures { λ r. ⌜ r ≡ encoded s ⌝ }
+const UNUSED_AT: usize = state_layout::UNUSED_AT;
+
+const UNUSED_LENGTH: usize = STATE_LENGTH - UNUSED_AT;
+
+// The bytes of a state into the buffer.
+pub fn encode(b: &mut [u8], s: State)
+    requires { ⌜ length (now b) ≡ stateLength ⌝ }
+    ensures { λ _. ⌜ now (b .exit) ≡ encoded s ⌝ }
 {
-    let mut b = [0u8; STATE_LENGTH];
     let values = s.values;
+    let header = s.header;
     let tasks = s.tasks;
+    encode_parts(
+        b,
+        &values.cells.variables,
+        &values.cells.flags,
+        &values.cells.outputs,
+        header,
+        values.motion,
+        values.notes,
+        tasks,
+    );
+}
+
+// The same of a state whose parts these are; the cells are lent, so that they are copied once.
+pub fn encode_parts<'a>(
+    b: &mut [u8],
+    variables: &'a [i32; CELLS],
+    flags: &'a [u8],
+    outputs: &'a [u8],
+    header: Header,
+    motion: Motion,
+    notes: Notes,
+    tasks: [Task; TASKS],
+)
+    requires { ⌜ length (now b) ≡ stateLength ⌝ }
+    requires { ⌜ length (now flags) ≡ cells ⌝ }
+    requires { ⌜ length (now outputs) ≡ cells ⌝ }
+    ensures { λ _. ⌜ now (b .exit)
+        ≡ encoded (stateOf (now (variables .entry)) (now (flags .entry)) (now (outputs .entry)) header motion notes tasks) ⌝ }
+{
     let bias = tasks[0];
     let plc = tasks[1];
     let mathematics = tasks[2];
-    put_variables(&mut b, state_layout::VARIABLES_AT, &values.cells.variables);
-    put_levels(&mut b, state_layout::FLAGS_AT as usize, &values.cells.flags);
-    put_levels(
-        &mut b,
-        state_layout::OUTPUTS_AT as usize,
-        &values.cells.outputs,
-    );
-    put_layout(&mut b);
-    put_header(&mut b, s.header);
-    put_motion(&mut b, values.motion);
-    put_notes(&mut b, values.notes);
-    put_starts(&mut b, plc.start, mathematics.start);
-    put_task(&mut b, state_layout::TASKS_AT, bias);
+    put_variables(b, state_layout::VARIABLES_AT, variables);
+    put_levels(b, state_layout::FLAGS_AT, flags);
+    put_levels(b, state_layout::OUTPUTS_AT, outputs);
+    put_layout(b);
+    put_header(b, header);
+    put_motion(b, motion);
+    put_notes(b, notes);
+    put_starts(b, plc.start, mathematics.start);
+    put_task(b, state_layout::TASKS_AT, bias);
+    put_task(b, state_layout::TASKS_AT + state_layout::TASK_LENGTH, plc);
     put_task(
-        &mut b,
-        state_layout::TASKS_AT + state_layout::TASK_LENGTH,
-        plc,
-    );
-    put_task(
-        &mut b,
+        b,
         state_layout::TASKS_AT + 2 * state_layout::TASK_LENGTH,
         mathematics,
     );
-    b
+    put_unused(b);
 }
 
-fn put_variables(b: &mut [u8; STATE_LENGTH], at: u16, variables: &[i32; CELLS])
-    requires { ⌜ at + variablesLength ≤ stateLength ⌝ }
+fn put_variables(b: &mut [u8], at: usize, variables: &[i32; CELLS])
+    requires { ⌜ at + variablesLength ≤ length (now b) ⌝ }
     ensures { λ _. ⌜ now (b .exit) ≡ puts (now (b .entry)) at (variableBytes (now (variables .entry))) ⌝ }
 {
     let mut k: usize = 0;
     while k < CELLS {
-        state_bytes::put_signed(b, at + 4 * (k as u16), variables[k]);
+        state_bytes::put_signed(b, at + 4 * k, variables[k]);
         k += 1;
     }
 }
 
-// Flags, or outputs.
-fn put_levels(b: &mut [u8; STATE_LENGTH], at: usize, levels: &[u8])
-    requires { ⌜ at + length (now levels) ≤ stateLength ⌝ }
+// Flags, outputs, or zeros.
+fn put_levels(b: &mut [u8], at: usize, levels: &[u8])
+    requires { ⌜ at + length (now levels) ≤ length (now b) ⌝ }
     ensures { λ _. ⌜ now (b .exit) ≡ puts (now (b .entry)) at (now (levels .entry)) ⌝ }
 {
     let mut k: usize = 0;
@@ -78,13 +105,15 @@ fn put_levels(b: &mut [u8; STATE_LENGTH], at: usize, levels: &[u8])
 }
 
 // The number of this release's layout.
-fn put_layout(b: &mut [u8; STATE_LENGTH])
+fn put_layout(b: &mut [u8])
+    requires { ⌜ length (now b) ≡ stateLength ⌝ }
     ensures { λ _. ⌜ now (b .exit) ≡ puts (now (b .entry)) layoutAt layoutBytes ⌝ }
 {
     state_bytes::put_byte(b, state_layout::LAYOUT_AT, state_layout::LAYOUT_NUMBER);
 }
 
-fn put_header(b: &mut [u8; STATE_LENGTH], h: Header)
+fn put_header(b: &mut [u8], h: Header)
+    requires { ⌜ length (now b) ≡ stateLength ⌝ }
     ensures { λ _. ⌜ now (b .exit) ≡ puts (now (b .entry)) headerAt (headerBytes h) ⌝ }
 {
     state_bytes::put_byte(b, state_layout::HEADER_AT, h.format);
@@ -96,7 +125,8 @@ fn put_header(b: &mut [u8; STATE_LENGTH], h: Header)
 }
 
 // The axis and the start mark.
-fn put_motion(b: &mut [u8; STATE_LENGTH], motion: Motion)
+fn put_motion(b: &mut [u8], motion: Motion)
+    requires { ⌜ length (now b) ≡ stateLength ⌝ }
     ensures { λ _. ⌜ now (b .exit) ≡ puts (now (b .entry)) motionAt (motionBytes motion) ⌝ }
 {
     state_bytes::put_signed(b, state_layout::MOTION_AT, motion.axis.position);
@@ -106,7 +136,8 @@ fn put_motion(b: &mut [u8; STATE_LENGTH], motion: Motion)
     state_bytes::put_byte(b, state_layout::MOTION_AT + 10, motion.mark);
 }
 
-fn put_notes(b: &mut [u8; STATE_LENGTH], notes: Notes)
+fn put_notes(b: &mut [u8], notes: Notes)
+    requires { ⌜ length (now b) ≡ stateLength ⌝ }
     ensures { λ _. ⌜ now (b .exit) ≡ puts (now (b .entry)) notesAt (notesBytes notes) ⌝ }
 {
     state_bytes::put_byte(b, state_layout::NOTES_AT, notes.level);
@@ -114,7 +145,8 @@ fn put_notes(b: &mut [u8; STATE_LENGTH], notes: Notes)
 }
 
 // The start blocks of the PLC and of mathematics.
-fn put_starts(b: &mut [u8; STATE_LENGTH], plc: u16, mathematics: u16)
+fn put_starts(b: &mut [u8], plc: u16, mathematics: u16)
+    requires { ⌜ length (now b) ≡ stateLength ⌝ }
     ensures { λ _. ⌜ now (b .exit) ≡ puts (now (b .entry)) startsAt (recordBytes startWidths (plc ∷ mathematics ∷ [])) ⌝ }
 {
     state_bytes::put_word(b, state_layout::STARTS_AT, plc);
@@ -122,8 +154,8 @@ fn put_starts(b: &mut [u8; STATE_LENGTH], plc: u16, mathematics: u16)
 }
 
 // A task's record, from a place on.
-fn put_task(b: &mut [u8; STATE_LENGTH], at: u16, task: Task)
-    requires { ⌜ at + taskLength ≤ stateLength ⌝ }
+fn put_task(b: &mut [u8], at: usize, task: Task)
+    requires { ⌜ at + taskLength ≤ length (now b) ⌝ }
     ensures { λ _. ⌜ now (b .exit) ≡ puts (now (b .entry)) at (taskBytes task) ⌝ }
 {
     state_bytes::put_byte(b, at, task.status);
@@ -134,13 +166,22 @@ fn put_task(b: &mut [u8; STATE_LENGTH], at: u16, task: Task)
     state_bytes::put_long(b, at + state_layout::TURNS_AT, task.turns);
 }
 
-fn put_stack(b: &mut [u8; STATE_LENGTH], at: u16, stack: &[u16; STACK_LENGTH])
-    requires { ⌜ at + 2 * mostDepth ≤ stateLength ⌝ }
+fn put_stack(b: &mut [u8], at: usize, stack: &[u16; STACK_LENGTH])
+    requires { ⌜ at + 2 * mostDepth ≤ length (now b) ⌝ }
     ensures { λ _. ⌜ now (b .exit) ≡ puts (now (b .entry)) at (stackBytes (now (stack .entry))) ⌝ }
 {
     let mut i: usize = 0;
     while i < STACK_LENGTH {
-        state_bytes::put_word(b, at + 2 * (i as u16), stack[i]);
+        state_bytes::put_word(b, at + 2 * i, stack[i]);
         i += 1;
     }
+}
+
+// The unused bytes, which are 0.
+fn put_unused(b: &mut [u8])
+    requires { ⌜ length (now b) ≡ stateLength ⌝ }
+    ensures { λ _. ⌜ now (b .exit) ≡ puts (now (b .entry)) unusedAt (replicate unusedLength 0) ⌝ }
+{
+    let zeros = [0u8; UNUSED_LENGTH];
+    put_levels(b, UNUSED_AT, &zeros);
 }

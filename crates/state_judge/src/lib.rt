@@ -7,76 +7,81 @@ use limits::STACK_LENGTH;
 use limits::STATE_LENGTH;
 use state::Motion;
 use state::Notes;
-use state::State;
 use state::Task;
-use state::Values;
 ghost use mathlib.Core.Path.{_≡_};
-ghost use lib.Dec.{eqb};
+ghost use Prim.Native.Nat.{_+_, _≤_};
 ghost use lib.ListN.{length};
 ghost use Rattle.limits.specs.Limits.{mostDepth, cells, stateLength};
-ghost use Rattle.state_layout.specs.Layout.{unusedLength};
+ghost use Rattle.state_layout.specs.Codecs.{levelsLength, levelsIn};
+ghost use Rattle.state_layout.specs.Layout.{unusedLength, valuesIn, decoded};
 ghost use Rattle.state_layout.specs.IsState.{allOf, levelIs, entryIs, waitIs, taskIs, motionIs, notesAre, valuesAre, stateIs};
 ghost use Rattle.state_layout.specs.IsState.{unusedBytesZero, frameIs, isState};
+ghost use Rattle.state_judge.specs.Together.{together};
 
-const UNUSED_AT: usize = state_layout::UNUSED_AT as usize;
+const UNUSED_AT: usize = state_layout::UNUSED_AT;
 
 const UNUSED_LENGTH: usize = STATE_LENGTH - UNUSED_AT;
 
-// Whether a buffer is a state.
-pub fn is_state(b: &[u8; STATE_LENGTH]) -> bool
+// Whether a buffer is a state. It is judged where it is lent: nothing is decoded but the header, the axis, the notes and the tasks.
+pub fn is_state(b: &[u8]) -> bool
     ensures { λ r. ⌜ r ≡ isState (now (b .entry)) ⌝ }
 {
-    let s = state_decode::decode(b);
-    length_is(b) & (frame_is(b) & state_is(s))
-}
-
-fn length_is(b: &[u8]) -> bool
-    ensures { λ r. ⌜ r ≡ eqb (length (now (b .entry))) stateLength ⌝ }
-{
-    b.len() == STATE_LENGTH
+    if b.len() != STATE_LENGTH {
+        return false;
+    }
+    frame_is(b) & state_is(b)
 }
 
 // What is the buffer's own: this release's layout number, and unused bytes 0.
-pub fn frame_is(b: &[u8; STATE_LENGTH]) -> bool
+fn frame_is(b: &[u8]) -> bool
+    requires { ⌜ length (now b) ≡ stateLength ⌝ }
     ensures { λ r. ⌜ r ≡ frameIs (now (b .entry)) ⌝ }
 {
     (state_bytes::byte(b, state_layout::LAYOUT_AT) == state_layout::LAYOUT_NUMBER) & unused_zero(b)
 }
 
 // Whether the unused bytes are 0.
-fn unused_zero(b: &[u8; STATE_LENGTH]) -> bool
+fn unused_zero(b: &[u8]) -> bool
+    requires { ⌜ length (now b) ≡ stateLength ⌝ }
     ensures { λ r. ⌜ r ≡ unusedBytesZero (now (b .entry)) unusedLength ⌝ }
 {
-    let mut zero = true;
-    let mut k: usize = 0;
-    while k < UNUSED_LENGTH {
-        zero = zero & (b[UNUSED_AT + k] == 0);
-        k += 1;
-    }
-    zero
+    together(b, UNUSED_AT, UNUSED_LENGTH) == 0
 }
 
-// Whether what a buffer was read as is a state.
-pub fn state_is(s: State) -> bool
-    ensures { λ r. ⌜ r ≡ stateIs s ⌝ }
+// Bytes from a place on, with each binary digit that one of them has.
+fn together(b: &[u8], at: usize, n: usize) -> u8
+    requires { ⌜ at + n ≤ length (now b) ⌝ }
+    ensures { λ r. ⌜ r ≡ together (now (b .entry)) at n ⌝ }
 {
-    let header = s.header;
-    let values = s.values;
-    let tasks = s.tasks;
-    let bias = tasks[0];
-    let plc = tasks[1];
-    let mathematics = tasks[2];
+    let mut all = 0;
+    let mut k: usize = 0;
+    while k < n {
+        all = all | b[at + k];
+        k += 1;
+    }
+    all
+}
+
+// Whether what a buffer is read as is a state.
+fn state_is(b: &[u8]) -> bool
+    requires { ⌜ length (now b) ≡ stateLength ⌝ }
+    ensures { λ r. ⌜ r ≡ stateIs (decoded (now (b .entry))) ⌝ }
+{
+    let header = state_decode::header_in(b);
     reader::accepts(header)
-        & (values_are(values)
-            & (task_is(header, bias) & (task_is(header, plc) & task_is(header, mathematics))))
+        & (values_are(b)
+            & (task_is(header, state_decode::bias_in(b))
+                & (task_is(header, state_decode::plc_in(b))
+                    & task_is(header, state_decode::mathematics_in(b)))))
 }
 
 // Cells, motion and notes: flags and outputs 0 or 1, and so both notes.
-fn values_are(v: Values) -> bool
-    ensures { λ r. ⌜ r ≡ valuesAre v ⌝ }
+fn values_are(b: &[u8]) -> bool
+    requires { ⌜ length (now b) ≡ stateLength ⌝ }
+    ensures { λ r. ⌜ r ≡ valuesAre (valuesIn (now (b .entry))) ⌝ }
 {
-    (levels_are(&v.cells.flags) & levels_are(&v.cells.outputs))
-        & (motion_is(v.motion) & notes_are(v.notes))
+    (levels_are(b, state_layout::FLAGS_AT) & levels_are(b, state_layout::OUTPUTS_AT))
+        & (motion_is(state_decode::motion_in(b)) & notes_are(state_decode::notes_in(b)))
 }
 
 // Parameters in their ranges, start mark 0 or 1.
@@ -96,16 +101,12 @@ fn notes_are(n: Notes) -> bool
     (n.level <= limits::MOST_LEVEL) & (n.moved <= limits::MOST_LEVEL)
 }
 
-fn levels_are(levels: &[u8; CELLS]) -> bool
-    ensures { λ r. ⌜ r ≡ allOf levelIs (now (levels .entry)) cells ⌝ }
+// Whether the flags, or the outputs, from a place on are levels.
+fn levels_are(b: &[u8], at: usize) -> bool
+    requires { ⌜ at + levelsLength ≤ length (now b) ⌝ }
+    ensures { λ r. ⌜ r ≡ allOf levelIs (levelsIn (now (b .entry)) at) cells ⌝ }
 {
-    let mut pass = true;
-    let mut k: usize = 0;
-    while k < CELLS {
-        pass = pass & (levels[k] <= limits::MOST_LEVEL);
-        k += 1;
-    }
-    pass
+    together(b, at, CELLS) <= limits::MOST_LEVEL
 }
 
 // Status, block and start, depth, call stack and wait of a task.

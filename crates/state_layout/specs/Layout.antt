@@ -3,10 +3,15 @@
 use Prim.Native.Nat.{ℕ, _+_, _-_, _*_}
 use mathlib.Core.List.{List, [], _∷_}
 use lib.ListN.{getD}
+use lib.IntN.{ℤ}
 use Rattle.limits.specs.Limits.{bias, plc, mathematics, stateLength}
 use Rattle.state_sections.specs.Sections.{total, offset, filled}
+use Rattle.image_header.specs.declared.Header.{Header}
 use Rattle.state.specs.State.{taskAt}
 use Rattle.state.specs.declared.Cells.{Cells}
+use Rattle.state.specs.declared.Motion.{Motion}
+use Rattle.state.specs.declared.Notes.{Notes}
+use Rattle.state.specs.declared.Task.{Task}
 use Rattle.state.specs.declared.Values.{Values}
 use Rattle.state.specs.declared.State.{State}
 use Rattle.state_layout.specs.Codecs.{variablesLength, variableBytes, variablesIn, levelsLength, levelsIn, layoutWidths, layoutBytes}
@@ -84,6 +89,14 @@ unusedLength = stateLength - unusedAt
 
 -- ---- the buffer of a state
 
+-- a state by its parts
+abbrev pub stateOf : List ℤ → List ℕ → List ℕ → Header → Motion → Notes → List Task → State
+stateOf variables flags outputs header motion notes tasks = record {
+  values = record { cells = record { variables = variables; flags = flags; outputs = outputs }; motion = motion; notes = notes };
+  header = header;
+  tasks = tasks;
+}
+
 unfoldable pub encoded : State → List ℕ
 encoded s = filled stateLength lengths (sections s)
 
@@ -95,12 +108,18 @@ cellsIn b = record { variables = variablesIn b variablesAt; flags = levelsIn b f
 abbrev pub valuesIn : List ℕ → Values
 valuesIn b = record { cells = cellsIn b; motion = motionIn b motionAt; notes = notesIn b notesAt }
 
+-- the tasks: BIAS starts at the program start
+abbrev pub biasIn : List ℕ → Task
+biasIn b = taskIn b (taskPlace bias) (headerIn b headerAt .start)
+
+abbrev pub plcIn : List ℕ → Task
+plcIn b = taskIn b (taskPlace plc) (getD (startsIn b startsAt) 0 0)
+
+abbrev pub mathematicsIn : List ℕ → Task
+mathematicsIn b = taskIn b (taskPlace mathematics) (getD (startsIn b startsAt) 1 0)
+
+abbrev pub tasksIn : List ℕ → List Task
+tasksIn b = biasIn b ∷ plcIn b ∷ mathematicsIn b ∷ []
+
 unfoldable pub decoded : List ℕ → State
-decoded b = record {
-  values = valuesIn b;
-  header = headerIn b headerAt;
-  tasks = taskIn b (taskPlace bias) (headerIn b headerAt .start)
-      ∷ taskIn b (taskPlace plc) (getD (startsIn b startsAt) 0 0)
-      ∷ taskIn b (taskPlace mathematics) (getD (startsIn b startsAt) 1 0)
-      ∷ [];
-}
+decoded b = record { values = valuesIn b; header = headerIn b headerAt; tasks = tasksIn b }

@@ -1,12 +1,12 @@
--- Sections taken apart and put together, and put one behind the other into zeros: each by one induction over the list.
+-- Sections taken apart and put together, and put one behind the other into a buffer: each by one induction over the list.
 use mathlib.Core.Path.{_≡_, refl, sym, ap, _∙_, subst}
 use Prim.Native.Nat.{ℕ, zero, suc, _+_, _-_, _<_, _≤_}
 use native.Mathlib.Omega.{arith}
-use mathlib.Core.List.{List, [], _∷_}
+use mathlib.Core.List.{List, [], _∷_, _++_}
 use lib.ListN.{length, getD, replicate, length-append, length-replicate, getD-replicate}
 use lib.Seq.{ext-getD}
 use Rattle.state_bytes.specs.Bytes.{puts}
-use Rattle.state_bytes.proofs.Puts.{next, into-zeros}
+use Rattle.state_bytes.proofs.Puts.{next, over}
 use Rattle.logic.proofs.Has.{Has, whole, left, right, nil, join}
 use Rattle.state_sections.specs.Sections.{joined, total, offset, filled}
 
@@ -108,12 +108,16 @@ module _ (n : ℕ) (ns : List ℕ) (xs : List (List ℕ)) (long : lens xs ≡ ns
       ∙ r .is (k - total ns) (omega arith)
       ∙ getD-replicate {A = ℕ} (n - total ns) (k - total ns) 0 0 (omega arith)
 
-  -- zeros into which the sections are put
-  pub written : (z l : List ℕ) → z ≡ replicate n 0 → Chain 0 0 ns xs z l → l ≡ filled n ns xs
+  -- any list of the buffer's length into which the sections are put, and zeros behind them
+  pub written-over : (z l l′ : List ℕ) → length z ≡ n → Chain 0 0 ns xs z l → l′ ≡ puts l (total ns) (replicate (n - total ns) 0) → l′ ≡ filled n ns xs
   unfolding filled
-  written z l e c =
-      into-zeros (total ns) (n - total ns) n l (joined xs) (length-joined xs ns long) (omega arith)
-      (chained c long ∙ ap (λ (y : List ℕ). puts y 0 (joined xs)) e)
+  written-over z l l′ e c k =
+      let m = n - total ns in
+      let zeros : List ℕ = replicate m 0 in
+      let u : length zeros ≡ m = length-replicate {A = ℕ} m 0 in
+      let a = length-joined xs ns long in
+      let p : l′ ≡ puts z 0 (joined xs ++ zeros) = next z l l′ 0 (total ns) (total ns) (joined xs) zeros (chained c long) a (omega arith) k in
+      p ∙ over z (joined xs ++ zeros) (length-append (joined xs) zeros ∙ (let h = e in omega arith))
 
   -- a list that has every section at its place, and zeros behind, is the buffer
   pub rebuilt : (b : List ℕ) → length b ≡ n → Parts b 0 0 ns xs → ((k : ℕ) → total ns ≤ k → k < n → getD b k 0 ≡ 0) → filled n ns xs ≡ b

@@ -75,10 +75,10 @@ fn show_place(image: &[u8], a: &[u8; STATE_LENGTH], task: u32) -> bool
 }
 
 // Where a task's record stands.
-fn task_at(t: u8) -> u16
+fn task_at(t: u8) -> usize
     ensures { λ s. ⌜ s ≡ taskPlace t ⌝ }
 {
-    state_layout::TASKS_AT + state_layout::TASK_LENGTH * (t as u16)
+    state_layout::TASKS_AT + state_layout::TASK_LENGTH * (t as usize)
 }
 
 // A block's number and bytes; gives the bytes.
@@ -131,17 +131,18 @@ fn show_nothing(nothing: bool) -> bool
 fn show_cells(
     a: &[u8; STATE_LENGTH],
     b: &[u8; STATE_LENGTH],
-    at: u16,
-    width: u16,
+    at: usize,
+    width: usize,
     text: &[u8],
     nothing: bool,
 ) -> bool
+    requires { ⌜ 0 < width ⌝ }
     requires { ⌜ at + width * cells ≤ stateLength ⌝ }
     ensures { λ s. ⌜ s ≡ nothing && sameCells (now (a .entry)) (now (b .entry)) at width cells ⌝ }
 {
     let mut left = nothing;
-    let mut k: u16 = 0;
-    while k < CELLS as u16 {
+    let mut k: usize = 0;
+    while k < CELLS {
         left = show_cell(a, b, at + width * k, width, text, k, left);
         k += 1;
     }
@@ -152,12 +153,13 @@ fn show_cells(
 fn show_cell(
     a: &[u8; STATE_LENGTH],
     b: &[u8; STATE_LENGTH],
-    at: u16,
-    width: u16,
+    at: usize,
+    width: usize,
     text: &[u8],
-    index: u16,
+    index: usize,
     nothing: bool,
 ) -> bool
+    requires { ⌜ 0 < width ⌝ }
     requires { ⌜ at + width ≤ stateLength ⌝ }
     ensures { λ s. ⌜ s ≡ nothing && same (now (a .entry)) (now (b .entry)) at width ⌝ }
 {
@@ -200,7 +202,7 @@ fn show_starts(a: &[u8; STATE_LENGTH], b: &[u8; STATE_LENGTH], nothing: bool) ->
         state_layout::STARTS_AT,
         2,
         b"start of task ",
-        limits::PLC as u16,
+        limits::PLC as usize,
         nothing,
     );
     show_cell(
@@ -209,7 +211,7 @@ fn show_starts(a: &[u8; STATE_LENGTH], b: &[u8; STATE_LENGTH], nothing: bool) ->
         state_layout::STARTS_AT + 2,
         2,
         b"start of task ",
-        limits::MATHEMATICS as u16,
+        limits::MATHEMATICS as usize,
         plc,
     )
 }
@@ -218,11 +220,12 @@ fn show_starts(a: &[u8; STATE_LENGTH], b: &[u8; STATE_LENGTH], nothing: bool) ->
 fn show_part(
     a: &[u8; STATE_LENGTH],
     b: &[u8; STATE_LENGTH],
-    at: u16,
-    width: u16,
+    at: usize,
+    width: usize,
     text: &[u8],
     nothing: bool,
 ) -> bool
+    requires { ⌜ 0 < width ⌝ }
     requires { ⌜ at + width ≤ stateLength ⌝ }
     ensures { λ s. ⌜ s ≡ nothing && same (now (a .entry)) (now (b .entry)) at width ⌝ }
 {
@@ -271,7 +274,9 @@ fn show_comma(nothing: bool) -> bool
 }
 
 // A number of so many bytes: of four bytes a signed one. Gives the bytes as a number.
-fn show_value(b: &[u8; STATE_LENGTH], at: u16, width: u16) -> u32
+fn show_value(b: &[u8; STATE_LENGTH], at: usize, width: usize) -> u32
+    requires { ⌜ 0 < width ⌝ }
+    requires { ⌜ at + width ≤ stateLength ⌝ }
     ensures { λ s. ⌜ s ≡ shownAt (now (b .entry)) at width ⌝ }
 {
     if width == 4 {
@@ -289,12 +294,12 @@ fn show_value(b: &[u8; STATE_LENGTH], at: u16, width: u16) -> u32
 }
 
 // Whether the bytes from a place on are the same in both buffers.
-fn same(a: &[u8; STATE_LENGTH], b: &[u8; STATE_LENGTH], at: u16, width: u16) -> bool
+fn same(a: &[u8; STATE_LENGTH], b: &[u8; STATE_LENGTH], at: usize, width: usize) -> bool
     requires { ⌜ at + width ≤ stateLength ⌝ }
     ensures { λ s. ⌜ s ≡ same (now (a .entry)) (now (b .entry)) at width ⌝ }
 {
     let mut pass = true;
-    let mut k: u16 = 0;
+    let mut k: usize = 0;
     while k < width {
         pass = pass & (state_bytes::byte(a, at + k) == state_bytes::byte(b, at + k));
         k += 1;

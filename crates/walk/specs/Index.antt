@@ -1,5 +1,5 @@
--- The number of a point in the loader's marks: one mark for each block, task and depth. Only the laws of proofs/Points/Index.antt are used of it:
--- it gives the point back, it is below the marks' length, and its order is the report order.
+-- The number of a point: by block, then task, then depth, so that its order is the report order. Six numbers in a row are the depths of one pair, a task at a
+-- block, which the search relies on; what else is used of it are the laws of proofs/Points/Index.antt.
 use Prim.Native.Nat.{ℕ, _+_, _*_, _/_, _%_, _<_, _≤_}
 use mathlib.Core.Bool.{Bool, _&&_, _||_}
 use lib.Dec.{eqb, ltb}

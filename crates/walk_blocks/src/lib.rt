@@ -2,27 +2,50 @@
 // a byte past their end is read as 0.
 use command_judge::BlockFault;
 use command_operands::Command;
+use command_table::Row;
 use image_header::Header;
 use limits::BLOCK_LENGTH;
 use walk_fault::Fault;
 use walk_point::Point;
 ghost use mathlib.Core.Path.{_≡_};
-ghost use lib.ListN.{getD};
+ghost use Prim.Native.Nat.{_+_, _≤_};
+ghost use lib.ListN.{length, getD};
+ghost use Rattle.limits.specs.Limits.{blockLength};
 ghost use Rattle.walk_flow.specs.Terms.{under};
-ghost use Rattle.walk.specs.Blocks.{blockAt, blockFaultAt, commandAt, faultAt};
+ghost use Rattle.walk.specs.Blocks.{bytesFrom, blockAt, blockFaultAt, faultAt};
+ghost use Rattle.walk_blocks.specs.Instructions.{instructionOf, instructionAt};
+
+// A command with its code's row.
+pub struct Instruction {
+    pub row: Row,
+    pub command: Command,
+}
 
 // What the command at a point breaks there.
 pub fn fault_at(header: Header, blocks: &[u8], p: Point) -> Fault
     ensures { λ r. ⌜ r ≡ faultAt (under header) (now (blocks .entry)) p ⌝ }
 {
-    p.fault(header, command_at(blocks, p.block))
+    let i = instruction_at(blocks, p.block);
+    p.fault(header, i.row, i.command)
 }
 
-// The command at a block, without judging it.
-pub fn command_at(blocks: &[u8], b: u16) -> Command
-    ensures { λ r. ⌜ r ≡ commandAt (now (blocks .entry)) b ⌝ }
+// The command at a block and its code's row, without judging it.
+pub fn instruction_at(blocks: &[u8], b: u16) -> Instruction
+    ensures { λ r. ⌜ r ≡ instructionAt (now (blocks .entry)) b ⌝ }
 {
-    command_operands::read(block_at(blocks, b))
+    decode(block_at(blocks, b))
+}
+
+// The command of a block and its code's row.
+pub fn decode(block: [u8; BLOCK_LENGTH]) -> Instruction
+    ensures { λ r. ⌜ r ≡ instructionOf block ⌝ }
+{
+    let row = command_table::find(block[0]);
+    let layout = row.layout;
+    Instruction {
+        row: row,
+        command: command_operands::lay_out(layout, block),
+    }
 }
 
 // The eight bytes of a block.
@@ -30,6 +53,9 @@ pub fn block_at(blocks: &[u8], b: u16) -> [u8; BLOCK_LENGTH]
     ensures { λ r. ⌜ r ≡ blockAt (now (blocks .entry)) b ⌝ }
 {
     let at = limits::BLOCK_LENGTH * (b as usize);
+    if at + limits::BLOCK_LENGTH <= blocks.len() {
+        return whole(blocks, at);
+    }
     [
         byte_at(blocks, at),
         byte_at(blocks, at + 1),
@@ -39,6 +65,23 @@ pub fn block_at(blocks: &[u8], b: u16) -> [u8; BLOCK_LENGTH]
         byte_at(blocks, at + 5),
         byte_at(blocks, at + 6),
         byte_at(blocks, at + 7),
+    ]
+}
+
+// Eight bytes that are all there.
+fn whole(bytes: &[u8], at: usize) -> [u8; BLOCK_LENGTH]
+    requires { ⌜ at + blockLength ≤ length (now bytes) ⌝ }
+    ensures { λ r. ⌜ r ≡ bytesFrom (now (bytes .entry)) at ⌝ }
+{
+    [
+        bytes[at],
+        bytes[at + 1],
+        bytes[at + 2],
+        bytes[at + 3],
+        bytes[at + 4],
+        bytes[at + 5],
+        bytes[at + 6],
+        bytes[at + 7],
     ]
 }
 

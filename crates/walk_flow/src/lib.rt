@@ -1,8 +1,10 @@
 // What a command may continue with (document 01, "Walks"), and which task may execute it: 7 of a 51 that ends another task, and the boxes of 9.
 use command_operands::Command;
 use command_table::FlowKind;
+use command_table::Row;
 use image_header::Header;
 ghost use mathlib.Core.Path.{_≡_};
+ghost use Rattle.command_table.specs.Rows.{rowOf};
 ghost use Rattle.walk_flow.specs.Terms.{under};
 ghost use Rattle.walk_flow.specs.Flow.{flowBy, endingBy, flowOf};
 ghost use Rattle.walk_flow.specs.Permission.{foreign, permitted};
@@ -30,22 +32,22 @@ pub enum Flow {
 }
 
 impl Flow {
-    // All that a command of a program with this header may continue with.
-    pub fn of(header: Header, c: Command) -> Flow
+    // All that a command, whose code has this row, may continue with in a program with this header.
+    pub fn of(header: Header, row: Row, c: Command) -> Flow
+        requires { ⌜ row ≡ rowOf (c .code) ⌝ }
         ensures { λ r. ⌜ r ≡ flowOf (under header) c ⌝ }
     {
-        let row = command_table::find(c.code);
         let kind = row.flow;
         flow_by(kind, c.x, c.word)
     }
 }
 
-// Whether a 51 ends another task than the one that executes it.
-pub fn foreign(task: u8, c: Command) -> bool
+// Whether a 51 ends another task than the one that executes it; the command's code has this row.
+pub fn foreign(task: u8, row: Row, c: Command) -> bool
+    requires { ⌜ row ≡ rowOf (c .code) ⌝ }
     ensures { λ r. ⌜ r ≡ foreign task c ⌝ }
 {
     let mode = c.x;
-    let row = command_table::find(c.code);
     let kind = row.flow;
     if !kind.is_ending() {
         return false;
@@ -56,11 +58,11 @@ pub fn foreign(task: u8, c: Command) -> bool
     mode as u16 != task as u16 + 1
 }
 
-// Whether the boxes of the manual let a task use a code, in a program with this header.
-pub fn permitted(header: Header, code: u8, task: u8) -> bool
-    ensures { λ r. ⌜ r ≡ permitted (under header) code task ⌝ }
+// Whether the boxes of the manual let a task use a command, whose code has this row, in a program with this header.
+pub fn permitted(header: Header, row: Row, c: Command, task: u8) -> bool
+    requires { ⌜ row ≡ rowOf (c .code) ⌝ }
+    ensures { λ r. ⌜ r ≡ permitted (under header) (c .code) task ⌝ }
 {
-    let row = command_table::find(code);
     let tasks = row.tasks;
     match task {
         limits::BIAS => tasks / command_table::B % 2 == 1,

@@ -1,1 +1,3 @@
-mod Followers
+pub mod Depths
+pub mod BadDepths
+pub mod Handing

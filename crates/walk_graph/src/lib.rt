@@ -1,91 +1,177 @@
-// The blocks of an image as a graph of points: what the command at a point continues with, how many points that leads to, and the k-th of them by its number
-// in the marks. Blocks are any bytes.
+// The blocks of an image as a graph of pairs, a task at a block, with a set of depths for each: what the command at a pair breaks, at which depths, and to
+// which pairs it hands the other depths on. Blocks are any bytes.
 use image_header::Header;
+use walk_blocks::Instruction;
 use walk_flow::Flow;
-use walk_point::Point;
 ghost use mathlib.Core.Path.{_≡_};
 ghost use mathlib.Core.Bool.{cond};
-ghost use Prim.Native.Nat.{_<_};
-ghost use lib.ListN.{length, getD};
+ghost use lib.Dec.{eqb};
+ghost use Rattle.command_table.specs.Rows.{rowOf};
 ghost use Rattle.walk_flow.specs.Terms.{under};
-ghost use Rattle.walk_point.specs.PointFault.{point};
-ghost use Rattle.walk.specs.Index.{indexOf};
-ghost use Rattle.walk.specs.Successors.{beyond, leadsTo, flowAt, indices};
+ghost use Rattle.walk_graph.specs.Depths.{ground, deeper, leastDepth};
+ghost use Rattle.walk_graph.specs.Onward.{pairOf, onwardForeign, onwardNone, onwardTo, broken, handedOn, flowOnward, commandOnward, onwardOf};
 
-// What the command at a point continues with: nothing where it breaks something.
-pub fn flow_at(header: Header, blocks: &[u8], p: Point) -> Flow
-    ensures { λ r. ⌜ r ≡ flowAt (under header) (now (blocks .entry)) p ⌝ }
+// What the command at a pair breaks at some depths, and where it hands the others on. A set of depths has a binary digit for each depth.
+pub struct Onward {
+    // whether a 51 there ends another task
+    pub foreign: bool,
+    // the depths at which it is bad
+    pub bad: u8,
+    // the pair that it names, and the depths handed to it
+    pub named: u32,
+    pub into: u8,
+    // the depths handed to the pair of the block behind
+    pub behind: u8,
+}
+
+// The set of the greatest depth alone.
+const DEEPEST: u8 = 1 << limits::MOST_DEPTH;
+
+// The number of a pair.
+pub fn pair_of(task: u8, block: u16) -> u32
+    ensures { λ r. ⌜ r ≡ pairOf task block ⌝ }
 {
-    let c = walk_blocks::command_at(blocks, p.block);
-    let fault = p.fault(header, c);
-    if fault.number() != 0 {
-        return Flow::End;
+    block as u32 * limits::TASK_COUNT + task as u32
+}
+
+// What the command at a block breaks in a task at the depths s, and where it hands the others on.
+pub fn onward_of(header: Header, blocks: &[u8], task: u8, block: u16, s: u8) -> Onward
+    ensures { λ r. ⌜ r ≡ onwardOf (under header) (now (blocks .entry)) task block s ⌝ }
+{
+    of_instruction(
+        header,
+        walk_blocks::instruction_at(blocks, block),
+        task,
+        block,
+        s,
+    )
+}
+
+fn of_instruction(header: Header, i: Instruction, task: u8, block: u16, s: u8) -> Onward
+    requires { ⌜ i .row ≡ rowOf (i .command .code) ⌝ }
+    ensures { λ r. ⌜ r ≡ commandOnward (under header) (i .command) task block s ⌝ }
+{
+    let row = i.row;
+    let c = i.command;
+    if walk_flow::foreign(task, row, c) {
+        return foreign();
     }
-    Flow::of(header, c)
+    if !walk_flow::permitted(header, row, c, task) {
+        return nowhere(s);
+    }
+    of_flow(header.count, task, block, Flow::of(header, row, c), s)
 }
 
-// The number of a point in the marks.
-pub fn number(task: u8, block: u32, depth: u32) -> usize
-    ensures { λ r. ⌜ r ≡ indexOf (point task block depth) ⌝ }
+// A 51 that ends another task hands nothing on.
+fn foreign() -> Onward
+    ensures { λ r. ⌜ r ≡ onwardForeign ⌝ }
 {
-    ((block as usize) * limits::TASKS + task as usize) * limits::DEPTHS + depth as usize
+    Onward {
+        foreign: true,
+        bad: 0,
+        named: 0,
+        into: 0,
+        behind: 0,
+    }
 }
 
-// How many points a flow leads to.
-pub fn count(p: Point, f: Flow) -> usize
-    ensures { λ r. ⌜ r ≡ length (leadsTo p f) ⌝ }
+// Nothing is handed on.
+fn nowhere(bad: u8) -> Onward
+    ensures { λ r. ⌜ r ≡ onwardNone bad ⌝ }
 {
+    to(bad, 0, 0, 0)
+}
+
+// A flow at a block of a task, in an image of this many blocks.
+fn of_flow(count: u16, task: u8, block: u16, f: Flow, s: u8) -> Onward
+    ensures { λ r. ⌜ r ≡ flowOnward count task block f s ⌝ }
+{
+    let bad = broken(walk_point::past_end(count, task, block, f), f, s);
+    hand_on(task, f, bad, s - bad)
+}
+
+// The depths at which a flow breaks 10, 11 or 12: all where it may go past the end.
+fn broken(past: bool, f: Flow, s: u8) -> u8
+    ensures { λ r. ⌜ r ≡ broken past f s ⌝ }
+{
+    if past {
+        return s;
+    }
     match f {
-        Flow::Next => 1,
-        Flow::Wait => 1,
-        Flow::Jump(_) => 1,
-        Flow::Branch(_) => 2,
-        Flow::Call(_) => 2,
-        Flow::Return => 0,
-        Flow::Start(u, _) => count_started(u == p.task),
+        Flow::Call(_) => s / DEEPEST * DEEPEST,
+        Flow::Return => s % 2,
+        Flow::Next => 0,
+        Flow::Wait => 0,
+        Flow::Jump(_) => 0,
+        Flow::Branch(_) => 0,
+        Flow::Start(_, _) => 0,
         Flow::Restart => 0,
         Flow::End => 0,
     }
 }
 
-// Starting its own task, a command goes on at the named block alone.
-fn count_started(own: bool) -> usize
-    ensures { λ r. ⌜ r ≡ cond own 1 2 ⌝ }
-{
-    if own { 1 } else { 2 }
-}
-
-// The k-th of them, by its number in the marks: the block that the flow names, if it names one, then the next block.
-pub fn successor(p: Point, f: Flow, k: usize) -> usize
-    requires { ⌜ k < length (leadsTo p f) ⌝ }
-    ensures { λ r. ⌜ r ≡ getD (indices (leadsTo p f)) k 0 ⌝ }
-{
-    if k > 0 {
-        return next(p);
-    }
-    first(p, f)
-}
-
-// The first of them; the next block where there is none.
-fn first(p: Point, f: Flow) -> usize
-    ensures { λ r. ⌜ r ≡ getD (indices (leadsTo p f)) 0 (indexOf (beyond p)) ⌝ }
+// Where a flow hands the depths s of a task on: to the block that it names, and to the block behind.
+fn hand_on(task: u8, f: Flow, bad: u8, s: u8) -> Onward
+    ensures { λ r. ⌜ r ≡ handedOn task f bad s ⌝ }
 {
     match f {
-        Flow::Next => next(p),
-        Flow::Wait => next(p),
-        Flow::Jump(a) => number(p.task, a as u32, p.depth as u32),
-        Flow::Branch(a) => number(p.task, a as u32, p.depth as u32),
-        Flow::Call(a) => number(p.task, a as u32, p.depth as u32 + 1),
-        Flow::Return => next(p),
-        Flow::Start(u, a) => number(u, a as u32, 0),
-        Flow::Restart => next(p),
-        Flow::End => next(p),
+        Flow::Next => to(bad, 0, 0, s),
+        Flow::Wait => to(bad, 0, 0, s),
+        Flow::Jump(a) => to(bad, pair_of(task, a), s, 0),
+        Flow::Branch(a) => to(bad, pair_of(task, a), s, s),
+        Flow::Call(a) => to(bad, pair_of(task, a), deeper(s), s),
+        Flow::Return => nowhere(bad),
+        Flow::Start(u, a) => to(bad, pair_of(u, a), ground(s), not_own(u == task, s)),
+        Flow::Restart => nowhere(bad),
+        Flow::End => nowhere(bad),
     }
 }
 
-// The next block.
-fn next(p: Point) -> usize
-    ensures { λ r. ⌜ r ≡ indexOf (beyond p) ⌝ }
+fn to(bad: u8, named: u32, into: u8, behind: u8) -> Onward
+    ensures { λ r. ⌜ r ≡ onwardTo bad named into behind ⌝ }
 {
-    number(p.task, p.block as u32 + 1, p.depth as u32)
+    Onward {
+        foreign: false,
+        bad: bad,
+        named: named,
+        into: into,
+        behind: behind,
+    }
+}
+
+// Starting its own task, a command hands nothing to the block behind.
+fn not_own(own: bool, s: u8) -> u8
+    ensures { λ r. ⌜ r ≡ cond own 0 s ⌝ }
+{
+    if own { 0 } else { s }
+}
+
+// Depth 0 alone, where there is any depth at all.
+fn ground(s: u8) -> u8
+    ensures { λ r. ⌜ r ≡ ground s ⌝ }
+{
+    if s == 0 { 0 } else { 1 }
+}
+
+// Each depth one deeper.
+fn deeper(s: u8) -> u8
+    ensures { λ r. ⌜ r ≡ deeper s ⌝ }
+{
+    s % DEEPEST * 2
+}
+
+// The least depth of a set; DEPTHS where it is empty.
+pub fn least_depth(s: u8) -> u32
+    ensures { λ r. ⌜ r ≡ leastDepth s ⌝ }
+{
+    let mut rest = s;
+    let mut d: u32 = 0;
+    while d < limits::DEPTHS as u32 {
+        if rest % 2 == 1 {
+            return d;
+        }
+        rest = rest / 2;
+        d += 1;
+    }
+    d
 }

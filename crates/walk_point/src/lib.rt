@@ -1,11 +1,13 @@
 // Points of a walk and what one point breaks (document 01, "Walks"; refusals 7 of a foreign 51, then 9, 10, 11, 12).
 use command_operands::Command;
+use command_table::Row;
 use image_header::Header;
 use walk_fault::Fault;
 use walk_flow::Flow;
 ghost use mathlib.Core.Path.{_≡_};
 ghost use mathlib.Core.Bool.{cond};
 ghost use mathlib.Core.List.{[], _∷_};
+ghost use Rattle.command_table.specs.Rows.{rowOf};
 ghost use Rattle.walk_flow.specs.Terms.{under};
 ghost use Rattle.walk_flow.specs.Flow.{continues};
 ghost use Rattle.walk_point.specs.PointFault.{tooDeep, noCall, anyPast, flowFault, faultOf};
@@ -18,18 +20,19 @@ pub struct Point {
 }
 
 impl Point {
-    // What a command breaks at this point of an image with this header.
-    pub fn fault(self, header: Header, c: Command) -> Fault
+    // What a command, whose code has this row, breaks at this point of an image with this header.
+    pub fn fault(self, header: Header, row: Row, c: Command) -> Fault
+        requires { ⌜ row ≡ rowOf (c .code) ⌝ }
         ensures { λ r. ⌜ r ≡ faultOf (under header) c self ⌝ }
     {
         let task = self.task;
-        if walk_flow::foreign(task, c) {
+        if walk_flow::foreign(task, row, c) {
             return Fault::Foreign;
         }
-        if !walk_flow::permitted(header, c.code, task) {
+        if !walk_flow::permitted(header, row, c, task) {
             return Fault::Forbidden;
         }
-        flow_fault(header.count, self, Flow::of(header, c))
+        flow_fault(header.count, self, Flow::of(header, row, c))
     }
 }
 
@@ -84,7 +87,7 @@ fn no_call(f: Flow, depth: u8) -> bool
 }
 
 // Whether a command at this block of this task may go on with a block that is not below the count.
-fn past_end(count: u16, task: u8, block: u16, f: Flow) -> bool
+pub fn past_end(count: u16, task: u8, block: u16, f: Flow) -> bool
     ensures { λ r. ⌜ r ≡ anyPast count (continues task block f) ⌝ }
 {
     let here = block as u32;

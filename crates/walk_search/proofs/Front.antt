@@ -19,3 +19,7 @@ after-front n l e h s = record { long = length-front l e n s; rest = rest }
         let j : k ≡ n + (k - n) = omega arith in
         let f : k ≡ length e + (k - n) = omega (arith, same) in
         ap (λ (m : ℕ). getD (e ++ drop n l) m 0) f ∙ getD-append-add e (drop n l) (k - n) 0 ∙ getD-drop n l (k - n) 0 ∙ ap (λ (m : ℕ). getD l m 0) (sym j)
+
+-- what stands behind more is behind less
+pub after-more : {m n : ℕ} {l e : List ℕ} → m ≤ n → After m l e → After n l e
+after-more h a = record { long = a .long; rest = λ k i. a .rest k (omega arith) }

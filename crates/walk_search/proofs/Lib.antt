@@ -1,6 +1,10 @@
-mod Searching
 mod Front
-mod Minima
 mod Upwards
 mod PartByPart
+mod Stores
+mod Counts
+mod Touches
+mod Visits
+mod Minima
+mod Ends
 pub mod Fixed

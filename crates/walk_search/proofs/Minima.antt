@@ -1,71 +1,75 @@
--- What the search has marked at its end is what walks reach, so the least of the marked points is the verdict's least.
-use Prim.Native.Nat.{ℕ, _+_, _<_, _≤_}
+-- The least foreign block and the least bad point of what was handed on: a visit keeps them, and at the end they are the verdict's.
+use Prim.Native.Nat.{ℕ, _+_, _*_, _/_, _%_, _<_, _≤_}
 use mathlib.Core.Path.{_≡_, refl, sym, ap, _∙_}
 use mathlib.Core.Bool.{Bool, true, false, cond}
 use mathlib.Core.Logic.{_⊎_, inl, inr, ⊎-elim}
 use mathlib.Core.List.{List}
+use native.Mathlib.Decide.{ℕ-discrete}
 use native.Mathlib.Omega.{arith}
-use lib.ListN.{getD}
-use lib.Dec.{ltb}
-use borrow.Author.Tests.{ltb-true, ltb-false, lt-ltb, le-ltb}
-use borrow.Author.Count.{below-more}
-use Rattle.limits.specs.Limits.{mostBlocks, marksLength}
+use lib.Dec.{ltb, eqb}
+use borrow.Author.Tests.{ltb-true, ltb-false, eqb-true, eqb-false}
+use Rattle.limits.specs.Limits.{taskCount, mostBlocks, depths, marksLength}
+use Rattle.logic.proofs.Choice.{clash}
 use Rattle.walk_flow.specs.Terms.{Terms}
-use Rattle.logic.proofs.Choice.{clash, by, test}
-use Rattle.walk_point.specs.declared.Point.{Point}
-use Rattle.walk_fault.specs.declared.Fault.{Fault}
+use Rattle.walk_fault.specs.Fault.{isForeign, isBad}
 use Rattle.walk.specs.Blocks.{faultAt}
 use Rattle.walk.specs.Index.{pointAt}
-use Rattle.walk.specs.Graph.{In, Reach, has, lesser, least}
-use Rattle.walk.proofs.Membership.{has-in, in-has}
+use Rattle.walk.specs.Graph.{In, Reach, lesser, least}
 use Rattle.walk.specs.Successors.{nextOf}
-use Rattle.walk_fault.specs.Fault.{isForeign, isBad}
 use Rattle.walk.specs.Verdict.{rootOf, reached, leastForeign, leastBad}
 use Rattle.walk.proofs.Points.Index.{has-point}
-use Rattle.walk.proofs.Graph.Least.{least-only}
+use Rattle.walk.proofs.Graph.Least.{lesser-first, lesser-second, least-only}
 use Rattle.walk.proofs.Steps.History.{number-inside}
 use Rattle.walk.proofs.Verdicts.OfWalks.{exact}
-use Rattle.walk_search.specs.Search.{WalkBounds, Searched, lowered}
+use Rattle.walk_graph.specs.Depths.{sets, Has, leastDepth}
+use Rattle.walk_graph.specs.Onward.{taskOf, blockOf, onwardOf}
+use Rattle.walk_graph.specs.declared.Onward.{Onward}
+use Rattle.walk_graph.proofs.Depths.{none, is-depth, some-depth, least-has, least-least}
+use Rattle.walk_graph.proofs.Handing.{foreign-at, bad-of, bad-has, bad-small}
+use Rattle.walk_search.specs.Search.{WalkBounds, foreignWith, badWith, Seen}
+use Rattle.walk_search.proofs.Stores.{put, put-same, put-other}
 
--- the keys: the block of a number's point, and the number itself
-abbrev pub blockOf : ℕ → ℕ
-blockOf i = pointAt i .block
-
-abbrev pub self : ℕ → ℕ
-self i = i
-
--- a marked number that passes a test, with this key
-pub record Marked (marks : List ℕ) (test : ℕ → Bool) (key : ℕ → ℕ) (k : ℕ) : Type 0 where
+-- a number of these that passes a test, with this key
+pub record Among (P : ℕ → Type 0) (test : ℕ → Bool) (key : ℕ → ℕ) (k : ℕ) : Type 0 where
   pub at : ℕ
-  pub marked : getD marks at 0 ≡ 0 → ⊥
+  pub one : P at
   pub passes : test at ≡ true
   pub key-is : key at ≡ k
 
--- the least key of the marked numbers below i that pass a test, `none` where there is none
-pub record LeastSo (marks : List ℕ) (test : ℕ → Bool) (key : ℕ → ℕ) (none i m : ℕ) : Type 0 where
-  pub below : (k : ℕ) → k < i → (getD marks k 0 ≡ 0 → ⊥) → test k ≡ true → m ≤ key k
-  pub found : (m ≡ none) ⊎ Marked marks test key m
+-- the least key of those that pass a test, `none` where there is none
+pub record LeastOf (P : ℕ → Type 0) (test : ℕ → Bool) (key : ℕ → ℕ) (none m : ℕ) : Type 0 where
+  pub below : (k : ℕ) → P k → test k ≡ true → m ≤ key k
+  pub found : (m ≡ none) ⊎ Among P test key m
 
--- a number that is not marked, or does not pass, changes nothing
-pub least-kept : (marks : List ℕ) (test : ℕ → Bool) (key : ℕ → ℕ) (none i m : ℕ) → LeastSo marks test key none i m
-    → ((getD marks i 0 ≡ 0 → ⊥) → test i ≡ true → ⊥) → LeastSo marks test key none (i + 1) m
-least-kept marks test key none i m s n = record { below = below-more _ _ (s .below) (λ k t. absurd (n k t)); found = s .found }
+module _ {P Q : ℕ → Type 0} {test : ℕ → Bool} {key : ℕ → ℕ} {none m : ℕ} (s : LeastOf P test key none m) (more : (k : ℕ) → P k → Q k) where
+  further : (m ≡ none) ⊎ Among P test key m → (m ≡ none) ⊎ Among Q test key m
+  further (inl e) = inl e
+  further (inr a) = inr (record { at = a .at; one = more (a .at) (a .one); passes = a .passes; key-is = a .key-is })
 
--- one that does is the least if its key is less
-pub least-lower : (marks : List ℕ) (test : ℕ → Bool) (key : ℕ → ℕ) (none i m : ℕ) → LeastSo marks test key none i m
-    → (getD marks i 0 ≡ 0 → ⊥) → test i ≡ true → LeastSo marks test key none (i + 1) (lesser (key i) m)
-least-lower marks test key none i m s k t = go (ltb (key i) m) refl
-  where
-    go : (b : Bool) → ltb (key i) m ≡ b → LeastSo marks test key none (i + 1) (cond b (key i) m)
-    go true e = record {
-      below = below-more _ _ (λ j l p q. let a = s .below j l p q in let b = ltb-true (key i) m e in omega arith) (λ p q. omega arith);
-      found = inr (record { at = i; marked = k; passes = t; key-is = refl });
-    }
-    go false e = record { below = below-more _ _ (s .below) (λ p q. ltb-false (key i) m e); found = s .found }
+  -- further numbers, none of which passes
+  least-kept : ((k : ℕ) → Q k → test k ≡ true → P k) → LeastOf Q test key none m
+  least-kept old = record { below = λ k i e. s .below k (old k i e) e; found = further (s .found) }
 
--- before any number
-pub least-begun : (marks : List ℕ) (test : ℕ → Bool) (key : ℕ → ℕ) (none : ℕ) → LeastSo marks test key none 0 none
-least-begun marks test key none = record { below = λ k l. absurd (omega arith); found = inl refl }
+  -- further numbers, the least key of which is n
+  least-lower : (n : ℕ) → ((k : ℕ) → Q k → test k ≡ true → P k ⊎ (n ≤ key k)) → Among Q test key n → LeastOf Q test key none (lesser n m)
+  least-lower n old new = record {
+    below = λ k i e. ⊎-elim
+        (λ y. let a = s .below k y e in let b = lesser-second n m in omega arith)
+        (λ y. let b = lesser-first n m in omega arith)
+        (old k i e);
+    found = go (ltb n m);
+  }
+    where
+      go : (b : Bool) → (cond b n m ≡ none) ⊎ Among Q test key (cond b n m)
+      go true = inr new
+      go false = further (s .found)
+
+-- the keys: the block of a number's point, and the number itself
+abbrev pub blockKey : ℕ → ℕ
+blockKey i = pointAt i .block
+
+abbrev pub self : ℕ → ℕ
+self i = i
 
 module _ (h : Terms) (bs : List ℕ) where
   abbrev pub foreignAt : ℕ → Bool
@@ -74,69 +78,110 @@ module _ (h : Terms) (bs : List ℕ) where
   abbrev pub badAt : ℕ → Bool
   badAt i = isBad (faultAt h bs (pointAt i))
 
-  -- point i with the block found so far
-  pub lowered-next : (marks : List ℕ) (i m : ℕ) → LeastSo marks foreignAt blockOf mostBlocks i m → (getD marks i 0 ≡ 0 → ⊥)
-      → LeastSo marks foreignAt blockOf mostBlocks (i + 1) (lowered h bs i m)
-  unfolding lowered
-  lowered-next marks i m s k = go (foreignAt i) refl
-    where
-      go : (b : Bool) → foreignAt i ≡ b → LeastSo marks foreignAt blockOf mostBlocks (i + 1) (cond b (lesser (blockOf i) m) m)
-      go true e = least-lower marks foreignAt blockOf mostBlocks i m s k e
-      go false e = least-kept marks foreignAt blockOf mostBlocks i m s (λ _ t. clash (sym t ∙ e))
+  -- of the points of a function's sets
+  pub record Minima (hs : ℕ → ℕ) (foreign bad : ℕ) : Type 0 where
+    pub foreign-least : LeastOf (Seen hs) foreignAt blockKey mostBlocks foreign
+    pub bad-least : LeastOf (Seen hs) badAt self marksLength bad
 
-  module _ (r : WalkBounds h) (marks : List ℕ) (g : Searched h bs marks) where
-    -- what is marked is reached
-    marked-in : (p : ℕ) → (getD marks p 0 ≡ 0 → ⊥) → In p (reached h bs)
-    marked-in p m = test (has (reached h bs) p) (λ e. has-in (reached h bs) p e) (λ e. absurd (m (g .mark p ∙ rw e refl)))
+  -- ---- a visit: pair p has handed the depths s on, those among them that it had handed on before
+  module _ (hs : ℕ → ℕ) (p s : ℕ) (held : (d : ℕ) → Has (hs p) d → Has s d) (some : 0 < s) (small : s < sets) where
+    abbrev o : Onward
+    o = onwardOf h bs (taskOf p) (blockOf p) s
 
-    in-marked : (p : ℕ) → In p (reached h bs) → getD marks p 0 ≡ 0 → ⊥
-    in-marked p k z = let e : _≡_ {A = ℕ} 0 2 = sym z ∙ g .mark p ∙ rw (in-has (reached h bs) p k) refl in omega arith
+    abbrev hs′ : ℕ → ℕ
+    hs′ = put hs p s
 
-    inside : (p : ℕ) → Reach (nextOf h bs) (rootOf h) p → p < marksLength
-    inside = number-inside h bs (r .most) (r .begins)
+    grows : (k : ℕ) → Seen hs k → Seen hs′ k
+    grows k i = go (ℕ-discrete (k / depths) p)
+      where
+        go : Dec (k / depths ≡ p) → Seen hs′ k
+        go (yes e) = rw (e, put-same hs p s) (held (k % depths) (rw e at i))
+        go (no n) = rw (put-other hs p (k / depths) s n) i
 
-    least-marked : (test : ℕ → Bool) (key : ℕ → ℕ) (none : ℕ) → ((p : ℕ) → p < marksLength → key p ≤ none) → (m : ℕ)
-        → LeastSo marks test key none marksLength m → m ≡ least test key none (reached h bs)
-    least-marked test key none bound m s =
+    -- a point there is of pair p, or was there before
+    apart : (k : ℕ) → Seen hs′ k → Seen hs k ⊎ ((k ≡ depths * p + k % depths) × Has s (k % depths))
+    apart k i = go (ℕ-discrete (k / depths) p)
+      where
+        go : Dec (k / depths ≡ p) → Seen hs k ⊎ ((k ≡ depths * p + k % depths) × Has s (k % depths))
+        go (yes e) = inr (omega arith, rw (e, put-same hs p s) at i)
+        go (no n) = inl (rw (put-other hs p (k / depths) s n) at i)
+
+    here : (d : ℕ) → d < depths → Has s d → Seen hs′ (depths * p + d)
+    here d l i =
+        let e : (depths * p + d) / depths ≡ p = omega arith in
+        let f : (depths * p + d) % depths ≡ d = omega arith in
+        rw (e, f, put-same hs p s) i
+
+    block-here : (d : ℕ) → d < depths → blockKey (depths * p + d) ≡ blockOf p
+    unfolding pointAt
+    block-here d l = omega arith
+
+    foreign-visit : {m : ℕ} → LeastOf (Seen hs) foreignAt blockKey mostBlocks m
+        → LeastOf (Seen hs′) foreignAt blockKey mostBlocks (foreignWith (o .foreign) (blockOf p) m)
+    foreign-visit {m} w = go (o .foreign) refl
+      where
+        at-pair : (k : ℕ) → k ≡ depths * p + k % depths → foreignAt k ≡ o .foreign
+        at-pair k e = ap foreignAt e ∙ foreign-at h bs p s small (k % depths) (omega arith)
+
+        go : (t : Bool) → o .foreign ≡ t → LeastOf (Seen hs′) foreignAt blockKey mostBlocks (cond t (lesser (blockOf p) m) m)
+        go true e =
+            let d = some-depth s some small in
+            least-lower w grows (blockOf p)
+            (λ k i y. ⊎-elim (λ z. inl z) (λ z. inr (omega (arith, ap blockKey (z .0), block-here (k % depths) (omega arith)))) (apart k i))
+            (record {
+              at = depths * p + d .0;
+              one = here (d .0) (d .1) (d .2);
+              passes = foreign-at h bs p s small (d .0) (d .1) ∙ e;
+              key-is = block-here (d .0) (d .1);
+            })
+        go false e = least-kept w grows (λ k i y. ⊎-elim (λ z. z) (λ z. clash (sym y ∙ at-pair k (z .0) ∙ e)) (apart k i))
+
+    bad-visit : {m : ℕ} → LeastOf (Seen hs) badAt self marksLength m → LeastOf (Seen hs′) badAt self marksLength (badWith (o .bad) p m)
+    bad-visit {m} w = go (eqb (o .bad) 0) refl
+      where
+        bad-here : (k : ℕ) → badAt k ≡ true → (k ≡ depths * p + k % depths) × Has s (k % depths) → Has (o .bad) (k % depths)
+        bad-here k y z = bad-has h bs p s small (k % depths) (z .1) (ap badAt (sym (z .0)) ∙ y)
+
+        go : (t : Bool) → eqb (o .bad) 0 ≡ t → LeastOf (Seen hs′) badAt self marksLength (cond t m (lesser (depths * p + leastDepth (o .bad)) m))
+        go true e =
+            let n = eqb-true (o .bad) 0 e in
+            least-kept w grows (λ k i y. ⊎-elim (λ z. z) (λ z. absurd (none (k % depths) (rw n at (bad-here k y z)))) (apart k i))
+        go false e =
+            let n = eqb-false (o .bad) 0 e in
+            let l = least-has (o .bad) (omega arith) (bad-small h bs p s small) in
+            let b = bad-of h bs p s small (leastDepth (o .bad)) (l .0) in
+            least-lower w grows (depths * p + leastDepth (o .bad))
+            (λ k i y. ⊎-elim (λ z. inl z)
+            (λ z. inr (omega (arith, z .0, least-least (o .bad) (k % depths) (bad-small h bs p s small) (bad-here k y z))))
+            (apart k i))
+            (record { at = depths * p + leastDepth (o .bad); one = here (leastDepth (o .bad)) (l .1) (b .0); passes = b .1; key-is = refl })
+
+    pub minima-visit : (foreign bad : ℕ) → Minima hs foreign bad → Minima hs′ (foreignWith (o .foreign) (blockOf p) foreign) (badWith (o .bad) p bad)
+    minima-visit foreign bad w = record { foreign-least = foreign-visit (w .foreign-least); bad-least = bad-visit (w .bad-least) }
+
+  -- ---- the beginning and the end
+
+  pub minima-begun : (hs : ℕ → ℕ) → ((p : ℕ) → hs p ≡ 0) → Minima hs mostBlocks marksLength
+  minima-begun hs z = record {
+    foreign-least = record { below = λ k i. absurd (none (k % depths) (rw (z (k / depths)) at i)); found = inl refl };
+    bad-least = record { below = λ k i. absurd (none (k % depths) (rw (z (k / depths)) at i)); found = inl refl };
+  }
+
+  module _ (r : WalkBounds h) (hs : ℕ → ℕ) (sound : (i : ℕ) → Seen hs i → Reach (nextOf h bs) (rootOf h) i)
+      (whole : (i : ℕ) → Reach (nextOf h bs) (rootOf h) i → Seen hs i) where
+    least-is : (test : ℕ → Bool) (key : ℕ → ℕ) (none : ℕ) → ((p : ℕ) → p < marksLength → key p ≤ none) → (m : ℕ)
+        → LeastOf (Seen hs) test key none m → m ≡ least test key none (reached h bs)
+    least-is test key none bound m s =
         let x = exact h bs (r .most) (r .begins) in
-        least-only test key none (reached h bs) (λ p k. bound p (inside p (x .sound p k))) m
-        (λ p k t. s .below p (inside p (x .sound p k)) (in-marked p k) t)
+        least-only test key none (reached h bs) (λ p k. bound p (number-inside h bs (r .most) (r .begins) p (x .sound p k))) m
+        (λ p k t. s .below p (whole p (x .sound p k)) t)
         (⊎-elim (λ e. inl e)
-        (λ k. inr (record { at = k .at; member = marked-in (k .at) (k .marked); passes = k .passes; key-is = k .key-is }))
+        (λ k. inr (record { at = k .at; member = x .whole (k .at) (sound (k .at) (k .one)); passes = k .passes; key-is = k .key-is }))
         (s .found))
 
-    pub foreign-is : (m : ℕ) → LeastSo marks foreignAt blockOf mostBlocks marksLength m → m ≡ leastForeign h bs (reached h bs)
-    unfolding leastForeign
-    foreign-is = least-marked foreignAt blockOf mostBlocks (λ p l. let b = has-point p l .block in omega arith)
-
-    pub bad-is : (m : ℕ) → LeastSo marks badAt self marksLength marksLength m → m ≡ leastBad h bs (reached h bs)
-    unfolding leastBad
-    bad-is = least-marked badAt self marksLength (λ p l. omega arith)
-
--- the tests of `lower`: a 51 at the point ends another task, and its block is less than that found, or not
-module _ (h : Terms) (bs : List ℕ) (i found : ℕ) (p : Point) (f : Fault) (e : p ≡ pointAt i) (k : f ≡ faultAt h bs p) (t : isForeign f ≡ true) where
-  foreign-here : isForeign (faultAt h bs (pointAt i)) ≡ true
-  foreign-here = ap (λ (q : Point). isForeign (faultAt h bs q)) (sym e) ∙ ap isForeign (sym k) ∙ t
-
-  pub lower-less : p .block < found → p .block ≡ lowered h bs i found
-  unfolding lowered
-  lower-less l = rw (foreign-here, ← e, lt-ltb (p .block) found l)
-
-  pub lower-not : found ≤ p .block → found ≡ lowered h bs i found
-  unfolding lowered
-  lower-not l = rw (foreign-here, ← e, le-ltb (p .block) found l)
-
--- what the point of a number breaks, as it was found
-fault-is : (h : Terms) (bs : List ℕ) (i : ℕ) (p : Point) (f : Fault) → p ≡ pointAt i → f ≡ faultAt h bs p → f ≡ faultAt h bs (pointAt i)
-fault-is h bs i p f e k = k ∙ ap (faultAt h bs) e
-
-pub fault-bad : (h : Terms) (bs : List ℕ) (i : ℕ) (p : Point) (f : Fault) → p ≡ pointAt i → f ≡ faultAt h bs p → {t : Bool} → isBad f ≡ t → badAt h bs i ≡ t
-fault-bad h bs i p f e k b = ap isBad (sym (fault-is h bs i p f e k)) ∙ b
-
--- the first bad point: none before it is bad
-pub first-bad : (h : Terms) (bs : List ℕ) (r : WalkBounds h) (marks : List ℕ) (g : Searched h bs marks) (i : ℕ)
-    → LeastSo marks (badAt h bs) self marksLength i marksLength → (getD marks i 0 ≡ 0 → ⊥) → badAt h bs i ≡ true → i ≡ leastBad h bs (reached h bs)
-first-bad h bs r marks g i s m b = bad-is h bs r marks g i (record { below = below; found = inr (record { at = i; marked = m; passes = b; key-is = refl }) })
-  where
-    below : (k : ℕ) → k < marksLength → (getD marks k 0 ≡ 0 → ⊥) → badAt h bs k ≡ true → i ≤ k
-    below k l n t = by k i (λ j. let a = s .below k j n t in absurd (omega arith)) (λ j. j)
+    pub minima-are : (foreign bad : ℕ) → Minima hs foreign bad → (foreign ≡ leastForeign h bs (reached h bs)) × (bad ≡ leastBad h bs (reached h bs))
+    unfolding leastForeign leastBad
+    minima-are foreign bad w = (
+      least-is foreignAt blockKey mostBlocks (λ p l. let b = has-point p l .block in omega arith) foreign (w .foreign-least),
+      least-is badAt self marksLength (λ p l. omega arith) bad (w .bad-least),
+    )

@@ -1,97 +1,170 @@
--- The search's own values and invariants. A mark is 0 for a point not seen, 1 for one that is pending, 2 for one that is done; a page of marks is
--- clean (0) or dirty, and a pending point is on a dirty page.
-use Prim.Native.Nat.{ℕ, _+_, _-_, _*_, _/_, _<_, _≤_}
+-- The search's own values and invariants. Each pair, a task at a block, has four of the lent marks: the set of depths seen, the set of those handed on at its
+-- latest visit, and two bytes of a list. A pair is pending where the two sets differ; the list has the pending pairs, each once.
+use Prim.Native.Nat.{ℕ, zero, suc, _+_, _-_, _*_, _/_, _%_, _<_, _≤_}
 use mathlib.Core.Path.{_≡_}
-use mathlib.Core.Bool.{cond}
+use mathlib.Core.Bool.{Bool, cond}
 use mathlib.Core.List.{List, [], _∷_}
-use lib.ListN.{length, getD, set}
+use lib.ListN.{length, getD, set, replicate}
 use lib.Dec.{eqb}
-use Rattle.limits.specs.Limits.{mostBlocks, marksLength}
+use Rattle.limits.specs.Limits.{taskCount, mostBlocks, depths}
+use Rattle.num_le.specs.LittleEndian.{leNumber}
 use Rattle.walk_flow.specs.Terms.{Terms}
-use Rattle.walk_fault.specs.Fault.{isForeign}
-use Rattle.walk.specs.Blocks.{blockNumber, faultAt}
-use Rattle.walk.specs.Index.{pointAt}
+use Rattle.walk.specs.Blocks.{blockNumber}
 use Rattle.walk.specs.Graph.{In, Reach, has, lesser}
-use Rattle.walk.specs.Verdict.{reached}
-
--- marks to a page, and pages
-abbrev pub pageLength : ℕ
-pageLength = 128
-
-abbrev pub pageCount : ℕ
-pageCount = (marksLength + pageLength - 1) / pageLength
+use Rattle.walk.specs.Successors.{nextOf}
+use Rattle.walk.specs.Verdict.{rootOf, reached, leastForeign, leastBad}
+use Rattle.walk_graph.specs.Depths.{sets, digit, Has, union, leastDepth}
+use Rattle.walk_graph.specs.Onward.{taskOf, blockOf, onwardOf}
+use Rattle.walk_graph.specs.declared.Onward.{Onward}
+use Rattle.walk_search.specs.declared.search.Found.{Found}
 
 -- terms under which walks stay within the marks: what the header's own refusals leave
 pub record WalkBounds (terms : Terms) : Type 0 where
   pub most : terms .header .count ≤ mostBlocks
   pub begins : terms .header .start < terms .header .count
 
--- the pages with the cursor: those wholly before it are clean; the last, at whose end it never stands, is dirty
-pub record Paged (marks dirty : List ℕ) (cursor : ℕ) : Type 0 where
-  pub known : (p : ℕ) → getD marks p 0 ≡ 1 → getD dirty (p / pageLength) 0 ≡ 1
-  pub pages : length dirty ≡ pageCount
-  pub clean : (j : ℕ) → j * pageLength + pageLength ≤ cursor → getD dirty j 0 ≡ 0
-  pub last : getD dirty (pageCount - 1) 0 ≡ 1
+-- ---- the marks
 
--- what a search works on: marks, pages, and the cursor
+-- marks to a pair, and the pairs of an image
+abbrev pub pairMarks : ℕ
+pairMarks = 4
+
+abbrev pub pairs : Terms → ℕ
+pairs terms = taskCount * terms .header .count
+
+-- the depths seen of a pair, those handed on, and the k-th pair of the list
+abbrev pub seenIn : List ℕ → ℕ → ℕ
+seenIn marks p = getD marks (pairMarks * p) 0
+
+abbrev pub handedIn : List ℕ → ℕ → ℕ
+handedIn marks p = getD marks (pairMarks * p + 1) 0
+
+abbrev pub listIn : List ℕ → ℕ → ℕ
+listIn marks k = leNumber (getD marks (pairMarks * k + 2) 0 ∷ getD marks (pairMarks * k + 3) 0 ∷ [])
+
+-- stores to them
+abbrev pub withSeen : ℕ → ℕ → List ℕ → List ℕ
+withSeen p s marks = set marks (pairMarks * p) s
+
+abbrev pub withHanded : ℕ → ℕ → List ℕ → List ℕ
+withHanded p s marks = set marks (pairMarks * p + 1) s
+
+abbrev pub withEntry : ℕ → ℕ → List ℕ → List ℕ
+withEntry k q marks = set (set marks (pairMarks * k + 2) (q % 256)) (pairMarks * k + 3) (q / 256)
+
+-- as a search begins: the first pair has seen depth 0 and is the list's one entry, and all else is 0
+abbrev pub fresh : ℕ → ℕ → List ℕ
+fresh n first = withEntry 0 first (withSeen first 1 (replicate n 0))
+
+-- ---- a touch and a visit
+
+-- the marks, with how many pairs are on the list
+pub record Listing : Type 0 where
+  pub marks : List ℕ
+  pub pending : ℕ
+
+abbrev pub listing : List ℕ → ℕ → Listing
+listing marks pending = record { marks = marks; pending = pending }
+
+-- the depths s are handed to pair q: it has seen them, and goes on the list where it was not pending and has not seen them all before
+unfoldable pub touched : ℕ → ℕ → Listing → Listing
+touched q s b =
+    cond (eqb (union (seenIn (b .marks) q) s) (seenIn (b .marks) q)) b
+    (cond (eqb (handedIn (b .marks) q) (seenIn (b .marks) q))
+    (listing (withEntry (b .pending) q (withSeen q (union (seenIn (b .marks) q) s) (b .marks))) (b .pending + 1))
+    (listing (withSeen q (union (seenIn (b .marks) q) s) (b .marks)) (b .pending)))
+
+-- where any depth is handed over, the marks have room for pair q, and for an entry where it goes on the list
+pub record Room (marks : List ℕ) (pending q s : ℕ) : Type 0 where
+  pub few : length marks < 65536
+  pub pair : (s ≡ 0 → ⊥) → pairMarks * q + pairMarks ≤ length marks
+  pub entry : (s ≡ 0 → ⊥) → handedIn marks q ≡ seenIn marks q → pairMarks * pending + pairMarks ≤ length marks
+
+-- what a search works on: the marks, and what it has found so far
 pub record Board : Type 0 where
   pub marks : List ℕ
-  pub dirty : List ℕ
-  pub cursor : ℕ
+  pub found : Found
 
-abbrev pub board : List ℕ → List ℕ → ℕ → Board
-board marks dirty cursor = record { marks = marks; dirty = dirty; cursor = cursor }
+abbrev pub board : List ℕ → Found → Board
+board marks found = record { marks = marks; found = found }
 
--- a point q is touched: where it was not seen it is pending, its page is dirty, and the cursor is not past it
-unfoldable pub touched : ℕ → Board → Board
-touched q b =
-    cond (eqb (getD (b .marks) q 0) 0)
-    (board (set (b .marks) q 1) (set (b .dirty) (q / pageLength) 1) (lesser q (b .cursor)))
-    b
+-- the least foreign block and the least bad point so far, and those of pair p
+abbrev pub foreignWith : Bool → ℕ → ℕ → ℕ
+foreignWith foreign block so = cond foreign (lesser block so) so
 
--- the points of a list are touched one after the other
-unfoldable pub touchedAll : List ℕ → Board → Board
-touchedAll [] b = b
-touchedAll (q ∷ qs) b = touchedAll qs (touched q b)
+abbrev pub badWith : ℕ → ℕ → ℕ → ℕ
+badWith bad p so = cond (eqb bad 0) so (lesser (depths * p + leastDepth bad) so)
 
--- p is done
-abbrev pub doneAt : ℕ → Board → Board
-doneAt p b = board (set (b .marks) p 2) (b .dirty) (b .cursor)
+-- the marks after the pair p with the depths s was taken off the list, all s noted as handed on
+abbrev pub takenOff : ℕ → ℕ → Board → Listing
+takenOff p s b = listing (withHanded p s (b .marks)) (b .found .pending - 1)
 
--- a point p is visited: the points that follow it are touched, and p is done
-unfoldable pub visited : (ℕ → List ℕ) → ℕ → Board → Board
-visited next p b = doneAt p (touchedAll (next p) b)
+-- and after the depths were handed on
+abbrev pub handedOn : Onward → ℕ → Listing → Listing
+handedOn o p b = touched (p + taskCount) (o .behind) (touched (o .named) (o .into) b)
 
--- the search under way, with the cursor: what is marked is reached, what follows a point that is done is marked, and nothing before the cursor
--- is pending
-pub record Going (next : ℕ → List ℕ) (root : ℕ) (marks : List ℕ) (cursor : ℕ) : Type 0 where
-  pub long : length marks ≡ marksLength
-  pub kind : (p : ℕ) → getD marks p 0 ≤ 2
-  pub first : getD marks root 0 ≡ 0 → ⊥
-  pub sound : (p : ℕ) → (getD marks p 0 ≡ 0 → ⊥) → Reach next root p
-  pub closed : (p q : ℕ) → (getD marks p 0 ≡ 0 → ⊥) → (getD marks p 0 ≡ 1 → ⊥) → In q (next p) → getD marks q 0 ≡ 0 → ⊥
-  pub past : (p : ℕ) → p < cursor → getD marks p 0 ≡ 1 → ⊥
+abbrev pub visitedBy : Onward → ℕ → ℕ → Board → Board
+visitedBy o p s b = board (handedOn o p (takenOff p s b) .marks) (record {
+  pending = handedOn o p (takenOff p s b) .pending;
+  foreign = foreignWith (o .foreign) (blockOf p) (b .found .foreign);
+  bad = badWith (o .bad) p (b .found .bad);
+})
 
--- the search is over: the points that walks reach are done, and no other was seen
+-- the pair p, with all depths that it has seen
+abbrev pub visitedAt : Terms → List ℕ → ℕ → Board → Board
+visitedAt terms bs p b =
+    visitedBy (onwardOf terms bs (taskOf p) (blockOf p) (seenIn (b .marks) p)) p (seenIn (b .marks) p) b
+
+-- the last pair of the list is visited
+unfoldable pub visited : Terms → List ℕ → Board → Board
+visited terms bs b = visitedAt terms bs (listIn (b .marks) (b .found .pending - 1)) b
+
+-- ---- what holds all through a search
+
+-- point i is in the sets of a function
+abbrev pub Seen : (ℕ → ℕ) → ℕ → Type 0
+Seen f i = Has (f (i / depths)) (i % depths)
+
+-- how many of the pairs below m are pending
+unfoldable pub busy : ℕ → (ℕ → ℕ) → (ℕ → ℕ) → ℕ
+busy zero hs ss = 0
+busy (suc m) hs ss = cond (eqb (hs m) (ss m)) 0 1 + busy m hs ss
+
+-- the first n of the list are the pending pairs of m, each once (that they are all follows from the count)
+pub record Listed (m : ℕ) (hs ss list : ℕ → ℕ) (n : ℕ) : Type 0 where
+  pub few : m ≤ taskCount * mostBlocks
+  pub out : (p : ℕ) → m ≤ p → ss p ≡ 0
+  pub small : (p : ℕ) → ss p < sets
+  pub within : (p : ℕ) → hs p ≤ ss p
+  pub count : n ≡ busy m hs ss
+  pub pairs : (k : ℕ) → k < n → list k < m
+  pub differ : (k : ℕ) → k < n → hs (list k) < ss (list k)
+  pub once : (j k : ℕ) → j < k → k < n → list j ≡ list k → ⊥
+
+-- what is seen is reached, what was handed on is seen, and what follows it is seen
+pub record Sound (next : ℕ → List ℕ) (root : ℕ) (hs ss : ℕ → ℕ) : Type 0 where
+  pub first : Seen ss root
+  pub held : (i : ℕ) → Seen hs i → Seen ss i
+  pub sound : (i : ℕ) → Seen ss i → Reach next root i
+  pub closed : (i j : ℕ) → Seen hs i → In j (next i) → Seen ss j
+
+pub record Going (terms : Terms) (bs marks : List ℕ) (n : ℕ) : Type 0 where
+  pub long : length marks ≡ pairMarks * pairs terms
+  pub graph : Sound (nextOf terms bs) (rootOf terms) (handedIn marks) (seenIn marks)
+  pub listed : Listed (pairs terms) (handedIn marks) (seenIn marks) (listIn marks) n
+
+-- ---- what a search comes to
+
+-- the points that walks reach were seen and handed on, and no other was
 pub record Searched (terms : Terms) (bs marks : List ℕ) : Type 0 where
-  pub long : length marks ≡ marksLength
-  pub mark : (p : ℕ) → getD marks p 0 ≡ cond (has (reached terms bs) p) 2 0
+  pub long : length marks ≡ pairMarks * pairs terms
+  pub seen : (i : ℕ) → digit (seenIn marks (i / depths)) (i % depths) ≡ cond (has (reached terms bs) i) 1 0
+  pub small : (p : ℕ) → seenIn marks p < sets
+  pub settled : (p : ℕ) → handedIn marks p ≡ seenIn marks p
 
--- the pages after a search: all are clean but the last
-pub record Swept (dirty : List ℕ) : Type 0 where
-  pub pages : length dirty ≡ pageCount
-  pub clean : (j : ℕ) → j < pageCount - 1 → getD dirty j 0 ≡ 0
-  pub last : getD dirty (pageCount - 1) 0 ≡ 1
-
--- the first point is pending, and no other is marked
-pub record Fresh (first : ℕ) (marks : List ℕ) : Type 0 where
-  pub long : length marks ≡ marksLength
-  pub pending : getD marks first 0 ≡ 1
-  pub others : (p : ℕ) → (p ≡ first → ⊥) → getD marks p 0 ≡ 0
-
--- a block found so far, and the block of point i where a 51 there ends another task: the lesser
-unfoldable pub lowered : Terms → List ℕ → ℕ → ℕ → ℕ
-lowered terms bs i found = cond (isForeign (faultAt terms bs (pointAt i))) (lesser (pointAt i .block) found) found
+-- nothing is pending, and the least of what is reached is found
+unfoldable pub found : Terms → List ℕ → Found
+found terms bs = record { pending = 0; foreign = leastForeign terms bs (reached terms bs); bad = leastBad terms bs (reached terms bs) }
 
 -- the first of the header's blocks that 5 to 8 or 23 refuse, or the count
 pub record FirstRefused (terms : Terms) (bs : List ℕ) (b : ℕ) : Type 0 where

@@ -29,7 +29,7 @@ pub fn judge(image: &[u8], marks: &mut [u8]) -> Verdict
     if !result.is_done() {
         return Verdict::Image(result);
     }
-    judge_blocks(read.header, reader::block_part(image), marks)
+    judge_blocks(read.header, reader::part_of(image, read), marks)
 }
 
 // The part of the image that holds its blocks, the empty part when the image is refused by any number.
@@ -64,7 +64,7 @@ fn judge_blocks(header: Header, blocks: &[u8], marks: &mut [u8]) -> Verdict
     if b < header.count {
         return Verdict::Block(walk_blocks::block_fault_at(header, blocks, b), b as usize);
     }
-    search::judge_walks(header, blocks, marks, MARKS_LENGTH)
+    search::judge_walks(header, blocks, marks)
 }
 
 // The first block that 5 to 8 or 23 refuse, the count where there is none.

@@ -1,239 +1,197 @@
-// The search over points in the lent marks: what walks reach, and the least of it that is refused. A mark is 0 for a point not seen, 1 for one that
-// is pending, 2 for one that is done. The cursor goes up over the marks, over dirty pages only, and back to the least point that has newly
-// become pending.
+// The search over points in the lent marks: what walks reach, and the least of it that is refused. A command changes all depths in one way (a call goes one
+// deeper, a start to 0), so the marks hold for each pair, a task at a block, the set of depths seen and the set of those handed on at its latest visit, and
+// beside them a list of the pending pairs, those where the two differ. A visit reads a block once, for all depths of its pair, and hands them on.
 use image_header::Header;
 use limits::MARKS_LENGTH;
+use limits::TASK_COUNT;
 use walk::Verdict;
 use walk_point::Point;
 ghost use mathlib.Core.Path.{_≡_};
-ghost use Prim.Native.Nat.{_<_, _≤_};
-ghost use lib.ListN.{length, getD};
-ghost use Rattle.limits.specs.Limits.{marksLength};
+ghost use mathlib.Core.Bool.{cond};
+ghost use Prim.Native.Nat.{_*_, _+_, _<_, _≤_};
+ghost use lib.ListN.{length};
+ghost use Rattle.limits.specs.Limits.{bias, mostBlocks, taskCount, marksLength};
 ghost use Rattle.walk_flow.specs.Terms.{under};
+ghost use Rattle.walk.specs.Graph.{lesser};
 ghost use Rattle.walk.specs.Index.{pointAt};
-ghost use Rattle.walk.specs.Successors.{nextOf};
-ghost use Rattle.walk.specs.Verdict.{rootOf, reached, leastForeign, leastBad, verdictBy, walksVerdict};
+ghost use Rattle.walk.specs.Verdict.{verdictBy, walksVerdict};
+ghost use Rattle.walk_graph.specs.Onward.{pairOf};
 ghost use Rattle.walk_search.specs.After.{After};
-ghost use Rattle.walk_search.specs.Search.{WalkBounds, Paged, board, touched, visited, Going, Searched, Swept, Fresh, lowered};
+ghost use Rattle.walk_search.specs.Search.{WalkBounds, pairMarks, pairs, fresh, listing, touched, Room, board, visited};
+ghost use Rattle.walk_search.specs.Search.{foreignWith, badWith, Going, Searched, found};
 
-// Marks to a page, and pages.
-const PAGE_LENGTH: usize = 128;
+// What a search has found so far: how many pairs are pending, the least block with a 51 that ends another task (MOST_BLOCKS for none), and the number of the
+// least bad point (MARKS_LENGTH for none).
+pub struct Found {
+    pub pending: u32,
+    pub foreign: u32,
+    pub bad: u32,
+}
 
-const PAGE_COUNT: usize = (MARKS_LENGTH + PAGE_LENGTH - 1) / PAGE_LENGTH;
+// The marks of a pair: the depths seen, those handed on, and the two bytes of an entry of the list.
+const PAIR_MARKS: usize = 4;
 
-// What a mark says of its point.
-const NOT_SEEN: u8 = 0;
+const HANDED: usize = 1;
 
-const PENDING: u8 = 1;
+const ENTRY_LOW: usize = 2;
 
-const DONE: u8 = 2;
+const ENTRY_HIGH: usize = 3;
 
-// What the walks of an image with this header and these blocks come to, found in the first n bytes of marks. (n is MARKS_LENGTH; it is no
-// literal here, so that no proof counts it out.)
-pub fn judge_walks(header: Header, blocks: &[u8], marks: &mut [u8], n: usize) -> Verdict
+// What the walks of an image with this header and these blocks come to, found in the marks of the image's pairs.
+pub fn judge_walks(header: Header, blocks: &[u8], marks: &mut [u8]) -> Verdict
     requires { ⌜ WalkBounds (under header) ⌝ }
-    requires { ⌜ n ≡ marksLength ⌝ }
-    requires { ⌜ n ≤ length (now marks) ⌝ }
+    requires { ⌜ marksLength ≤ length (now marks) ⌝ }
     ensures { λ r. ⌜ r ≡ walksVerdict (under header) (now (blocks .entry)) ⌝ }
-    ensures { λ _. ⌜ After n (now (marks .entry)) (now (marks .exit)) ⌝ }
+    ensures { λ _. ⌜ After marksLength (now (marks .entry)) (now (marks .exit)) ⌝ }
 {
+    let n = PAIR_MARKS * (limits::TASKS * header.count as usize);
     search(header, blocks, &mut marks[..n])
 }
 
 fn search(header: Header, blocks: &[u8], marks: &mut [u8]) -> Verdict
     requires { ⌜ WalkBounds (under header) ⌝ }
-    requires { ⌜ length (now marks) ≡ marksLength ⌝ }
+    requires { ⌜ length (now marks) ≡ pairMarks * pairs (under header) ⌝ }
     ensures { λ r. ⌜ r ≡ walksVerdict (under header) (now (blocks .entry)) ⌝ }
     ensures { λ _. ⌜ Searched (under header) (now (blocks .entry)) (now (marks .exit)) ⌝ }
 {
-    clear(marks, root(header));
-    let mut dirty = [1u8; PAGE_COUNT];
-    walk(header, blocks, marks, &mut dirty);
-    least(header, blocks, marks)
+    clear(marks, walk_graph::pair_of(limits::BIAS, header.start));
+    let found = walk(header, blocks, marks);
+    verdict_by(header, blocks, found.foreign, found.bad)
 }
 
-// The number of the first point.
-fn root(header: Header) -> usize
-    ensures { λ r. ⌜ r ≡ rootOf (under header) ⌝ }
+// Clears the marks; then the first pair has seen depth 0, and is the one pair of the list.
+fn clear(marks: &mut [u8], first: u32)
+    requires { ⌜ pairMarks * first + pairMarks ≤ length (now marks) ⌝ }
+    requires { ⌜ first < taskCount * mostBlocks ⌝ }
+    ensures { λ _. ⌜ now (marks .exit) ≡ fresh (length (now (marks .entry))) first ⌝ }
 {
-    walk_graph::number(limits::BIAS, header.start as u32, 0)
-}
-
-// Clears the marks and marks the first point as pending.
-fn clear(marks: &mut [u8], first: usize)
-    requires { ⌜ length (now marks) ≡ marksLength ⌝ }
-    requires { ⌜ first < marksLength ⌝ }
-    ensures { λ _. ⌜ Fresh first (now (marks .exit)) ⌝ }
-{
+    let n = marks.len();
     let mut i = 0;
-    while i < MARKS_LENGTH {
-        marks[i] = NOT_SEEN;
+    while i < n {
+        marks[i] = 0;
         i += 1;
     }
-    marks[first] = PENDING;
+    marks[PAIR_MARKS * first as usize] = 1;
+    marks[ENTRY_LOW] = (first % 256) as u8;
+    marks[ENTRY_HIGH] = (first / 256) as u8;
 }
 
-// From the first point to all that is reached.
-fn walk(header: Header, blocks: &[u8], marks: &mut [u8], dirty: &mut [u8; PAGE_COUNT])
+// From the first pair to all that is reached.
+fn walk(header: Header, blocks: &[u8], marks: &mut [u8]) -> Found
     requires { ⌜ WalkBounds (under header) ⌝ }
-    requires { ⌜ Paged (now marks) (now dirty) 0 ⌝ }
-    requires { ⌜ Going (nextOf (under header) (now blocks)) (rootOf (under header)) (now marks) 0 ⌝ }
+    requires { ⌜ now marks ≡ fresh (pairMarks * pairs (under header)) (pairOf bias (header .start)) ⌝ }
+    ensures { λ r. ⌜ r ≡ found (under header) (now (blocks .entry)) ⌝ }
     ensures { λ _. ⌜ Searched (under header) (now (blocks .entry)) (now (marks .exit)) ⌝ }
-    ensures { λ _. ⌜ Swept (now (dirty .exit)) ⌝ }
 {
-    let mut cursor = 0;
-    while cursor < MARKS_LENGTH {
-        let page = cursor / PAGE_LENGTH;
-        if dirty[page] == 0 {
-            if page < PAGE_COUNT - 1 {
-                cursor = page * PAGE_LENGTH + PAGE_LENGTH;
-            } else {
-                cursor = MARKS_LENGTH;
-            }
-        } else {
-            if marks[cursor] == PENDING {
-                cursor = visit(header, blocks, marks, dirty, cursor);
-            } else {
-                cursor += 1;
-                if cursor % PAGE_LENGTH == 0 {
-                    dirty[page] = 0;
-                }
-            }
-        }
-    }
-}
-
-// Handles the pending point p: the points that follow it are touched, and p is done. Returns the cursor to go on from.
-fn visit(
-    header: Header,
-    blocks: &[u8],
-    marks: &mut [u8],
-    dirty: &mut [u8; PAGE_COUNT],
-    p: usize,
-) -> usize
-    requires { ⌜ WalkBounds (under header) ⌝ }
-    requires { ⌜ Going (nextOf (under header) (now blocks)) (rootOf (under header)) (now marks) p ⌝ }
-    requires { ⌜ p < marksLength ⌝ }
-    requires { ⌜ getD (now marks) p 0 ≡ 1 ⌝ }
-    ensures { λ r. ⌜ board (now (marks .exit)) (now (dirty .exit)) r
-        ≡ visited (nextOf (under header) (now (blocks .entry))) p (board (now (marks .entry)) (now (dirty .entry)) p) ⌝ }
-{
-    let at = point_at(p);
-    let flow = walk_graph::flow_at(header, blocks, at);
-    let count = walk_graph::count(at, flow);
-    let mut cursor = p;
-    let mut k = 0;
-    while k < count {
-        cursor = touch(marks, dirty, walk_graph::successor(at, flow, k), cursor);
-        k += 1;
-    }
-    marks[p] = DONE;
-    cursor
-}
-
-// Marks q as pending where it was not seen, and its page as dirty. Returns the cursor: the lesser of the two then.
-fn touch(marks: &mut [u8], dirty: &mut [u8; PAGE_COUNT], q: usize, cursor: usize) -> usize
-    requires { ⌜ q < length (now marks) ⌝ }
-    requires { ⌜ q < marksLength ⌝ }
-    ensures { λ r. ⌜ board (now (marks .exit)) (now (dirty .exit)) r ≡ touched q (board (now (marks .entry)) (now (dirty .entry)) cursor) ⌝ }
-{
-    if marks[q] == NOT_SEEN {
-        marks[q] = PENDING;
-        dirty[q / PAGE_LENGTH] = 1;
-        if q < cursor {
-            return q;
-        }
-        return cursor;
-    }
-    cursor
-}
-
-// The point of a number.
-fn point_at(i: usize) -> Point
-    requires { ⌜ i < marksLength ⌝ }
-    ensures { λ r. ⌜ r ≡ pointAt i ⌝ }
-{
-    let pair = i / limits::DEPTHS;
-    Point {
-        task: (pair % limits::TASKS) as u8,
-        block: (pair / limits::TASKS) as u16,
-        depth: (i % limits::DEPTHS) as u8,
-    }
-}
-
-// The least of what is marked: the least foreign block, or else the least bad point.
-fn least(header: Header, blocks: &[u8], marks: &[u8]) -> Verdict
-    requires { ⌜ WalkBounds (under header) ⌝ }
-    requires { ⌜ Searched (under header) (now blocks) (now marks) ⌝ }
-    ensures { λ r. ⌜ r ≡ walksVerdict (under header) (now (blocks .entry)) ⌝ }
-{
-    let foreign = least_foreign(header, blocks, marks);
-    let bad = least_bad(header, blocks, marks);
-    verdict_by(header, blocks, foreign, bad)
-}
-
-// The least block of a marked point with a 51 that ends another task; MOST_BLOCKS where there is none.
-fn least_foreign(header: Header, blocks: &[u8], marks: &[u8]) -> usize
-    requires { ⌜ WalkBounds (under header) ⌝ }
-    requires { ⌜ Searched (under header) (now blocks) (now marks) ⌝ }
-    ensures { λ r. ⌜ r ≡ leastForeign (under header) (now (blocks .entry)) (reached (under header) (now (blocks .entry))) ⌝ }
-{
-    let mut found = limits::MOST_BLOCKS as usize;
-    let mut i = 0;
-    while i < MARKS_LENGTH {
-        if marks[i] != NOT_SEEN {
-            found = lower(header, blocks, i, found);
-        }
-        i += 1;
+    let mut found = Found {
+        pending: 1,
+        foreign: limits::MOST_BLOCKS as u32,
+        bad: MARKS_LENGTH as u32,
+    };
+    while found.pending > 0 {
+        found = visit(header, blocks, marks, found);
     }
     found
 }
 
-// The lesser of a block and that of point i, if a 51 there ends another task.
-fn lower(header: Header, blocks: &[u8], i: usize, found: usize) -> usize
-    requires { ⌜ i < marksLength ⌝ }
-    ensures { λ r. ⌜ r ≡ lowered (under header) (now (blocks .entry)) i found ⌝ }
-{
-    let p = point_at(i);
-    let block = p.block as usize;
-    let fault = walk_blocks::fault_at(header, blocks, p);
-    if !fault.is_foreign() {
-        return found;
-    }
-    if block < found {
-        return block;
-    }
-    found
-}
-
-// The least marked point that is bad; MARKS_LENGTH where there is none.
-fn least_bad(header: Header, blocks: &[u8], marks: &[u8]) -> usize
+// Takes the last pair off the list and hands on the depths that it has seen.
+fn visit(header: Header, blocks: &[u8], marks: &mut [u8], found: Found) -> Found
     requires { ⌜ WalkBounds (under header) ⌝ }
-    requires { ⌜ Searched (under header) (now blocks) (now marks) ⌝ }
-    ensures { λ r. ⌜ r ≡ leastBad (under header) (now (blocks .entry)) (reached (under header) (now (blocks .entry))) ⌝ }
+    requires { ⌜ Going (under header) (now blocks) (now marks) (found .pending) ⌝ }
+    requires { ⌜ 0 < found .pending ⌝ }
+    ensures { λ r. ⌜ board (now (marks .exit)) r ≡ visited (under header) (now (blocks .entry)) (board (now (marks .entry)) found) ⌝ }
 {
-    let mut i = 0;
-    while i < MARKS_LENGTH {
-        if marks[i] != NOT_SEEN {
-            let fault = walk_blocks::fault_at(header, blocks, point_at(i));
-            if fault.is_bad() {
-                return i;
-            }
-        }
-        i += 1;
+    let last = found.pending - 1;
+    let entry = PAIR_MARKS * last as usize;
+    let p = num_le::read_u16([marks[entry + ENTRY_LOW], marks[entry + ENTRY_HIGH]]) as u32;
+    let at = PAIR_MARKS * p as usize;
+    let s = marks[at];
+    marks[at + HANDED] = s;
+    let block = (p / TASK_COUNT) as u16;
+    let o = walk_graph::onward_of(header, blocks, (p % TASK_COUNT) as u8, block, s);
+    let n = touch(marks, last, o.named, o.into);
+    let pending = touch(marks, n, p + TASK_COUNT, o.behind);
+    Found {
+        pending: pending,
+        foreign: least_foreign(o.foreign, block as u32, found.foreign),
+        bad: least_bad(o.bad, p, found.bad),
     }
-    i
 }
 
-fn verdict_by(header: Header, blocks: &[u8], foreign: usize, bad: usize) -> Verdict
+// Hands the depths s to pair q, which goes on the list where it was not pending and has not seen them all. Returns how many pairs are on it.
+fn touch(marks: &mut [u8], pending: u32, q: u32, s: u8) -> u32
+    requires { ⌜ Room (now marks) pending q s ⌝ }
+    ensures { λ r. ⌜ listing (now (marks .exit)) r ≡ touched q s (listing (now (marks .entry)) pending) ⌝ }
+{
+    if s == 0 {
+        return pending;
+    }
+    let at = PAIR_MARKS * q as usize;
+    let seen = marks[at];
+    let more = seen | s;
+    if more == seen {
+        return pending;
+    }
+    marks[at] = more;
+    if marks[at + HANDED] != seen {
+        return pending;
+    }
+    let entry = PAIR_MARKS * pending as usize;
+    marks[entry + ENTRY_LOW] = (q % 256) as u8;
+    marks[entry + ENTRY_HIGH] = (q / 256) as u8;
+    pending + 1
+}
+
+// The lesser of the block found so far and this one, if a 51 here ends another task.
+fn least_foreign(foreign: bool, block: u32, so: u32) -> u32
+    ensures { λ r. ⌜ r ≡ foreignWith foreign block so ⌝ }
+{
+    if !foreign {
+        return so;
+    }
+    lesser(block, so)
+}
+
+fn lesser(a: u32, b: u32) -> u32
+    ensures { λ r. ⌜ r ≡ lesser a b ⌝ }
+{
+    if a < b { a } else { b }
+}
+
+// The lesser of the point found so far and the least of pair p at the bad depths.
+fn least_bad(bad: u8, p: u32, so: u32) -> u32
+    requires { ⌜ p < 65536 ⌝ }
+    ensures { λ r. ⌜ r ≡ badWith bad p so ⌝ }
+{
+    if bad == 0 {
+        return so;
+    }
+    lesser(limits::DEPTHS as u32 * p + walk_graph::least_depth(bad), so)
+}
+
+// The verdict by the least foreign block, or else the least bad point.
+fn verdict_by(header: Header, blocks: &[u8], foreign: u32, bad: u32) -> Verdict
     ensures { λ r. ⌜ r ≡ verdictBy (under header) (now (blocks .entry)) foreign bad ⌝ }
 {
-    if foreign < limits::MOST_BLOCKS as usize {
-        return Verdict::Foreign(foreign);
+    if foreign < limits::MOST_BLOCKS as u32 {
+        return Verdict::Foreign(foreign as usize);
     }
-    if bad < MARKS_LENGTH {
+    if bad < MARKS_LENGTH as u32 {
         let p = point_at(bad);
         return Verdict::Bad(walk_blocks::fault_at(header, blocks, p), p);
     }
     Verdict::Accepted
+}
+
+// The point of a number.
+fn point_at(i: u32) -> Point
+    requires { ⌜ i < marksLength ⌝ }
+    ensures { λ r. ⌜ r ≡ pointAt i ⌝ }
+{
+    let pair = i / limits::DEPTHS as u32;
+    Point {
+        task: (pair % TASK_COUNT) as u8,
+        block: (pair / TASK_COUNT) as u16,
+        depth: (i % limits::DEPTHS as u32) as u8,
+    }
 }

@@ -28,7 +28,7 @@ returns-2 c =
     ∙ not-false _ (c .before .before .before .before .before .before .if1 .left) in (
       c .verdict2 .ensures ∙ ap verdictFor (j .ensures .0) ∙ sym (verdict-is (now (a .image)) _ (now (a .state))),
       (
-        c .before .before .before .put-state .ensures ∙ ap encoded (c .before .before .before .before .fresh .ensures)
+        c .before .before .before .encode .ensures ∙ ap encoded (c .before .before .before .before .fresh .ensures)
             ∙ sym (begins (now (a .image)) _ (now (a .state)) accepted),
         j .ensures .1,
       ),

@@ -1,68 +1,63 @@
--- `bias::step_buffer` meets its contract: 16, test by test, then the step.
+-- `bias::step_buffer` meets its contract: 16, then 18 and 17, then the command.
+use mathlib.Core.Path.{_≡_, sym, ap, _∙_}
 use borrow.Author.Needs.{needs}
-use Rattle.bias.proofs.ByTest.{no-state, of-state, step-refused, frame-of, read-of, state-of, frame-not, judged-no-state, judged-state}
-use Rattle.bias.specs.Step.{Stepped, handed}
-use Rattle.machine.specs.Engine.{step}
-use Rattle.machine.specs.Inputs.{inputsOf}
-use Rattle.state_layout.proofs.RoundTrip.{state-good}
-use Rattle.state.specs.declared.State.{State}
-use Rattle.state.specs.GoodState.{GoodState}
-use Rattle.num_le.specs.LittleEndian.{Bytes}
-use denote.Ref.{now}
 use borrow.Author.Tests.{not-true, not-false}
-use mathlib.Core.Path.{sym, ap, _∙_, subst}
+use denote.Ref.{now}
+use Rattle.machine.specs.Inputs.{inputsOf}
+use Rattle.bias.specs.Step.{Stepped}
+use Rattle.bias.proofs.ByTest.{no-state, of-state, step-refused}
+use Rattle.bias.proofs.OfState.{state-long, refused-is, ready-of, whole}
 use Rattle.bias.proofs.step_buffer.Statement.{statement}
 use Rattle.bias.proofs.step_buffer.Tie as tie
 
 returns : tie.Need-returns
 returns c =
-    let a = c .before .before .before .before .before .before .before .before .before .before .before .args in
-    let u = frame-of (now (a .state)) _ (c .before .before .before .before .before .before .copy-in .ensures .0) _ (c .before .before .frame-is .ensures)
-    ∙ not-true _ (c .before .if1 .taken) in
-    step-refused _ _ _ _ (no-state (now (a .image)) (now (a .state)) (inputsOf (a .task) (now (a .inputs)) (a .start) (a .ramp-ended) (a .in-window))
-    (frame-not (now (a .state)) (c .before .before .before .before .before .before .before .before .before .before .before .pre) u)) (c .no-state .ensures)
+    let a = c .before .before .before .before .before .before .before .args in
+    step-refused _ _ _ _ (no-state (now (a .image)) (now (a .state)) (inputsOf (a .t) (now (a .inputs)) (a .start) (a .ramp-ended) (a .in-window)) (sym
+    (c .before .before .is-state .ensures) ∙ not-true _ (c .before .if1 .taken)))
+    (c .no-state .ensures)
+
+carry-out-requires : tie.Need-carry-out-requires
+carry-out-requires c κs =
+    let s = c .before .before .before .before .before .before .before .before .before .before .before .before .before .before .before in
+    let a = s .args in (
+      sym (c .before .before .before .before .before .before .before .before .before .before .is-state .ensures) ∙ not-false _
+          (c .before .before .before .before .before .before .before .before .before .if1 .left),
+      (
+        s .pre .0,
+        (
+          c .before .before .before .before .before .task-at .ensures,
+          sym (c .before .before .c .given .1) ∙ ready-of (now (a .state)) (now (a .image)) _ _ _ _
+              (c .before .before .before .before .before .before .before .header-in .ensures) (c .before .before .before .before .ready-for .ensures),
+        ),
+      ),
+    )
 
 returns-2 : tie.Need-returns-2
 returns-2 c =
-    let a = c .before .before .before .before .before .before .before .before .before .before .before .before .before .args in
-    let same = c .before .before .before .before .before .before .before .before .copy-in .ensures .0 in
-    let u = frame-of (now (a .state)) _ same _ (c .before .before .before .before .frame-is .ensures) ∙ not-false _ (c .before .before .before .if1 .left) in
-    let s = state-of (now (a .state)) _ same _ (c .before .before .before .before .before .before .decode .ensures) _ (c .before .before .state-is .ensures)
-    ∙ not-true _ (c .before .if2 .taken) in
-    step-refused _ _ _ _ (no-state (now (a .image)) (now (a .state)) (inputsOf (a .task) (now (a .inputs)) (a .start) (a .ramp-ended) (a .in-window))
-    (judged-no-state (now (a .state)) (c .before .before .before .before .before .before .before .before .before .before .before .before .before .pre) u s))
-    (c .no-state2 .ensures)
-
-step-state-requires : tie.Need-step-state-requires
-step-state-requires c κs =
-    let a = c .before .before .before .before .before .before .before .before .before .before .before .before .before .args in
-    let copied = c .before .before .before .before .before .before .before .before .copy-in .ensures in
-    let u = frame-of (now (a .state)) _ (copied .0) _ (c .before .before .before .before .frame-is .ensures)
-    ∙ not-false _ (c .before .before .before .if1 .left) in
-    let s = state-of (now (a .state)) _ (copied .0) _ (c .before .before .before .before .before .before .decode .ensures) _
-    (c .before .before .state-is .ensures) ∙ not-false _ (c .before .if2 .left) in
-    let d = read-of (now (a .state)) _ (copied .0) _ (c .before .before .before .before .before .before .decode .ensures) in (
-      c .before .before .before .before .before .before .before .before .before .before .before .before .before .pre,
-      subst GoodState (sym d)
-          (state-good (now (a .state)) (subst Bytes (copied .0) (copied .1))
-          (judged-state (now (a .state)) (c .before .before .before .before .before .before .before .before .before .before .before .before .before .pre) u s)),
-    )
+    let s = c .before .before .before .before .before .before .before .before .before .before .before .before .before .before .before in
+    let a = s .args in
+    let x = inputsOf (a .t) (now (a .inputs)) (a .start) (a .ramp-ended) (a .in-window) in
+    let holds = sym (c .before .before .before .before .before .before .before .before .before .before .is-state .ensures) ∙ not-false _
+    (c .before .before .before .before .before .before .before .before .before .if1 .left) in
+    let e = of-state (now (a .image)) (now (a .state)) x holds
+    ∙ refused-is (now (a .state))
+    (λ k. c .before .before .before .before .before .before .before .before .before .before .before .before .before .slice-known .given k .fits) holds (now
+    (a .image)) x (s .pre .0) _ _ (s .pre .1) (c .before .before .before .before .before .task-at .ensures)
+    (sym (c .before .before .answer .given .1) ∙ ready-of (now (a .state)) (now (a .image)) _ _ _ _
+    (c .before .before .before .before .before .before .before .header-in .ensures) (c .before .before .before .before .ready-for .ensures)) in
+    step-refused _ _ _ _ e (c .answer2 .ensures)
 
 returns-3 : tie.Need-returns-3
 returns-3 c =
-    let a = c .before .before .before .before .before .before .before .before .before .before .before .before .before .before .before .before .args in
-    let x = inputsOf (a .task) (now (a .inputs)) (a .start) (a .ramp-ended) (a .in-window) in
-    let same = c .before .before .before .before .before .before .before .before .before .before .before .copy-in .ensures .0 in
-    let u = frame-of (now (a .state)) _ same _ (c .before .before .before .before .before .before .before .frame-is .ensures)
-    ∙ not-false _ (c .before .before .before .before .before .before .if1 .left) in
-    let s = state-of (now (a .state)) _ same _ (c .before .before .before .before .before .before .before .before .before .decode .ensures) _
-    (c .before .before .before .before .before .state-is .ensures) ∙ not-false _ (c .before .before .before .before .if2 .left) in
-    let d = read-of (now (a .state)) _ same _ (c .before .before .before .before .before .before .before .before .before .decode .ensures) in
-    let e = ap (λ (s : State). handed (step (now (a .image)) s x)) d
-    ∙ sym (of-state (now (a .image)) (now (a .state)) x
-    (judged-state (now (a .state)) (c .before .before .before .before .before .before .before .before .before .before .before .before .before .before .before
-    .before .pre) u s)) in
-    let r = c .before .before .step-state .ensures in
+    let s = c .before .before .before .before .before .before .before .before .before .before .before .before .before .before .before .before .before .before in
+    let a = s .args in
+    let x = inputsOf (a .t) (now (a .inputs)) (a .start) (a .ramp-ended) (a .in-window) in
+    let holds = sym (c .before .before .before .before .before .before .before .before .before .before .before .before .before .is-state .ensures)
+    ∙ not-false _ (c .before .before .before .before .before .before .before .before .before .before .before .before .if1 .left) in
+    let r = c .before .before .carry-out .ensures in
+    let e = whole (now (a .state)) (now (a .image)) x _ (c .before .before .before .before .before .before .before .before .task-at .ensures) holds
+    (s .pre .0) (s .pre .1) in
     (r .0 ∙ ap (λ (m : Stepped). m .answer) e, r .1 ∙ ap (λ (m : Stepped). m .buffer) e)
 
 pub step-buffer-spec : {M : Type 1} → statement M
@@ -71,14 +66,24 @@ step-buffer-spec =
     (tie.spec
     (λ c κs. search needs)
     (λ c κs. search needs)
-    (λ c κs. search needs)
-    (λ c κs. search needs)
     (λ c. search needs)
     returns
-    (λ c κs. search needs)
+    (λ c κs.
+    state-long (now (c .before .before .before .before .before .before .before .args .state))
+    (λ k. c .before .before .before .before .before .slice-known .given k .fits)
+    (sym (c .before .before .is-state .ensures) ∙ not-false _ (c .before .if1 .left)))
+    (λ c κs. (
+      state-long (now (c .before .before .before .before .before .before .before .before .before .args .state))
+          (λ k. c .before .before .before .before .before .before .before .slice-known .given k .fits)
+          (sym (c .before .before .before .before .is-state .ensures) ∙ not-false _ (c .before .before .before .if1 .left)),
+      c .before .before .before .before .before .before .before .before .before .pre .0,
+    ))
     (λ c κs. search needs)
     (λ c. search needs)
+    (λ c κs. search needs)
+    (λ c. search needs)
+    carry-out-requires
+    (λ c. search needs)
     returns-2
-    step-state-requires
     (λ c. search needs)
     returns-3)

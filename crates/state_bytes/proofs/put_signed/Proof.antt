@@ -13,8 +13,8 @@ use Rattle.state_bytes.proofs.put_signed.Tie as tie
 
 returns : tie.Need-returns
 returns c =
-    let st = c .before .before .before in
-    c .put-long .ensures ∙ ap (λ (u : ℕ). puts (now (st .args .s)) (st .args .at) (leBytes 4 u)) (c .before .pattern .ensures
+    let st = c .before .before .before .before .before .before in
+    c .before .before .put-long .ensures ∙ ap (λ (u : ℕ). puts (now (st .args .s)) (st .args .at) (leBytes 4 u)) (c .before .before .before .pattern .ensures
     ∙ ap (word w32) (toZ-ofZ (st .fits .v)))
 
 pub put-signed-spec : {M : Type 1} → statement M
@@ -23,4 +23,5 @@ put-signed-spec =
     (tie.spec
     (λ c κs. search needs)
     (λ c κs. search needs)
+    (λ c. search needs)
     returns)

@@ -7,17 +7,13 @@ use Rattle.state_decode.proofs.motion_in.Tie as tie
 
 returns : tie.Need-returns
 returns c =
-    let k3 = c .before in
-    let k2 = k3 .before in
-    let k1 = k2 .before in
-    let k0 = k1 .before in
     λ i.
     record {
       axis = record {
-        position = got w32 (k0 .signed .ok) (k0 .signed .ensures) i;
-        speed = k1 .word .ensures i;
-        acceleration = k2 .word2 .ensures i;
-        deceleration = k3 .word3 .ensures i;
+        position = got w32 (c .before .before .before .before .signed .ok) (c .before .before .before .before .signed .ensures) i;
+        speed = c .before .before .before .word .ensures i;
+        acceleration = c .before .before .word2 .ensures i;
+        deceleration = c .before .word3 .ensures i;
       };
       mark = c .byte .ensures i;
     }

@@ -21,7 +21,7 @@ abbrev μ-loop : tie.MeasureT-loop
 loop-again : tie.Need-loop-again Inv-loop μ-loop
 loop-again c =
     let l = c .before .before .loop in
-    let a = c .before .before .before .args in (
+    let a = c .before .before .before .before .args in (
       search needs,
       (
         simp length-set (search needs),
@@ -34,7 +34,7 @@ returns : tie.Need-returns Inv-loop μ-loop
 unfolding stackIn
 returns c =
     let l = c .before .loop in
-    let a = c .before .before .args in
+    let a = c .before .before .before .args in
     all (l .r) (l .i) mostDepth (λ (j : ℕ). leNumberAt 2 (now (a .b)) (a .at + 2 * j)) (l .inv .0) (c .loop-test .left) (l .inv .1 .0) (l .inv .1 .1)
 
 pub stack-in-spec : {M : Type 1} → statement M
@@ -44,7 +44,6 @@ stack-in-spec =
     Inv-loop
     μ-loop
     (λ c. (search needs, (search needs, none _)))
-    (λ c. search needs)
     (λ c. search needs)
     (λ c. search needs)
     (λ c κs. search needs)

@@ -23,7 +23,7 @@ abbrev μ-loop : tie.MeasureT-loop
 loop-again : tie.Need-loop-again Inv-loop μ-loop
 loop-again c =
     let l = c .before .before .loop in
-    let a = c .before .before .before .args in (
+    let a = c .before .before .before .before .args in (
       search needs,
       (
         simp length-set (search needs),
@@ -36,7 +36,7 @@ returns : tie.Need-returns Inv-loop μ-loop
 unfolding variablesIn
 returns c =
     let l = c .before .loop in
-    let a = c .before .before .args in
+    let a = c .before .before .before .args in
     all (l .r) (l .k) cells (λ (j : ℕ). signedAt (now (a .b)) (a .at + 4 * j)) (l .inv .0) (c .loop-test .left) (l .inv .1 .0) (l .inv .1 .1)
 
 pub variables-in-spec : {M : Type 1} → statement M
@@ -46,7 +46,6 @@ variables-in-spec =
     Inv-loop
     μ-loop
     (λ c. (search needs, (search needs, none _)))
-    (λ c. search needs)
     (λ c. search needs)
     (λ c. search needs)
     (λ c κs. search needs)

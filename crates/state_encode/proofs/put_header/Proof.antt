@@ -11,18 +11,19 @@ use Rattle.state_encode.proofs.put_header.Tie as tie
 
 returns : tie.Need-returns
 returns c =
-    let k4 = c .before .before in
-    let k3 = k4 .before .before in
-    let k2 = k3 .before .before in
-    let k1 = k2 .before .before in
-    let k0 = k1 .before .before in
+    let k1 = c .before .before in
+    let k2 = k1 .before .before .before .before in
+    let k3 = k2 .before .before .before .before in
+    let k4 = k3 .before .before .before .before in
+    let k5 = k4 .before .before .before .before in
+    let k6 = k5 .before .before .before .before in
     record-put headerWidths (numbersOf _) headerAt refl
-    (put (k0 .put-byte .ensures)
-    (put (k1 .put-byte2 .ensures)
-    (put (k2 .put-byte3 .ensures)
+    (put (k6 .put-byte .ensures)
+    (put (k5 .put-byte2 .ensures)
+    (put (k4 .put-byte3 .ensures)
     (put (k3 .put-byte4 .ensures)
-    (put (k4 .put-word .ensures)
-    (put (c .put-word2 .ensures)
+    (put (k2 .put-word .ensures)
+    (put (k1 .put-word2 .ensures)
     done))))))
 
 pub put-header-spec : {M : Type 1} → statement M
@@ -40,4 +41,5 @@ put-header-spec =
     (λ c κs. search needs)
     (λ c. search needs)
     (λ c κs. search needs)
+    (λ c. search needs)
     returns)

@@ -14,4 +14,5 @@ put-layout-spec =
     tie.close
     (tie.spec
     (λ c κs. search needs)
-    (λ c. record-put layoutWidths (layoutNumber ∷ []) layoutAt refl (put (c .put-byte .ensures) done)))
+    (λ c. search needs)
+    (λ c. record-put layoutWidths (layoutNumber ∷ []) layoutAt refl (put (c .before .before .put-byte .ensures) done)))

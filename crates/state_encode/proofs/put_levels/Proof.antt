@@ -4,7 +4,7 @@ use native.Mathlib.Omega.{arith}
 use mathlib.Core.Path.{_≡_, refl}
 use lib.ListN.{length, take}
 use Rattle.state_bytes.specs.Bytes.{puts}
-use Rattle.state_bytes.proofs.Puts.{puts-none, puts-more, puts-all}
+use Rattle.state_bytes.proofs.Puts.{puts-long, puts-none, puts-more, puts-all}
 use borrow.Author.Needs.{needs}
 use Rattle.state_encode.proofs.put_levels.Statement.{statement}
 use Rattle.state_encode.proofs.put_levels.Tie as tie
@@ -37,8 +37,14 @@ put-levels-spec =
     (λ c. (search needs, puts-none _ _ (c .args .levels .now)))
     (λ c. search needs)
     (λ c. search needs)
-    (λ c. search needs)
+    (λ c. let l = c .before .before .loop in let s = c .before .before .before in omega (
+      arith,
+      puts-long (l .b) (s .args .b .now) (s .args .at) _
+          (l .inv .1),
+      s .pre,
+    ))
     (λ c. search needs)
     (λ c. search needs)
     loop-again
+    (λ c. puts-long _ _ _ _ (c .before .loop .inv .1))
     returns)

@@ -18,21 +18,25 @@ use Rattle.state_encode.proofs.put_motion.Tie as tie
 
 returns : tie.Need-returns
 returns c =
-    let k3 = c .before .before in
-    let k2 = k3 .before .before in
-    let k1 = k2 .before .before in
-    let k0 = k1 .before .before in
-    let st = k0 .before .before .before in
+    let k1 = c .before .before in
+    let k2 = k1 .before .before .before .before in
+    let k3 = k2 .before .before .before .before in
+    let k4 = k3 .before .before .before .before in
+    let k5 = k4 .before .before .before .before in
+    let k6 = k5 .before in
+    let k7 = k6 .before .before .before in
+    let st = k7 in
     let m = st .args .motion in
-    let f : mag (m .axis .position) < 2147483648 = omega (arith, k0 .before .struct-told .given) in
+    let f : mag (m .axis .position) < 2147483648 = omega
+    (arith, k6 .struct-told .given) in
     let z = toZ-ofZ {w = w32} {z = m .axis .position} (record { sfits = f }) in
-    let p = k0 .put-signed .ensures ∙ ap (λ (y : ℤ). puts (now (st .args .b)) motionAt (signedBytes y)) z in
+    let p = k5 .put-signed .ensures ∙ ap (λ (y : ℤ). puts (now (st .args .b)) motionAt (signedBytes y)) z in
     record-put motionWidths (motionRecord m) motionAt refl
     (put p
-    (put (k1 .put-word .ensures)
-    (put (k2 .put-word2 .ensures)
-    (put (k3 .put-word3 .ensures)
-    (put (c .put-byte .ensures)
+    (put (k4 .put-word .ensures)
+    (put (k3 .put-word2 .ensures)
+    (put (k2 .put-word3 .ensures)
+    (put (k1 .put-byte .ensures)
     done)))))
 
 pub put-motion-spec : {M : Type 1} → statement M
@@ -48,4 +52,5 @@ put-motion-spec =
     (λ c κs. search needs)
     (λ c. search needs)
     (λ c κs. search needs)
+    (λ c. search needs)
     returns)

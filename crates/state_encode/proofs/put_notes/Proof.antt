@@ -10,7 +10,8 @@ use Rattle.state_encode.proofs.put_notes.Statement.{statement}
 use Rattle.state_encode.proofs.put_notes.Tie as tie
 
 returns : tie.Need-returns
-returns c = record-put notesWidths (_ ∷ _ ∷ []) notesAt refl (put (c .before .before .put-byte .ensures) (put (c .put-byte2 .ensures) done))
+returns c = record-put notesWidths (_ ∷ _ ∷ []) notesAt refl (put (c .before .before .before .before .before .before .put-byte .ensures) (put
+    (c .before .before .put-byte2 .ensures) done))
 
 pub put-notes-spec : {M : Type 1} → statement M
 put-notes-spec =
@@ -19,4 +20,5 @@ put-notes-spec =
     (λ c κs. search needs)
     (λ c. search needs)
     (λ c κs. search needs)
+    (λ c. search needs)
     returns)

@@ -5,8 +5,9 @@ use lib.ListN.{getD}
 use Rattle.limits.specs.Limits.{mostDepth}
 use Rattle.num_le.specs.LittleEndian.{leBytes}
 use Rattle.state_bytes.specs.Bytes.{puts, concatenated}
-use Rattle.state_bytes.proofs.Puts.{concatenated-none, concatenated-more, concatenated-all}
+use Rattle.state_bytes.proofs.Puts.{puts-long, concatenated-none, concatenated-more, concatenated-all}
 use Rattle.state_layout.specs.Codecs.{stackBytes}
+use native.Mathlib.Omega.{arith}
 use borrow.Author.Needs.{needs}
 use Rattle.state_encode.proofs.put_stack.Statement.{statement}
 use Rattle.state_encode.proofs.put_stack.Tie as tie
@@ -19,10 +20,10 @@ abbrev μ-loop : tie.MeasureT-loop
 
 loop-again : tie.Need-loop-again Inv-loop μ-loop
 loop-again c =
-    let st = c .before .before .before .before .before in
-    let l = c .before .before .before .before .loop in (
+    let st = c .before .before .before .before .before .before .before .before in
+    let l = c .before .before .before .before .before .before .loop in (
       search needs,
-      c .put-word .ensures
+      c .before .before .put-word .ensures
           ∙ concatenated-more (λ (j : ℕ). leBytes 2 (getD (st .args .stack .now) j 0)) 2 (λ j. refl) (st .args .b .now) (st .args .at) (l .i) (l .b)
           (l .inv .1),
     )
@@ -30,11 +31,17 @@ loop-again c =
 returns : tie.Need-returns Inv-loop μ-loop
 unfolding stackBytes
 returns c =
-    let st = c .before .before in
+    let st = c .before .before .before in
     let l = c .before .loop in
     concatenated-all (λ (j : ℕ). leBytes 2 (getD (st .args .stack .now) j 0)) (st .args .b .now) (st .args .at) (l .i) mostDepth (l .b) (l .inv .0)
     (c .loop-test .left)
     (l .inv .1)
+
+inside : tie.Need-put-word-requires Inv-loop μ-loop
+inside c κs =
+    let st = c .before .before .before .before .before in
+    let l = c .before .before .before .loop in
+    omega (arith, st .pre, puts-long (l .b) (st .args .b .now) (st .args .at) _ (l .inv .1))
 
 pub put-stack-spec : {M : Type 1} → statement M
 put-stack-spec =
@@ -47,9 +54,9 @@ put-stack-spec =
     (λ c. search needs)
     (λ c. search needs)
     (λ c. search needs)
-    (λ c. search needs)
-    (λ c κs. search needs)
+    inside
     (λ c. search needs)
     (λ c. search needs)
     loop-again
+    (λ c. puts-long _ _ _ _ (c .before .loop .inv .1))
     returns)

@@ -10,7 +10,8 @@ use Rattle.state_encode.proofs.put_starts.Statement.{statement}
 use Rattle.state_encode.proofs.put_starts.Tie as tie
 
 returns : tie.Need-returns
-returns c = record-put startWidths (_ ∷ _ ∷ []) startsAt refl (put (c .before .before .put-word .ensures) (put (c .put-word2 .ensures) done))
+returns c = record-put startWidths (_ ∷ _ ∷ []) startsAt refl (put (c .before .before .before .before .before .before .put-word .ensures) (put
+    (c .before .before .put-word2 .ensures) done))
 
 pub put-starts-spec : {M : Type 1} → statement M
 put-starts-spec =
@@ -19,4 +20,5 @@ put-starts-spec =
     (λ c κs. search needs)
     (λ c. search needs)
     (λ c κs. search needs)
+    (λ c. search needs)
     returns)

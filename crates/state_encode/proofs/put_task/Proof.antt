@@ -7,20 +7,22 @@ use Rattle.state_encode.proofs.put_task.Tie as tie
 
 returns : tie.Need-returns
 returns c =
-    let k4 = c .before .before in
-    let k3 = k4 .before .before in
-    let k2 = k3 .before .before .before .before in
-    let k1 = k2 .before .before in
-    let k0 = k1 .before .before in
+    let k1 = c .before .before in
+    let k2 = k1 .before .before .before .before in
+    let k3 = k2 .before .before .before .before in
+    let k4 = k3 .before .before .before .before .before .before in
+    let k5 = k4 .before .before .before .before in
+    let k6 = k5 .before .before .before .before in
+    let k7 = k6 .before .before .before in
     chained-first
-    (put-first (k0 .put-byte .ensures)
-    (put (k1 .put-byte2 .ensures)
-    (put (k2 .put-word .ensures)
+    (put-first (k6 .put-byte .ensures)
+    (put (k5 .put-byte2 .ensures)
+    (put (k4 .put-word .ensures)
     (put (k3 .put-stack .ensures)
-    (put (k4 .put-long .ensures)
-    (put (c .put-long2 .ensures)
+    (put (k2 .put-long .ensures)
+    (put (k1 .put-long2 .ensures)
     done))))))
-    (parts-long (k0 .before .before .args .t3))
+    (parts-long (k7 .args .t3))
 
 pub put-task-spec : {M : Type 1} → statement M
 put-task-spec =
@@ -37,4 +39,5 @@ put-task-spec =
     (λ c κs. search needs)
     (λ c. search needs)
     (λ c κs. search needs)
+    (λ c. search needs)
     returns)

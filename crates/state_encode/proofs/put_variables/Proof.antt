@@ -1,13 +1,14 @@
 -- `state_encode::put_variables` meets its contract: after k turns the bytes of k variables are put.
 use Prim.Native.Nat.{ℕ, _+_, _*_, _-_, _≤_}
 use mathlib.Core.Path.{_≡_, refl, ap, _∙_}
+use native.Mathlib.Omega.{arith}
 use lib.ListN.{getD}
 use lib.IntN.{ℤ, pos}
 use mir.Syntax.{w32}
 use mir.Facts.{toZ-ofZ}
 use Rattle.limits.specs.Limits.{cells}
 use Rattle.state_bytes.specs.Bytes.{puts, concatenated, signedBytes}
-use Rattle.state_bytes.proofs.Puts.{concatenated-none, concatenated-more, concatenated-all}
+use Rattle.state_bytes.proofs.Puts.{puts-long, concatenated-none, concatenated-more, concatenated-all}
 use Rattle.state_layout.specs.Codecs.{variableBytes}
 use borrow.Author.Needs.{needs}
 use Rattle.state_encode.proofs.put_variables.Statement.{statement}
@@ -21,11 +22,11 @@ abbrev μ-loop : tie.MeasureT-loop
 
 loop-again : tie.Need-loop-again Inv-loop μ-loop
 loop-again c =
-    let st = c .before .before .before .before .before in
-    let l = c .before .before .before .before .loop in
-    let z = toZ-ofZ {w = w32} {z = getD (st .args .variables .now) (l .k) (pos 0)} (record { sfits = c .before .put-signed-arg2 .given }) in (
+    let st = c .before .before .before .before .before .before .before .before in
+    let l = c .before .before .before .before .before .before .loop in
+    let z = toZ-ofZ {w = w32} {z = getD (st .args .variables .now) (l .k) (pos 0)} (record { sfits = c .before .before .before .put-signed-arg2 .given }) in (
       search needs,
-      c .put-signed .ensures
+      c .before .before .put-signed .ensures
           ∙ ap (λ (y : ℤ). puts (l .b) (st .args .at + 4 * l .k) (signedBytes y)) z
           ∙ concatenated-more (λ (j : ℕ). signedBytes (getD (st .args .variables .now) j (pos 0))) 4 (λ j. refl) (st .args .b .now) (st .args .at) (l .k) (l .b)
           (l .inv .1),
@@ -34,10 +35,16 @@ loop-again c =
 returns : tie.Need-returns Inv-loop μ-loop
 unfolding variableBytes
 returns c =
-    let st = c .before .before in
+    let st = c .before .before .before in
     let l = c .before .loop in
     concatenated-all (λ (j : ℕ). signedBytes (getD (st .args .variables .now) j (pos 0))) (st .args .b .now) (st .args .at) (l .k) cells (l .b) (l .inv .0)
     (c .loop-test .left) (l .inv .1)
+
+inside : tie.Need-put-signed-requires Inv-loop μ-loop
+inside c κs =
+    let st = c .before .before .before .before .before in
+    let l = c .before .before .before .loop in
+    omega (arith, st .pre, puts-long (l .b) (st .args .b .now) (st .args .at) _ (l .inv .1))
 
 pub put-variables-spec : {M : Type 1} → statement M
 put-variables-spec =
@@ -50,9 +57,9 @@ put-variables-spec =
     (λ c. search needs)
     (λ c. search needs)
     (λ c. search needs)
-    (λ c. search needs)
-    (λ c κs. search needs)
+    inside
     (λ c. search needs)
     (λ c. search needs)
     loop-again
+    (λ c. puts-long _ _ _ _ (c .before .loop .inv .1))
     returns)

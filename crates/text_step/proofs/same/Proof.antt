@@ -20,9 +20,9 @@ abbrev μ-loop : tie.MeasureT-loop
 loop-again : tie.Need-loop-again Inv-loop μ-loop
 unfolding eachBelow
 loop-again c =
-    let l = c .before .before .before .loop in
-    let st = c .before .before .before .before .args in
-    let a = c .before .byte .ensures ∙ one-byte (now (st .a)) (st .at + l .k) in
+    let l = c .before .before .before .before .before .loop in
+    let st = c .before .before .before .before .before .before .args in
+    let a = c .before .before .byte .ensures ∙ one-byte (now (st .a)) (st .at + l .k) in
     let b = c .byte2 .ensures ∙ one-byte (now (st .b)) (st .at + l .k) in
     (search needs, rw (add-one, ← l .inv .1, ← a, ← b))
 

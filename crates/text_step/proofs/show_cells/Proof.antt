@@ -28,7 +28,7 @@ add-show-cell c = let w = within (c .before .before .before .args .width) (c .be
 
 show-cell-requires : tie.Need-show-cell-requires Inv-loop μ-loop
 show-cell-requires c κs = let w = within (c .before .before .before .args .width) (c .before .loop .k) cells
-    (let h : c .before .loop .k < cells = omega arith in h) in omega arith
+    (let h : c .before .loop .k < cells = omega arith in h) in (search needs, omega arith)
 
 loop-again : tie.Need-loop-again Inv-loop μ-loop
 unfolding eachBelow
@@ -55,7 +55,6 @@ show-cells-spec =
     Inv-loop
     μ-loop
     (λ c. (search needs, is-same _ true refl))
-    (λ c. search needs)
     mul-show-cell
     add-show-cell
     show-cell-requires

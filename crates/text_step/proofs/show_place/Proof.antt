@@ -13,22 +13,23 @@ use Rattle.text_step.proofs.show_place.Tie as tie
 
 returns-2 : tie.Need-returns-2
 returns-2 c =
-    let a = c .before .before .before .before .before .args in
-    let e = c .before .byte .ensures ∙ ap (λ (p : ℕ). leNumberAt 1 (now (a .a)) p) (c .before .before .task-at .ensures) in
+    let a = c .before .before .before .before .before .before .args in
+    let e = c .before .byte .ensures ∙ ap (λ (p : ℕ). leNumberAt 1 (now (a .a)) p) (c .before .before .before .task-at .ensures) in
     rw (
-      lt-ltb (a .task) taskCount (c .before .before .before .if1 .left),
+      lt-ltb (a .task) taskCount (c .before .before .before .before .if1 .left),
       ne-eqb (leNumberAt 1 (now (a .a)) (taskPlace (a .task))) runs
           (λ i. c .if2 .taken (e ∙ i)),
     )
 
 returns-3 : tie.Need-returns-3
 returns-3 c =
-    let a = c .before .before .before .before .before .before .before .args in
-    let e = c .before .before .before .byte .ensures ∙ ap (λ (p : ℕ). leNumberAt 1 (now (a .a)) p) (c .before .before .before .before .task-at .ensures) in
+    let a = c .before .before .before .before .before .before .before .before .before .args in
+    let e = c .before .before .before .before .byte .ensures ∙ ap (λ (p : ℕ). leNumberAt 1 (now (a .a)) p) (c .before .before .before .before .before .before
+    .task-at .ensures) in
     rw (
-      lt-ltb (a .task) taskCount (c .before .before .before .before .before .if1 .left),
+      lt-ltb (a .task) taskCount (c .before .before .before .before .before .before .before .if1 .left),
       eq-eqb (leNumberAt 1 (now (a .a)) (taskPlace (a .task))) runs (sym e
-          ∙ c .before .before .if2 .left),
+          ∙ c .before .before .before .if2 .left),
     )
 
 pub show-place-spec : {M : Type 1} → statement M

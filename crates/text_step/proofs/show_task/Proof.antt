@@ -19,14 +19,14 @@ returns c =
 returns-2 : tie.Need-returns-2
 returns-2 c =
     let a = c .before .before .before .before .before .before .before .before .before .before .before .before .before .before .before .before .before .before
-    .before .before .before .args in
+    .before .before .before .before .before .before .before .before .args in
     let e = ap (λ (p : ℕ). same (now (a .a)) (now (a .b)) p taskLength)
     (c .before .before .before .before .before .before .before .before .before .before .before .before .before .before .before .before .before .before .before
-    .before .task-at .ensures) in
+    .before .before .before .before .before .before .task-at .ensures) in
     is-not (a .nothing) (same (now (a .a)) (now (a .b)) (taskPlace (a .t)) taskLength)
     (sym (c .before .before .before .before .before .before .before .before .before .before .before .before .before .before .before .before .before .before
-    .before .same .ensures ∙ e) ∙ c .before .before .before .before .before .before .before .before .before .before .before .before .before .before .before
-    .before .before .before .if1 .left)
+    .before .before .before .before .before .before .same .ensures ∙ e) ∙ c .before .before .before .before .before .before .before .before .before .before
+    .before .before .before .before .before .before .before .before .before .before .before .before .before .if1 .left)
 
 pub show-task-spec : {M : Type 1} → statement M
 show-task-spec =

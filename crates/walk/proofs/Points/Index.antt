@@ -1,5 +1,4 @@
--- The three laws of a point's number in the marks: it gives the point back, it is below the marks' length, and its order is the report order.
--- Nothing else may be used of it.
+-- The three laws of a point's number: it gives the point back, it is below the marks' length, and its order is the report order.
 use Prim.Native.Nat.{ℕ, _+_, _*_, _/_, _%_, _<_, _≤_}
 use mathlib.Core.Path.{_≡_, sym, _∙_}
 use mathlib.Core.Bool.{true, false}

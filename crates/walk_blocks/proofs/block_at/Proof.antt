@@ -1,10 +1,10 @@
--- `block_at` meets its contract: eight bytes, one after the other.
+-- `block_at` meets its contract: eight bytes, one after the other, whether all are there or not.
 use borrow.Author.Needs.{needs}
 use Rattle.walk_blocks.proofs.block_at.Statement.{statement}
 use Rattle.walk_blocks.proofs.block_at.Tie as tie
 
-returns : tie.Need-returns
-returns c = rw (
+returns-2 : tie.Need-returns-2
+returns-2 c = rw (
   c .before .before .before .before .before .before .before .byte-at .ensures,
   c .before .before .before .before .before .before .byte-at2 .ensures,
   c .before .before .before .before .before .byte-at3 .ensures,
@@ -20,7 +20,6 @@ block-at-spec =
     tie.close
     (tie.spec
     (λ c. search needs)
-    (λ c κs. search needs)
     (λ c. search needs)
     (λ c κs. search needs)
     (λ c. search needs)
@@ -35,4 +34,8 @@ block-at-spec =
     (λ c κs. search needs)
     (λ c. search needs)
     (λ c κs. search needs)
-    returns)
+    (λ c. search needs)
+    (λ c κs. search needs)
+    (λ c. search needs)
+    (λ c κs. search needs)
+    returns-2)

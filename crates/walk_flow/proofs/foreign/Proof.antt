@@ -12,11 +12,10 @@ foreign-spec =
     tie.close
     (tie.spec
     (λ c κs. search needs)
-    (λ c κs. search needs)
-    (λ c. rw (← c .before .before .find .ensures, ← c .before .is-ending .ensures, not-true (c .before .is-ending .result) (c .if1 .taken)))
+    (λ c. rw (← c .before .before .pre, ← c .before .is-ending .ensures, not-true (c .before .is-ending .result) (c .if1 .taken)))
     (λ c. rw (c .if2 .taken) (simp and-false))
     (λ c. search needs)
     (λ c. search needs)
     (λ c.
     let ends = c .before .before .is-ending in
-    rw (← c .before .before .before .find .ensures, ← ends .ensures, not-false (ends .result) (c .before .if1 .left)) (simp (ne-eqb _ _ (c .if2 .left)))))
+    rw (← c .before .before .before .pre, ← ends .ensures, not-false (ends .result) (c .before .if1 .left)) (simp (ne-eqb _ _ (c .if2 .left)))))

@@ -3,20 +3,18 @@ use mathlib.Core.Path.{sym}
 use Rattle.walk_flow.specs.Terms.{under}
 use Rattle.walk_flow.specs.Permission.{permitted}
 use Rattle.walk_flow.proofs.NoBox.{no-box}
-use borrow.Author.Needs.{needs}
 use Rattle.walk_flow.proofs.permitted.Statement.{statement}
 use Rattle.walk_flow.proofs.permitted.Tie as tie
 
 returns-4 : tie.Need-returns-4
-returns-4 c = sym (no-box (under (c .before .before .args .header)) (c .before .before .args .code) (c .before .before .args .task) (c .match .rest))
+returns-4 c = sym (no-box (under (c .before .args .header)) (c .before .args .c .code) (c .before .args .task) (c .match .rest))
 
 pub permitted-spec : {M : Type 1} → statement M
 unfolding permitted
 permitted-spec =
     tie.close
     (tie.spec
-    (λ c κs. search needs)
-    (λ c. rw (c .match .keys1, ← c .before .find .ensures))
-    (λ c. rw (c .match .keys2, ← c .before .find .ensures))
-    (λ c. rw (c .match .keys3, ← c .before .find .ensures))
+    (λ c. rw (c .match .keys1, ← c .before .pre))
+    (λ c. rw (c .match .keys2, ← c .before .pre))
+    (λ c. rw (c .match .keys3, ← c .before .pre))
     returns-4)

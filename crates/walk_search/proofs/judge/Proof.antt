@@ -38,7 +38,7 @@ returns-3 c =
     let a = c .before .before .before .before .before .before .before .before .before .before .before .args in
     let r = c .before .before .judge-blocks .ensures in (
       judged-image (now (a .image)) _ _ _ _ (c .before .before .before .before .before .before .before .read .ensures)
-          (c .before .before .before .before .block-part .ensures) (sym (c .before .before .before .before .before .before .is-done .ensures)
+          (c .before .before .before .before .part-of .ensures) (sym (c .before .before .before .before .before .before .is-done .ensures)
           ∙ not-false _ (c .before .before .before .before .before .if2 .left)) (c .before .before .before .before .before .before .before .before .if1 .left)
           (r .0),
       r .1,

@@ -1,4 +1,4 @@
--- `Flow::of` meets its contract: the row that it found is the definition's.
+-- `Flow::of` meets its contract: the row is the definition's.
 use mathlib.Core.Path.{ap, _∙_}
 use Rattle.walk_flow.specs.Flow.{flowBy, flowOf}
 use Rattle.command_table.specs.declared.Row.{Row}
@@ -8,13 +8,13 @@ use Rattle.walk_flow.proofs.Flow.of.Tie as tie
 
 returns : tie.Need-returns
 unfolding flowOf
-returns c = c .flow-by .ensures ∙ ap (λ (r : Row). flowBy (r .flow) (c .before .before .args .c .x) (c .before .before .args .c .word))
-    (c .before .find .ensures)
+returns c =
+    let s = c .before in
+    c .flow-by .ensures ∙ ap (λ (r : Row). flowBy (r .flow) (s .args .c .x) (s .args .c .word)) (s .pre)
 
 pub of-spec : {M : Type 1} → statement M
 of-spec =
     tie.close
     (tie.spec
-    (λ c κs. search needs)
     (λ c κs. search needs)
     returns)

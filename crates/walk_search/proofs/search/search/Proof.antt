@@ -1,26 +1,31 @@
--- `search` meets its contract: the marks begin with the first point alone, are walked to the end, and the least is told.
+-- `search` meets its contract: the marks begin with the first pair alone, are walked to the end, and the least is told.
+use Prim.Native.Nat.{ℕ}
+use mathlib.Core.Path.{_≡_, ap, _∙_}
+use native.Mathlib.Omega.{arith}
 use denote.Ref.{now}
-use Rattle.walk_flow.specs.Terms.{under}
-use Rattle.walk.specs.Verdict.{rootOf}
-use Rattle.walk.proofs.Steps.History.{number-inside}
-use Rattle.walk_search.proofs.Searching.{begun, all-dirty}
 use borrow.Author.Needs.{needs}
-use Rattle.walk.specs.Graph.{Reach}
+use Rattle.walk.specs.Verdict.{verdictBy, walksVerdict}
+use Rattle.walk_flow.specs.Terms.{under}
+use Rattle.walk_search.specs.Search.{found, fresh}
 use Rattle.walk_search.proofs.search.search.Statement.{statement}
 use Rattle.walk_search.proofs.search.search.Tie as tie
 
 clear-requires : tie.Need-clear-requires
 clear-requires c κs =
     let s = c .before .before .before .before in
-    let h = under (s .args .header) in
-    let i = number-inside h (now (s .args .blocks)) (s .pre .0 .most) (s .pre .0 .begins) (rootOf h) Reach.begin in
-    (s .pre .1, rw (c .root .ensures) i)
+    let r = s .pre .0 in
+    (omega (arith, r .begins, s .pre .1, c .pair-of .ensures), omega (arith, r .begins, r .most, c .pair-of .ensures))
 
 walk-requires : tie.Need-walk-requires
 walk-requires c κs =
-    let s = c .before .before .before .before .before .before .before .before .before in
-    let e = rw (c .before .before .before .before .before .root .ensures) at (c .before .before .before .before .clear .ensures) in
-    (s .pre .0, (all-dirty _ (e .long), begun _ _ _ e))
+    let s = c .before .before .before .before .before .before .before .before in
+    (s .pre .0, c .before .before .before .clear .ensures ∙ rw (s .pre .1, c .before .before .before .before .pair-of .ensures))
+
+returns : tie.Need-returns
+unfolding walksVerdict found
+returns c =
+    let w = c .before .before .before .walk .ensures in
+    (c .verdict-by .ensures ∙ rw (w .0), w .1)
 
 pub search-spec : {M : Type 1} → statement M
 search-spec =
@@ -31,4 +36,4 @@ search-spec =
     walk-requires
     (λ c κs. search needs)
     (λ c. search needs)
-    (λ c. search needs))
+    returns)

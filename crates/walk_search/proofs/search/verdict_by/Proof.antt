@@ -21,6 +21,7 @@ verdict-by-spec =
     (tie.spec
     (λ c. search needs)
     (λ c. rw (lt-ltb _ _ (c .if1 .taken)))
+    (λ c. search needs)
     (λ c κs. search needs)
     (λ c κs. search needs)
     returns-2

@@ -1,0 +1,215 @@
+-- A search begins with the first point alone, and ends with what walks reach and the least of it.
+use Prim.Native.Nat.{ℕ, _+_, _-_, _*_, _/_, _%_, _<_, _≤_}
+use mathlib.Core.Path.{_≡_, refl, sym, ap, _∙_}
+use mathlib.Core.Bool.{Bool, true, false, cond}
+use mathlib.Core.List.{List}
+use native.Mathlib.Decide.{ℕ-discrete, decLt}
+use native.Mathlib.Omega.{arith}
+use lib.ListN.{length, getD, length-set, replicate, length-replicate, getD-replicate, List·getD-eq-default}
+use lib.Seq.{ext-getD}
+use Rattle.limits.specs.Limits.{bias, taskCount, mostBlocks, depths, marksLength}
+use Rattle.logic.proofs.Choice.{clash, test}
+use Rattle.walk_flow.specs.Terms.{Terms}
+use Rattle.walk_point.specs.PointFault.{point}
+use Rattle.walk.specs.Graph.{In, Reach, has}
+use Rattle.walk.specs.Index.{indexOf}
+use Rattle.walk.specs.Successors.{nextOf}
+use Rattle.walk.specs.Verdict.{rootOf, reached}
+use Rattle.walk.proofs.Membership.{has-in, in-has}
+use Rattle.walk.proofs.Verdicts.OfWalks.{exact}
+use Rattle.walk_graph.specs.Depths.{sets, digit, Has}
+use Rattle.walk_graph.specs.Onward.{pairOf}
+use Rattle.walk_graph.proofs.Depths.{digit-two, none, is-depth, ground-is, ground-of}
+use Rattle.walk_search.specs.Search.{WalkBounds, pairMarks, pairs, seenIn, handedIn, listIn, withSeen}
+use Rattle.walk_search.specs.Search.{withEntry, fresh, Board, board, visited, Seen, busy}
+use Rattle.walk_search.specs.Search.{Listed, Sound, Going, Searched, found}
+use Rattle.walk_search.specs.declared.search.Found.{Found}
+use Rattle.walk_search.proofs.Stores.{put, put-same, at-put, seen-set, handed-seen, list-seen, list-set, seen-list, handed-list, entry-long}
+use Rattle.walk_search.proofs.Counts.{odd-same, odd-other, busy-seen, busy-same, left}
+use Rattle.walk_search.proofs.Visits.{visit-keeps, visit-less, handed₃, depths-some, all-handed, all-seen}
+use Rattle.walk_search.proofs.Minima.{Minima, minima-visit, minima-begun, minima-are}
+
+-- what holds all through a search
+pub record Running (h : Terms) (bs : List ℕ) (b : Board) : Type 0 where
+  pub going : Going h bs (b .marks) (b .found .pending)
+  pub least : Minima h bs (handedIn (b .marks)) (b .found .foreign) (b .found .bad)
+
+minima-of : (h : Terms) (bs : List ℕ) {hs hs′ : ℕ → ℕ} {foreign bad : ℕ} → hs′ ≡ hs → Minima h bs hs foreign bad → Minima h bs hs′ foreign bad
+minima-of h bs e x = rw e x
+
+-- ---- the beginning
+
+-- only depth 0 of the first pair is seen, and it is the list's one entry
+module _ (next : ℕ → List ℕ) (m first : ℕ) (hs ss list : ℕ → ℕ) (few : m ≤ taskCount * mostBlocks) (h : first < m)
+    (zh : (p : ℕ) → hs p ≡ 0) (zs : (p : ℕ) → ss p ≡ 0) where
+  first-seen : Sound next (depths * first) hs (put ss first 1)
+  first-seen = record {
+    first =
+        let e : depths * first / depths ≡ first = omega arith in
+        let f : depths * first % depths ≡ 0 = omega arith in
+        rw (e, f, put-same ss first 1) ground-is;
+    held = λ i k. absurd (none (i % depths) (rw (zh (i / depths)) at k));
+    sound = λ i. at-put (λ p v. i / depths ≡ p → Has v (i % depths) → Reach next (depths * first) i) ss first 1
+        (λ e k. let z = ground-of (i % depths) k in let f : i ≡ depths * first = omega arith in rw f Reach.begin)
+        (λ p n e k. absurd (none (i % depths) (rw (zs p) at k)))
+        (i / depths) refl;
+    closed = λ i j k to. absurd (none (i % depths) (rw (zh (i / depths)) at k));
+  }
+
+  first-listed : Listed m hs (put ss first 1) (put list 0 first) 1
+  first-listed = record {
+    few = few;
+    out = at-put (λ p v. m ≤ p → v ≡ 0) ss first 1 (λ i. absurd (omega arith)) (λ p n i. zs p);
+    small = at-put (λ p v. v < sets) ss first 1 (omega arith) (λ p n. omega (arith, zs p));
+    within = λ p. omega (arith, zh p);
+    count = omega (
+      arith,
+      busy-seen m hs ss first 1 h,
+      busy-same m hs ss (λ p. zh p ∙ sym (zs p)),
+      odd-same (hs first) (ss first) (zh first ∙ sym (zs first)),
+      odd-other (hs first) 1 (λ e. omega (arith, zh first)),
+    );
+    pairs = at-put (λ k v. k < 1 → v < m) list 0 first (λ i. h) (λ k n i. absurd (n (omega arith)));
+    differ = at-put (λ k v. k < 1 → hs v < put ss first 1 v) list 0 first (λ i. rw (put-same ss first 1) (omega (arith, zh first)))
+        (λ k n i. absurd (n (omega arith)));
+    once = λ j k i l. omega arith;
+  }
+
+sound-of : {next : ℕ → List ℕ} {root root′ : ℕ} {hs hs′ ss ss′ : ℕ → ℕ} → root′ ≡ root → hs′ ≡ hs → ss′ ≡ ss → Sound next root hs ss → Sound next root′ hs′ ss′
+sound-of a b c x = rw (a, b, c) x
+
+listed-of : {m n : ℕ} {hs hs′ ss ss′ ws ws′ : ℕ → ℕ} → hs′ ≡ hs → ss′ ≡ ss → ws′ ≡ ws → Listed m hs ss ws n → Listed m hs′ ss′ ws′ n
+listed-of a b c x = rw (a, b, c) x
+
+zeros : (n k : ℕ) → getD {A = ℕ} (replicate n 0) k 0 ≡ 0
+zeros n k = go (decLt k n)
+  where
+    go : Dec (k < n) → getD {A = ℕ} (replicate n 0) k 0 ≡ 0
+    go (yes h) = getD-replicate n k 0 0 h
+    go (no h) = List·getD-eq-default (replicate n 0) 0 (omega (arith, length-replicate {A = ℕ} n 0))
+
+-- marks that are 0 below their length are all 0
+pub cleared : (l : List ℕ) (n : ℕ) → length l ≡ n → ((k : ℕ) → k < n → getD l k 0 ≡ 0) → l ≡ replicate n 0
+cleared l n e f = ext-getD 0 l (replicate n 0) (e ∙ sym (length-replicate {A = ℕ} n 0)) (λ k h. f k (omega arith) ∙ sym (zeros n k))
+
+module _ (h : Terms) (bs : List ℕ) (r : WalkBounds h) where
+  abbrev first : ℕ
+  first = pairOf bias (h .header .start)
+
+  abbrev n : ℕ
+  n = pairMarks * pairs h
+
+  abbrev clean : List ℕ
+  clean = replicate n 0
+
+  root-is : rootOf h ≡ depths * first
+  unfolding indexOf
+  root-is = omega arith
+
+  first-in : first < pairs h
+  first-in = let b = r .begins in omega arith
+
+  long₁ : length (withSeen first 1 clean) ≡ n
+  long₁ = length-set clean (pairMarks * first) 1 ∙ length-replicate {A = ℕ} n 0
+
+  handed-is : handedIn (fresh n first) ≡ handedIn clean
+  handed-is = handed-list 0 first (withSeen first 1 clean) ∙ handed-seen first 1 clean
+
+  seen-is : seenIn (fresh n first) ≡ put (seenIn clean) first 1
+  seen-is = seen-list 0 first (withSeen first 1 clean) ∙ seen-set first 1 clean (omega (arith, first-in, length-replicate {A = ℕ} n 0))
+
+  list-is : listIn (fresh n first) ≡ put (listIn clean) 0 first
+  list-is = list-set 0 first (withSeen first 1 clean) (omega (arith, first-in, long₁)) ∙ ap (λ (f : ℕ → ℕ). put f 0 first) (list-seen first 1 clean)
+
+  few : pairs h ≤ taskCount * mostBlocks
+  few = let b = r .most in omega arith
+
+  pub fresh-long : length (fresh n first) ≡ n
+  fresh-long = entry-long 0 first (withSeen first 1 clean) ∙ long₁
+
+  going-begun : Going h bs (fresh n first) 1
+  going-begun = record {
+    long = fresh-long;
+    graph = sound-of root-is handed-is seen-is
+        (first-seen (nextOf h bs) (pairs h) first (handedIn clean) (seenIn clean) (listIn clean) few first-in (λ p. zeros n (pairMarks * p + 1)) (λ p. zeros n
+        (pairMarks * p)));
+    listed = listed-of handed-is seen-is list-is
+        (first-listed (nextOf h bs) (pairs h) first (handedIn clean) (seenIn clean) (listIn clean) few first-in (λ p. zeros n (pairMarks * p + 1))
+        (λ p. zeros n (pairMarks * p)));
+  }
+
+  pub begun : Running h bs (board (fresh n first) (record { pending = 1; foreign = mostBlocks; bad = marksLength }))
+  begun = record {
+    going = going-begun;
+    least = minima-begun h bs (handedIn (fresh n first)) (λ p. ap (λ (f : ℕ → ℕ). f p) handed-is ∙ zeros n (pairMarks * p + 1));
+  }
+
+  -- ---- a visit
+
+  module _ (b : Board) (w : Running h bs b) (some : 0 < b .found .pending) where
+    keeps-running : Running h bs (visited h bs b)
+    unfolding visited
+    keeps-running = record {
+      going = visit-keeps h bs r (b .marks) (b .found .pending) (w .going) some;
+      least =
+          let p = listIn (b .marks) (b .found .pending - 1) in
+          let d = depths-some h bs r (b .marks) (b .found .pending) (w .going) some in
+          minima-of h bs (handed₃ h bs r (b .marks) (b .found .pending) (w .going) some)
+          (minima-visit h bs (handedIn (b .marks)) p (seenIn (b .marks) p) (held p) (d .0) (d .1) (b .found .foreign) (b .found .bad) (w .least));
+    }
+      where
+        held : (p d : ℕ) → Has (handedIn (b .marks) p) d → Has (seenIn (b .marks) p) d
+        held p d k = go (is-depth (handedIn (b .marks) p) d (let l = w .going .listed .within p in let s = w .going .listed .small p in omega arith) k)
+          where
+            go : d < depths → Has (seenIn (b .marks) p) d
+            go l =
+                let e : (depths * p + d) / depths ≡ p = omega arith in
+                let f : (depths * p + d) % depths ≡ d = omega arith in
+                rw (e, f) at (w .going .graph .held (depths * p + d) (rw (e, f) k))
+
+    leaves-less : left (pairs h) (handedIn (visited h bs b .marks)) < left (pairs h) (handedIn (b .marks))
+    unfolding visited
+    leaves-less = visit-less h bs r (b .marks) (b .found .pending) (w .going) some
+
+    -- the same of what a visit is found to leave
+    pub running-after : (b′ : Board) → b′ ≡ visited h bs b → Running h bs b′
+    running-after b′ e = rw e keeps-running
+
+    pub less-after : (b′ : Board) → b′ ≡ visited h bs b → left (pairs h) (handedIn (b′ .marks)) < left (pairs h) (handedIn (b .marks))
+    less-after b′ e = rw e leaves-less
+
+  -- ---- the end
+
+  module _ (b : Board) (w : Running h bs b) (over : b .found .pending ≡ 0) where
+    done : Going h bs (b .marks) 0
+    done = rw over at (w .going)
+
+    handed-sound : (i : ℕ) → Seen (handedIn (b .marks)) i → Reach (nextOf h bs) (rootOf h) i
+    handed-sound i k = w .going .graph .sound i (w .going .graph .held i k)
+
+    handed-whole : (i : ℕ) → Reach (nextOf h bs) (rootOf h) i → Seen (handedIn (b .marks)) i
+    handed-whole i k = rw (all-handed h bs (b .marks) done (i / depths)) (all-seen h bs (b .marks) done i k)
+
+    pub found-is : b .found ≡ found h bs
+    unfolding found
+    found-is =
+        let m = minima-are h bs r (handedIn (b .marks)) handed-sound handed-whole (b .found .foreign) (b .found .bad) (w .least) in
+        rw (over, m .0, m .1) refl
+
+    pub searched : Searched h bs (b .marks)
+    searched = record {
+      long = w .going .long;
+      seen = λ i. test (has (reached h bs) i) (λ e. rw e (in-reach i (has-in (reached h bs) i e))) (λ e. rw e (not-reach i e));
+      small = w .going .listed .small;
+      settled = all-handed h bs (b .marks) done;
+    }
+      where
+        in-reach : (i : ℕ) → In i (reached h bs) → Seen (seenIn (b .marks)) i
+        in-reach i k = all-seen h bs (b .marks) done i (exact h bs (r .most) (r .begins) .sound i k)
+
+        not-reach : (i : ℕ) → has (reached h bs) i ≡ false → digit (seenIn (b .marks) (i / depths)) (i % depths) ≡ 0
+        not-reach i e = go (ℕ-discrete (digit (seenIn (b .marks) (i / depths)) (i % depths)) 1)
+          where
+            go : Dec (Seen (seenIn (b .marks)) i) → digit (seenIn (b .marks) (i / depths)) (i % depths) ≡ 0
+            go (yes k) = clash (sym (in-has (reached h bs) i (exact h bs (r .most) (r .begins) .whole i (w .going .graph .sound i k))) ∙ e)
+            go (no k) = omega (arith, digit-two (seenIn (b .marks) (i / depths)) (i % depths))
