@@ -12,9 +12,9 @@ set -eu
 
 targets="thumbv7em-none-eabi thumbv7em-none-eabihf thumbv7m-none-eabi thumbv6m-none-eabi armv7-linux-gnueabihf \
 aarch64-linux-gnu riscv32-none-elf"
-# -O3 with more inlining than it has by itself: of the flags tried the ones with the fewest instructions and the least
-# stack of a step on a Cortex-M4 (docs/PORTING.md)
-optimize=${BIAS_PORT_FLAGS:--O3 -mllvm -inline-threshold=350}
+# -O2 with more inlining than it has by itself: of the flags tried the ones with the fewest instructions of a step on a
+# Cortex-M4 whose text stays below 20,000 bytes (docs/PORTING.md)
+optimize=${BIAS_PORT_FLAGS:--O2 -mllvm -inline-threshold=700}
 
 fail() {
     echo "host/port/build.sh: $*" >&2
