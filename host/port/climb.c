@@ -5,6 +5,7 @@
  * take, then the image, each byte as a backslash and three octal digits. Argument: how many loads to try. */
 #include "bias.h"
 #include "system.h"
+#include "text.h"
 
 enum { MOST = BIAS_MOST_BLOCKS, BLOCK = BIAS_BLOCK_LENGTH, LADDER = 2, COMMON = LADDER + 2 * (BIAS_MOST_DEPTH + 1) };
 enum { SEED = 637, ORDERS = 7, TRIES_OF_A_CLIMB = 300, PATIENCE = 80 };
@@ -27,26 +28,7 @@ static uint8_t image[BIAS_MOST_IMAGE_LENGTH], marks[BIAS_MARKS_LENGTH], state[BI
 static size_t image_len;
 static bias_verdict verdict;
 
-/* ---- text and chance ---- */
-
-static void put_text(const char *text)
-{
-    size_t length = 0;
-    while (text[length] != 0)
-        length++;
-    put_bytes(text, length);
-}
-
-static void put_number(uint32_t number)
-{
-    char digits[10];
-    size_t first = sizeof digits;
-    do {
-        digits[--first] = (char)('0' + number % 10);
-        number /= 10;
-    } while (number != 0);
-    put_bytes(digits + first, sizeof digits - first);
-}
+/* ---- chance ---- */
 
 static uint32_t chance = SEED;
 

@@ -3,6 +3,7 @@
  * Argument: none, for all rows with what this machine counts; a row's name, to do its calls once and print how many. */
 #include "bias.h"
 #include "system.h"
+#include "text.h"
 
 static const uint8_t worst[] = {
 #include "worst.inc"
@@ -18,35 +19,11 @@ static uint8_t marks[BIAS_MARKS_LENGTH], state[BIAS_STATE_LENGTH], inputs[BIAS_I
 
 /* ---- text ---- */
 
-static size_t length_of(const char *text)
-{
-    size_t length = 0;
-    while (text[length] != 0)
-        length++;
-    return length;
-}
-
 static int same(const char *a, const char *b)
 {
     while (*a != 0 && *a == *b)
         a++, b++;
     return *a == *b;
-}
-
-static void put_text(const char *text)
-{
-    put_bytes(text, length_of(text));
-}
-
-static void put_number(uint32_t number)
-{
-    char digits[10];
-    size_t first = sizeof digits;
-    do {
-        digits[--first] = (char)('0' + number % 10);
-        number /= 10;
-    } while (number != 0);
-    put_bytes(digits + first, sizeof digits - first);
 }
 
 /* ---- programs ---- */

@@ -8,6 +8,7 @@
  * state, which the comparison has to find. */
 #include "bias.h"
 #include "system.h"
+#include "text.h"
 
 static const uint8_t feed[] = {
 #include "feed.inc"
@@ -18,25 +19,6 @@ enum { TASKS = 3, NUMBERS = 24, MOST_SUBS = 6, BLOCK = BIAS_BLOCK_LENGTH };
 enum { LEAST_FEED_REQUESTS = 4, SEED = 637 };
 
 /* ---- text ---- */
-
-static void put_text(const char *text)
-{
-    size_t length = 0;
-    while (text[length] != 0)
-        length++;
-    put_bytes(text, length);
-}
-
-static void put_number(uint32_t number)
-{
-    char digits[10];
-    size_t first = sizeof digits;
-    do {
-        digits[--first] = (char)('0' + number % 10);
-        number /= 10;
-    } while (number != 0);
-    put_bytes(digits + first, sizeof digits - first);
-}
 
 static void put_hex(uint32_t number)
 {

@@ -1,4 +1,4 @@
-// The lent state buffer as an array by value, and back.
+// A state buffer as an array by value, for a program that compares two.
 use limits::STATE_LENGTH;
 ghost use mathlib.Core.Path.{_≡_};
 ghost use lib.ListN.{length};
@@ -14,12 +14,4 @@ pub fn copy_in(s: &[u8]) -> [u8; STATE_LENGTH]
     let mut r = [0u8; STATE_LENGTH];
     bytes::copy(s, &mut r);
     r
-}
-
-// The array's bytes into the slice.
-pub fn copy_out(s: &mut [u8], b: &[u8; STATE_LENGTH])
-    requires { ⌜ length (now s) ≡ stateLength ⌝ }
-    ensures { λ _. ⌜ now (s .exit) ≡ now (b .entry) ⌝ }
-{
-    bytes::copy(b, s);
 }
