@@ -1,6 +1,6 @@
 #!/bin/sh
 # What the library takes in instructions, which do not vary from run to run: on x86-64 counted by callgrind, on a Cortex-M4
-# by qemu (-icount, a timer of the board); and there stack and text in bytes. One table, which docs/PORTING.md has too.
+# by qemu (-icount, a timer of the board); and there stack and text in bytes. docs/BENCH.md has the table.
 # Makes both libraries first (host/port/build.sh, whose BIAS_PORT_FLAGS may be set to try other flags). Needs cc and what
 # host/port/packages.sh installs; not in the gate. host/count.sh has the other steps and loads of the bench, on x86-64.
 # Usage: host/bench-instructions.sh

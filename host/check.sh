@@ -105,6 +105,8 @@ try "differential tests" "$out/diff"
 try "fuzzing at the border" "$out/fuzz"
 if [ "${1:-}" = --stand-in ]; then
     leave_port "it is a port of the library, and this is the stand-in"
+elif [ -n "${1:-}" ]; then
+    leave_port "it is a port of the crates, and this is a library that was named"
 else
     try_port
 fi

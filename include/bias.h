@@ -34,7 +34,7 @@
  *           afterwards; the library leaves bytes behind the first BIAS_MARKS_LENGTH alone
  *   state   BIAS_STATE_LENGTH bytes exactly, one buffer for each program that runs
  *   inputs  BIAS_INPUTS_LENGTH bytes exactly, during bias_step only; only read
- * Besides, a step uses under 8 KiB of stack and a load or a write under 1 KiB, as measured on x86-64 (docs/BENCH.md).
+ * Besides, a step uses under 3 KiB of stack and a load or a write under 1 KiB, as measured on x86-64 (docs/BENCH.md).
  *
  * IN EACH CYCLE
  *   1. Read the input pins into inputs, and the start input. On the old drives that is pin 11 of terminal X10, if it

@@ -12,8 +12,7 @@ set -eu
 
 targets="thumbv7em-none-eabi thumbv7em-none-eabihf thumbv7m-none-eabi thumbv6m-none-eabi armv7-linux-gnueabihf \
 aarch64-linux-gnu riscv32-none-elf"
-# -O2 with more inlining than it has by itself: of the flags tried the ones with the fewest instructions of a step on a
-# Cortex-M4 whose text stays below 20,000 bytes (docs/PORTING.md)
+# -O2 with more inlining than it has by itself; docs/PORTING.md has what other flags give on a Cortex-M4
 optimize=${BIAS_PORT_FLAGS:--O2 -mllvm -inline-threshold=700}
 
 fail() {

@@ -1,10 +1,10 @@
 -- A step of a buffer that holds a state: refused by 18 or 17 it leaves the buffer, and else its parts are those of the engine's step.
-use Prim.Native.Nat.{ℕ, _<_, _≤_}
-use mathlib.Core.Path.{_≡_, refl, sym, ap, subst, _∙_}
+use Prim.Native.Nat.{ℕ, _<_}
+use mathlib.Core.Path.{_≡_, refl, sym, ap, _∙_}
 use mathlib.Core.Bool.{true}
 use mathlib.Core.List.{List}
 use lib.ListN.{length}
-use Rattle.limits.specs.Limits.{taskCount, mostBlocks, mostDepth, inputsLength, stateLength}
+use Rattle.limits.specs.Limits.{taskCount, inputsLength, stateLength}
 use Rattle.num_le.specs.LittleEndian.{Bytes}
 use Rattle.image_header.specs.Scan.{blocksOf}
 use Rattle.image_header.specs.declared.Header.{Header}
@@ -13,7 +13,9 @@ use Rattle.walk.specs.Blocks.{commandAt}
 use Rattle.walk_flow.specs.Terms.{under}
 use Rattle.walk_point.specs.declared.Point.{Point}
 use Rattle.state.specs.State.{taskAt}
-use Rattle.state.specs.GoodState.{GoodState}
+use Rattle.state.specs.Change.{valuesOf, cellsAfter, motionAfter}
+use Rattle.state.specs.declared.Cells.{Cells}
+use Rattle.state.specs.declared.Motion.{Motion}
 use Rattle.state.specs.declared.Notes.{Notes}
 use Rattle.state.specs.declared.Task.{Task}
 use Rattle.state.specs.declared.Values.{Values}
@@ -27,15 +29,16 @@ use Rattle.machine.specs.DepthAllows.{DepthAllows}
 use Rattle.machine.specs.Engine.{refuse, pointOf, answerTo, notesAfter, tasksAfter, performed, termsHeld, taskStep, step}
 use Rattle.machine.specs.declared.Answer.{Answer}
 use Rattle.machine.specs.declared.Context.{Context}
-use Rattle.machine.specs.declared.Effect.{Effect}
 use Rattle.machine.specs.declared.Request.the-variants.{None}
 use Rattle.machine.proofs.Steps.Room.{deep}
+use Rattle.exec_action.specs.Action.{acted}
+use Rattle.exec_action.specs.declared.Action.{Action}
 use Rattle.exec_step.specs.Readiness.{contextWith, readyFor}
 use Rattle.exec_step.specs.declared.Ready.{Ready}
 use Rattle.exec_step.specs.declared.Ready.the-variants.{Refused, Carries}
 use Rattle.exec_step.proofs.StepCases.{Room, room, refused-step, Carried, carried-step, of-task}
 use Rattle.bias_results.specs.Results.{answerFor}
-use Rattle.bias.specs.Step.{Stepped, refuseStep, handed, stepState}
+use Rattle.bias.specs.Step.{refuseStep, handed, stepState}
 use Rattle.bias.proofs.ByTest.{of-state}
 
 module _ (b : List ℕ) (bytes : Bytes b) (holds : isState b ≡ true) where
@@ -66,20 +69,22 @@ module _ (b : List ℕ) (bytes : Bytes b) (holds : isState b ≡ true) where
           rw (found .is) (deep (blocksOf image) (termsHeld (decoded b)) (x .task) task (found .fitting) (task-room .depth) levels g v)
 
       -- the parts, as they are found, are the step's
-      pub carried-is : (e : Effect) (h : Header) (ts after : List Task) (v : Values) (notes : Notes) (p : Point) (a : Answer)
-          → h ≡ headerIn b headerAt → ts ≡ tasksIn b → v ≡ valuesIn b
-          → e ≡ effectOf (x .levels) (contextWith (h .drive) (x .start) (x .rampEnded) (x .inWindow) (task .time) (task .turns)) c v
-          → notes ≡ notesAfter (x .task) (x .start) (e .outcome) (e .request) (e .values .notes)
-          → after ≡ tasksAfter (h .start) (x .task) task (e .outcome) ts → p ≡ pointOf (x .task) task → a ≡ answerTo (e .outcome) p
+      pub carried-is : (action : Action) (h : Header) (ts after : List Task) (v w : Cells) (m n : Motion) (notes noted : Notes) (p : Point) (a : Answer)
+          → h ≡ headerIn b headerAt → ts ≡ tasksIn b → valuesOf v m notes ≡ valuesIn b
+          → acted action (valuesOf v m notes)
+          ≡ effectOf (x .levels) (contextWith (h .drive) (x .start) (x .rampEnded) (x .inWindow) (task .time) (task .turns)) c (valuesOf v m notes)
+          → w ≡ cellsAfter (action .change) v → n ≡ motionAfter (action .change) m
+          → noted ≡ notesAfter (x .task) (x .start) (action .outcome) (action .request) notes
+          → after ≡ tasksAfter (h .start) (x .task) task (action .outcome) ts → p ≡ pointOf (x .task) task → a ≡ answerTo (action .outcome) p
           → handed (taskStep image (decoded b) x task) ≡ record {
-            answer = answerFor (e .request) a;
-            buffer = encoded (stateOf (e .values .cells .variables) (e .values .cells .flags) (e .values .cells .outputs) h (e .values .motion) notes after);
+            answer = answerFor (action .request) a;
+            buffer = encoded (stateOf (w .variables) (w .flags) (w .outputs) h n noted after);
           }
       unfolding handed performed decoded
-      carried-is e h ts after v notes p a eh ets ev ee en ea ep eq =
-          ap handed (found .step-is ∙ ap (performed (decoded b) x task) (sym (ee ∙ effect-is))) ∙ rw (eq, ep, en, ea, eh, ets)
+      carried-is action h ts after v w m n notes noted p a eh ets ev ee ew em en ea ep eq =
+          ap handed (found .step-is ∙ ap (performed (decoded b) x task) (sym (ee ∙ effect-is))) ∙ rw (eq, ep, en, ea, eh, ets, ew, em)
         where
-          effect-is : effectOf (x .levels) (contextWith (h .drive) (x .start) (x .rampEnded) (x .inWindow) (task .time) (task .turns)) c v
+          effect-is : effectOf (x .levels) (contextWith (h .drive) (x .start) (x .rampEnded) (x .inWindow) (task .time) (task .turns)) c (valuesOf v m notes)
               ≡ effectOf (x .levels) (contextWith (headerIn b headerAt .drive) (x .start) (x .rampEnded) (x .inWindow) (task .time) (task .turns))
               (commandAt (blocksOf image) (task .block)) (valuesIn b)
           effect-is = rw (eh, ev, found .is)

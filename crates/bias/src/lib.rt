@@ -4,6 +4,7 @@ use bias_results::BiasAnswer;
 use bias_results::BiasVerdict;
 use command_operands::Command;
 use exec_step::Ready;
+use image_header::Header;
 use image_header::reader;
 use limits::INPUTS_LENGTH;
 use limits::MARKS_LENGTH;
@@ -24,7 +25,8 @@ ghost use Rattle.walk.specs.Verdict.{verdictOf};
 ghost use Rattle.walk_search.specs.After.{After};
 ghost use Rattle.image_writer.specs.Writer.{written, outAfter};
 ghost use Rattle.state.specs.State.{taskAt};
-ghost use Rattle.state_layout.specs.Layout.{decoded};
+ghost use Rattle.state_layout.specs.Codecs.{headerIn};
+ghost use Rattle.state_layout.specs.Layout.{headerAt, decoded};
 ghost use Rattle.state_layout.specs.IsState.{isState};
 ghost use Rattle.machine.specs.Inputs.{inputsOf};
 ghost use Rattle.machine.specs.Engine.{termsHeld, taskStep};
@@ -141,6 +143,7 @@ fn step_buffer(
                 start,
                 ramp_ended,
                 in_window,
+                header,
                 task,
                 c,
             )
@@ -148,7 +151,7 @@ fn step_buffer(
     }
 }
 
-// Carries out the command c of a task: its effect on the values of the state, and the state after it into the buffer.
+// Carries out the command c of a task: what its action changes is changed in the values, and the state after it goes into the buffer.
 fn carry_out(
     image: &[u8],
     state: &mut [u8],
@@ -157,11 +160,13 @@ fn carry_out(
     start: u8,
     ramp_ended: u8,
     in_window: u8,
+    header: Header,
     task: Task,
     c: Command,
 ) -> BiasAnswer
     requires { ⌜ isState (now state) ≡ true ⌝ }
     requires { ⌜ t < taskCount ⌝ }
+    requires { ⌜ header ≡ headerIn (now state) headerAt ⌝ }
     requires { ⌜ task ≡ taskAt (decoded (now state)) t ⌝ }
     requires { ⌜ Carries c ≡ readyFor (now image) (termsHeld (decoded (now state))) t task ⌝ }
     ensures { λ r. ⌜ r
@@ -171,9 +176,13 @@ fn carry_out(
         ≡ handed (taskStep (now (image .entry)) (decoded (now (state .entry))) (inputsOf t (now (inputs .entry)) start «ramp_ended» «in_window») task)
         .buffer ⌝ }
 {
-    let header = state_decode::header_in(state);
     let tasks = state_decode::tasks_in(state);
-    let e = exec_step::carry_out(
+    let mut variables = state_decode::variables_in(state);
+    let mut flags = state_decode::flags_in(state);
+    let mut outputs = state_decode::outputs_in(state);
+    let motion_before = state_decode::motion_in(state);
+    let notes_before = state_decode::notes_in(state);
+    let action = exec_step::action_of(
         header.drive,
         c,
         inputs,
@@ -182,19 +191,30 @@ fn carry_out(
         in_window,
         task.time,
         task.turns,
-        state_decode::values_in(state),
+        &variables,
+        &flags,
+        &outputs,
+        motion_before,
+        notes_before,
     );
-    let outcome = e.outcome;
-    let request = e.request;
-    let motion = e.values.motion;
-    let notes = exec_step::notes_after(t, start, outcome, request, e.values.notes);
+    let change = action.change;
+    let outcome = action.outcome;
+    let request = action.request;
+    let motion = state::make_change(
+        change,
+        &mut variables,
+        &mut flags,
+        &mut outputs,
+        motion_before,
+    );
+    let notes = exec_step::notes_after(t, start, outcome, request, notes_before);
     let after = exec_tasks::after(header.start, t, task, outcome, tasks);
     let answer = exec_step::answer_to(outcome, exec_step::point_of(t, task));
     state_encode::encode_parts(
         state,
-        &e.values.cells.variables,
-        &e.values.cells.flags,
-        &e.values.cells.outputs,
+        &variables,
+        &flags,
+        &outputs,
         header,
         motion,
         notes,

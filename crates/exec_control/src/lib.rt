@@ -1,127 +1,96 @@
-// Commands of control (50 to 55, 57 to 5A) and of mathematics (90): one function for each, and for each group the one that finds it. They change nothing
-// but tasks.
+// Commands of control (51 to 55, 57 to 5A; 50 does nothing) and of mathematics (90): one function for each. They take what they read, and change
+// nothing but tasks.
 use command_operands::Command;
 use drive::Drive;
+use exec_action::Action;
+use limits::CELLS;
 use machine::Cause;
 use machine::Context;
-use machine::Effect;
 use machine::Outcome;
-use state::Values;
+use state::Notes;
 ghost use mathlib.Core.Path.{_≡_};
 ghost use mathlib.Core.Bool.{cond};
 ghost use Prim.Native.Nat.{_*_, _<_};
 ghost use lib.Dec.{eqb};
 ghost use Rattle.limits.specs.Limits.{bias, plc, mathematics, mostTime};
 ghost use Rattle.state.specs.Wait.{due};
-ghost use Rattle.machine.specs.Effect.{flows, within, natural, arrived, waits, waitsVariable, timeOf, controlRows, mathematicsRows};
-ghost use Rattle.machine.specs.Effect.{effectIn};
+ghost use Rattle.machine.specs.Effect.{within, natural, arrived, waits, timeOf};
+ghost use Rattle.exec_action.specs.Action.{flowing, waiting, content};
 ghost use Rattle.machine.specs.declared.Outcome.the-variants.{GoOn, Stay, Jump, Call, Return, Start, Restart, End};
 
-// What a command of this group does; any other leaves its task where it is. The turns of a pending wait can be counted on.
-pub fn perform(context: Context, c: Command, v: Values) -> Effect
-    requires { ⌜ context .turns < 4294967295 ⌝ }
-    ensures { λ r. ⌜ r ≡ effectIn controlRows (c .code) context c v ⌝ }
-{
-    let code = c.code;
-    match code {
-        0x50 => exec_effect::sets(v),
-        0x51 => end(c, v),
-        0x52 => call(c, v),
-        0x53 => come_back(v),
-        0x54 => start_plc(c, v),
-        0x55 => jump(c, v),
-        0x57 => start_bias(c, v),
-        0x58 => wait_for_position(context, v),
-        0x59 => wait(context, c, v),
-        0x5A => wait_by_variable(context, c, v),
-        _ => exec_effect::flows(v, Outcome::Stay(0, 0)),
-    }
-}
-
-// What a command of mathematics does; any other leaves its task where it is.
-pub fn mathematics(context: Context, c: Command, v: Values) -> Effect
-    ensures { λ r. ⌜ r ≡ effectIn mathematicsRows (c .code) context c v ⌝ }
-{
-    let code = c.code;
-    match code {
-        0x90 => start_mathematics(c, v),
-        _ => exec_effect::flows(v, Outcome::Stay(0, 0)),
-    }
-}
-
 // 51: back to the start of its task in mode 0, else its end.
-fn end(c: Command, v: Values) -> Effect
-    ensures { λ r. ⌜ r ≡ flows v (cond (eqb (c .x) 0) Restart End) ⌝ }
+pub fn end(c: Command) -> Action
+    ensures { λ r. ⌜ r ≡ flowing (cond (eqb (c .x) 0) Restart End) ⌝ }
 {
     if c.x == 0 {
-        return exec_effect::flows(v, Outcome::Restart);
+        return exec_action::flows(Outcome::Restart);
     }
-    exec_effect::flows(v, Outcome::End)
+    exec_action::flows(Outcome::End)
 }
 
 // 52: a call.
-fn call(c: Command, v: Values) -> Effect
-    ensures { λ r. ⌜ r ≡ flows v (Call (c .word)) ⌝ }
+pub fn call(c: Command) -> Action
+    ensures { λ r. ⌜ r ≡ flowing (Call (c .word)) ⌝ }
 {
-    exec_effect::flows(v, Outcome::Call(c.word))
+    exec_action::flows(Outcome::Call(c.word))
 }
 
 // 53: a return.
-fn come_back(v: Values) -> Effect
-    ensures { λ r. ⌜ r ≡ flows v Return ⌝ }
+pub fn come_back() -> Action
+    ensures { λ r. ⌜ r ≡ flowing Return ⌝ }
 {
-    exec_effect::flows(v, Outcome::Return)
+    exec_action::flows(Outcome::Return)
 }
 
 // 54: the PLC is started.
-fn start_plc(c: Command, v: Values) -> Effect
-    ensures { λ r. ⌜ r ≡ flows v (Start plc (c .word)) ⌝ }
+pub fn start_plc(c: Command) -> Action
+    ensures { λ r. ⌜ r ≡ flowing (Start plc (c .word)) ⌝ }
 {
-    exec_effect::flows(v, Outcome::Start(limits::PLC, c.word))
+    exec_action::flows(Outcome::Start(limits::PLC, c.word))
 }
 
 // 55: a jump.
-fn jump(c: Command, v: Values) -> Effect
-    ensures { λ r. ⌜ r ≡ flows v (Jump (c .word)) ⌝ }
+pub fn jump(c: Command) -> Action
+    ensures { λ r. ⌜ r ≡ flowing (Jump (c .word)) ⌝ }
 {
-    exec_effect::flows(v, Outcome::Jump(c.word))
+    exec_action::flows(Outcome::Jump(c.word))
 }
 
 // 57: BIAS is started.
-fn start_bias(c: Command, v: Values) -> Effect
-    ensures { λ r. ⌜ r ≡ flows v (Start bias (c .word)) ⌝ }
+pub fn start_bias(c: Command) -> Action
+    ensures { λ r. ⌜ r ≡ flowing (Start bias (c .word)) ⌝ }
 {
-    exec_effect::flows(v, Outcome::Start(limits::BIAS, c.word))
+    exec_action::flows(Outcome::Start(limits::BIAS, c.word))
 }
 
 // 58: on when the ramp has ended, the position is in the window and the preceding BIAS step, refused and halted ones apart, was no move.
-fn wait_for_position(context: Context, v: Values) -> Effect
-    ensures { λ r. ⌜ r ≡ flows v (cond (arrived context v) GoOn (Stay 0 0)) ⌝ }
+pub fn wait_for_position(context: Context, notes: Notes) -> Action
+    ensures { λ r. ⌜ r ≡ flowing (cond (arrived context notes) GoOn (Stay 0 0)) ⌝ }
 {
-    if (context.ramp_ended != 0) & ((context.in_window != 0) & (v.notes.moved == 0)) {
-        return exec_effect::flows(v, Outcome::GoOn);
+    if (context.ramp_ended != 0) & ((context.in_window != 0) & (notes.moved == 0)) {
+        return exec_action::flows(Outcome::GoOn);
     }
-    exec_effect::flows(v, Outcome::Stay(0, 0))
+    exec_action::flows(Outcome::Stay(0, 0))
 }
 
 // 59: a wait of word x 2 ms.
-fn wait(context: Context, c: Command, v: Values) -> Effect
+pub fn wait(context: Context, c: Command) -> Action
     requires { ⌜ context .turns < 4294967295 ⌝ }
-    ensures { λ r. ⌜ r ≡ flows v (waits (2 * c .word) context) ⌝ }
+    ensures { λ r. ⌜ r ≡ flowing (waits (2 * c .word) context) ⌝ }
 {
-    exec_effect::flows(v, waits(context, 2 * (c.word as u32)))
+    exec_action::flows(waits(context, 2 * (c.word as u32)))
 }
 
 // 5A: a wait of so many ms as variable x holds, read at the first step.
-fn wait_by_variable(context: Context, c: Command, v: Values) -> Effect
+pub fn wait_by_variable(context: Context, c: Command, variables: &[i32; CELLS]) -> Action
     requires { ⌜ context .turns < 4294967295 ⌝ }
-    ensures { λ r. ⌜ r ≡ waitsVariable context c v ⌝ }
+    ensures { λ r. ⌜ r ≡ waiting context (content (now (variables .entry)) (c .x)) ⌝ }
 {
-    let content = exec_effect::variable(v, c.x);
+    let content = exec_action::content(variables, c.x);
     if (context.time != 0) | is_time(content) {
-        return exec_effect::flows(v, waits(context, time_of(context.drive, natural(content))));
+        return exec_action::flows(waits(context, time_of(context.drive, natural(content))));
     }
-    exec_effect::halts(Cause::BadContent, v)
+    exec_action::halts(Cause::BadContent)
 }
 
 // A wait: a time is pending from the first step on, and each later step counts a turn.
@@ -170,8 +139,8 @@ fn time_of(drive: Drive, content: u32) -> u32
 }
 
 // 90: mathematics is started.
-fn start_mathematics(c: Command, v: Values) -> Effect
-    ensures { λ r. ⌜ r ≡ flows v (Start mathematics (c .word)) ⌝ }
+pub fn start_mathematics(c: Command) -> Action
+    ensures { λ r. ⌜ r ≡ flowing (Start mathematics (c .word)) ⌝ }
 {
-    exec_effect::flows(v, Outcome::Start(limits::MATHEMATICS, c.word))
+    exec_action::flows(Outcome::Start(limits::MATHEMATICS, c.word))
 }

@@ -1,19 +1,20 @@
-// One step of one task: the tests in document 01's order (18, 17; 15 and 16 are the border's), then the command's effect, and what it makes of notes and
+// One step of one task: the tests in document 01's order (18, 17; 15 and 16 are the border's), then the command's action, and what it makes of notes and
 // answer.
 use command_operands::Command;
 use drive::Drive;
+use exec_action::Action;
 use image_header::Header;
 use image_header::reader;
 use image_header::reader::HeaderRead;
 use limits::BLOCK_LENGTH;
+use limits::CELLS;
 use machine::Answer;
 use machine::Context;
-use machine::Effect;
 use machine::Outcome;
 use machine::Request;
+use state::Motion;
 use state::Notes;
 use state::Task;
-use state::Values;
 use walk_blocks::Instruction;
 use walk_point::Point;
 ghost use mathlib.Core.Path.{_≡_};
@@ -21,6 +22,8 @@ ghost use mathlib.Core.Bool.{_||_, not};
 ghost use Prim.Native.Nat.{_<_};
 ghost use Rattle.walk_flow.specs.Terms.{under};
 ghost use Rattle.walk_blocks.specs.Instructions.{instructionOf};
+ghost use Rattle.state.specs.Change.{cellsOf, valuesOf};
+ghost use Rattle.exec_action.specs.Action.{acted};
 ghost use Rattle.machine.specs.Effect.{bit, isSet, effectOf};
 ghost use Rattle.machine.specs.Engine.{isWait, isLoaded, isMove, movedAfter, notesAfter, answerTo, pointOf};
 ghost use Rattle.exec_step.specs.Readiness.{contextWith, passes, readyFor};
@@ -106,7 +109,7 @@ pub fn notes_after(t: u8, start: u8, outcome: Outcome, request: Request, before:
         return before;
     }
     Notes {
-        level: exec_effect::level(start),
+        level: exec_action::level(start),
         moved: moved_after(outcome, request, before.moved),
     }
 }
@@ -157,8 +160,8 @@ fn wait_fits(code: u8, time: u32) -> bool
     (time == 0) | is_wait(code)
 }
 
-// What a command does, in a program for this drive, with the task's pending wait.
-pub fn carry_out(
+// The action of a command, in a program for this drive, with the task's pending wait.
+pub fn action_of<'a>(
     drive: Drive,
     c: Command,
     inputs: &[u8],
@@ -167,18 +170,24 @@ pub fn carry_out(
     in_window: u8,
     time: u32,
     turns: u32,
-    values: Values,
-) -> Effect
+    variables: &'a [i32; CELLS],
+    flags: &'a [u8; CELLS],
+    outputs: &'a [u8; CELLS],
+    motion: Motion,
+    notes: Notes,
+) -> Action
     requires { ⌜ turns < 4294967295 ⌝ }
-    ensures { λ r. ⌜ r ≡ effectOf (now (inputs .entry)) (contextWith drive start «ramp_ended» «in_window» time turns) c values ⌝ }
+    ensures { λ r. ⌜ acted r (valuesOf (cellsOf (now (variables .entry)) (now (flags .entry)) (now (outputs .entry))) motion notes)
+        ≡ effectOf (now (inputs .entry)) (contextWith drive start «ramp_ended» «in_window» time turns) c
+        (valuesOf (cellsOf (now (variables .entry)) (now (flags .entry)) (now (outputs .entry))) motion notes) ⌝ }
 {
     let context = Context {
         drive: drive,
-        start: exec_effect::level(start),
-        ramp_ended: exec_effect::level(ramp_ended),
-        in_window: exec_effect::level(in_window),
+        start: exec_action::level(start),
+        ramp_ended: exec_action::level(ramp_ended),
+        in_window: exec_action::level(in_window),
         time: time,
         turns: turns,
     };
-    exec_dispatch::perform(context, inputs, c, values)
+    exec_dispatch::perform(context, inputs, c, variables, flags, outputs, motion, notes)
 }

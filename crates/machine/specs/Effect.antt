@@ -20,6 +20,8 @@ use Rattle.state.specs.State.{withVariable, withFlag, withOutput, firstAxis, ax
 use Rattle.state.specs.State.{withPosition, withSpeed, withAcceleration, withDeceleration}
 use Rattle.state.specs.Wait.{due}
 use Rattle.state.specs.declared.Axis.{Axis}
+use Rattle.state.specs.declared.Motion.{Motion}
+use Rattle.state.specs.declared.Notes.{Notes}
 use Rattle.state.specs.declared.Values.{Values}
 use Rattle.machine.specs.Inputs.{inputAt}
 use Rattle.machine.specs.declared.Context.{Context}
@@ -89,16 +91,16 @@ abbrev pub compares : ℕ → ℕ → ℕ → Bool
 compares condition a b = cond (eqb condition 0) (eqb a b) (not (eqb a b))
 
 -- a move is carried out when the start mark stands, which it clears, or at a rising slope of the start input: high now, low at the preceding BIAS step
-abbrev pub started : Context → Values → Bool
-started g v = isSet (v .motion .mark) || (isSet (g .start) && eqb (v .notes .level) 0)
+abbrev pub started : Context → Motion → Notes → Bool
+started g motion notes = isSet (motion .mark) || (isSet (g .start) && eqb (notes .level) 0)
 
 abbrev pub moves : (Axis → Request) → CommandEffect
-moves kind g c v = cond (started g v) (effect (withMark 0 v) (kind (axisOf firstAxis v)) GoOn) (flows v (Stay 0 0))
+moves kind g c v = cond (started g (v .motion) (v .notes)) (effect (withMark 0 v) (kind (axisOf firstAxis v)) GoOn) (flows v (Stay 0 0))
 
 -- 58 passes when the ramp has ended, the position is in the window, and the preceding BIAS step, refused and halted ones apart, was no move (change
 -- request 4)
-abbrev pub arrived : Context → Values → Bool
-arrived g v = isSet (g .«ramp_ended») && (isSet (g .«in_window») && eqb (v .notes .moved) 0)
+abbrev pub arrived : Context → Notes → Bool
+arrived g notes = isSet (g .«ramp_ended») && (isSet (g .«in_window») && eqb (notes .moved) 0)
 
 -- a wait of T ms: at the first step T is taken with k = 0, at each later one k grows by one
 abbrev pub waits : ℕ → Context → Outcome
@@ -179,7 +181,7 @@ controlRows =
     effectRow 0x54 (λ g c v. flows v (Start plc (c .word))) ∷  -- p. 126
     effectRow 0x55 (λ g c v. flows v (Jump (c .word))) ∷  -- p. 127
     effectRow 0x57 (λ g c v. flows v (Start bias (c .word))) ∷  -- p. 129
-    effectRow 0x58 (λ g c v. flows v (cond (arrived g v) GoOn (Stay 0 0))) ∷  -- p. 130
+    effectRow 0x58 (λ g c v. flows v (cond (arrived g (v .notes)) GoOn (Stay 0 0))) ∷  -- p. 130
     effectRow 0x59 (λ g c v. flows v (waits (2 * c .word) g)) ∷  -- p. 131
     effectRow 0x5A waitsVariable ∷  -- p. 132
     []

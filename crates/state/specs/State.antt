@@ -1,10 +1,12 @@
 -- The state by value: document 01, "Running", and what load leaves. antt has no record update, so each setter is written once.
 use Prim.Native.Nat.{ℕ}
 use mathlib.Core.List.{List, [], _∷_}
-use lib.ListN.{replicate, getD, set}
+use lib.ListN.{replicate, getD}
 use lib.IntN.{ℤ, pos}
 use Rattle.limits.specs.Limits.{mostDepth, cells}
 use Rattle.image_header.specs.declared.Header.{Header}
+use Rattle.state.specs.Change.{valuesOf, changed}
+use Rattle.state.specs.declared.Change.the-variants.{Variable, Flag, Output, Parameters, Mark}
 use Rattle.state.specs.declared.Task.{Task}
 use Rattle.state.specs.declared.Axis.{Axis}
 use Rattle.state.specs.declared.Cells.{Cells}
@@ -68,33 +70,22 @@ freshValues = record { cells = startCells; motion = startMotion; notes = startNo
 unfoldable pub fresh : Header → State
 fresh h = record { values = freshValues; header = h; tasks = running (h .start) ∷ neverStarted ∷ neverStarted ∷ [] }
 
--- ---- setters of the parts
-
-abbrev pub withCells : Cells → Values → Values
-withCells c v = record { cells = c; motion = v .motion; notes = v .notes }
-
-abbrev pub withMotion : Motion → Values → Values
-withMotion m v = record { cells = v .cells; motion = m; notes = v .notes }
-
-abbrev pub withNotes : Notes → Values → Values
-withNotes n v = record { cells = v .cells; motion = v .motion; notes = n }
-
--- ---- setters of what is in a part
+-- ---- setters of the values: each but that of the notes makes one change
 
 abbrev pub withVariable : ℕ → ℤ → Values → Values
-withVariable i z v =
-    withCells (record { variables = set (v .cells .variables) i z; flags = v .cells .flags; outputs = v .cells .outputs }) v
+withVariable i z v = changed (Variable i z) v
 
 abbrev pub withFlag : ℕ → ℕ → Values → Values
-withFlag i x v =
-    withCells (record { variables = v .cells .variables; flags = set (v .cells .flags) i x; outputs = v .cells .outputs }) v
+withFlag i x v = changed (Flag i x) v
 
 abbrev pub withOutput : ℕ → ℕ → Values → Values
-withOutput i x v =
-    withCells (record { variables = v .cells .variables; flags = v .cells .flags; outputs = set (v .cells .outputs) i x }) v
+withOutput i x v = changed (Output i x) v
 
 abbrev pub withMark : ℕ → Values → Values
-withMark m v = withMotion (record { axis = v .motion .axis; mark = m }) v
+withMark m v = changed (Mark m) v
+
+abbrev pub withNotes : Notes → Values → Values
+withNotes n v = valuesOf (v .cells) (v .motion) n
 
 -- ---- the axis of a number: there is one, and any number reads it and sets it
 
@@ -105,7 +96,7 @@ abbrev pub axisOf : ℕ → Values → Axis
 axisOf n v = v .motion .axis
 
 abbrev pub withAxis : ℕ → Axis → Values → Values
-withAxis n a v = withMotion (record { axis = a; mark = v .motion .mark }) v
+withAxis n a v = changed (Parameters n a) v
 
 -- ---- setters of the axis
 

@@ -8,7 +8,7 @@ use limits::TASKS;
 ghost use mathlib.Core.Path.{_≡_};
 ghost use Rattle.state.specs.Wait.{due};
 ghost use Rattle.state.specs.State.{neverStarted, running, freshValues, fresh};
-ghost use Rattle.state.specs.State.{withVariable, withFlag, withOutput, axisOf, withAxis, withMark, withNotes};
+ghost use Rattle.state.specs.Change.{cellsOf, cellsAfter, motionAfter};
 ghost use Rattle.state.specs.State.{withPosition, withSpeed, withAcceleration, withDeceleration};
 
 // What a task does: it was never started, it runs, it ended itself by 51, or 19 or 20 halted it.
@@ -67,6 +67,16 @@ pub struct Values {
     pub cells: Cells,
     pub motion: Motion,
     pub notes: Notes,
+}
+
+// What one command changes of them: nothing, the content of one cell, the stored parameters of an axis, or the start mark.
+pub enum Change {
+    Nothing,
+    Variable(u8, i32),
+    Flag(u8, u8),
+    Output(u8, u8),
+    Parameters(u8, Axis),
+    Mark(u8),
 }
 
 pub struct State {
@@ -170,65 +180,47 @@ impl Values {
             notes: Notes { level: 1, moved: 0 },
         }
     }
+}
 
-    // A variable set.
-    pub fn with_variable(mut self, index: u8, value: i32) -> Values
-        ensures { λ r. ⌜ r ≡ withVariable index value self ⌝ }
-    {
-        let variables = &mut self.cells.variables;
-        variables[index as usize] = value;
-        self
-    }
-
-    // A flag set.
-    pub fn with_flag(mut self, index: u8, level: u8) -> Values
-        ensures { λ r. ⌜ r ≡ withFlag index level self ⌝ }
-    {
-        let flags = &mut self.cells.flags;
-        flags[index as usize] = level;
-        self
-    }
-
-    // An output's level set.
-    pub fn with_output(mut self, index: u8, level: u8) -> Values
-        ensures { λ r. ⌜ r ≡ withOutput index level self ⌝ }
-    {
-        let outputs = &mut self.cells.outputs;
-        outputs[index as usize] = level;
-        self
-    }
-
-    // The axis of a number: there is one, and any number reads it.
-    pub fn axis(self, number: u8) -> Axis
-        ensures { λ r. ⌜ r ≡ axisOf number self ⌝ }
-    {
-        self.motion.axis
-    }
-
-    // The axis of a number replaced.
-    pub fn with_axis(mut self, number: u8, axis: Axis) -> Values
-        ensures { λ r. ⌜ r ≡ withAxis number axis self ⌝ }
-    {
-        let mut motion = self.motion;
-        motion.axis = axis;
-        self.motion = motion;
-        self
-    }
-
-    // The start mark set or cleared.
-    pub fn with_mark(mut self, mark: u8) -> Values
-        ensures { λ r. ⌜ r ≡ withMark mark self ⌝ }
-    {
-        self.motion.mark = mark;
-        self
-    }
-
-    // The notes replaced.
-    pub fn with_notes(mut self, notes: Notes) -> Values
-        ensures { λ r. ⌜ r ≡ withNotes notes self ⌝ }
-    {
-        self.notes = notes;
-        self
+// Makes a change where the cells stand; what motion keeps is handed back.
+pub fn make_change<'a>(
+    change: Change,
+    variables: &'a mut [i32; CELLS],
+    flags: &'a mut [u8; CELLS],
+    outputs: &'a mut [u8; CELLS],
+    motion: Motion,
+) -> Motion
+    ensures { λ _. ⌜ cellsOf (now (variables .exit)) (now (flags .exit)) (now (outputs .exit))
+        ≡ cellsAfter change (cellsOf (now (variables .entry)) (now (flags .entry)) (now (outputs .entry))) ⌝ }
+    ensures { λ r. ⌜ r ≡ motionAfter change motion ⌝ }
+{
+    let stored = motion.axis;
+    match change {
+        Change::Nothing => motion,
+        Change::Variable(index, value) => {
+            variables[index as usize] = value;
+            motion
+        }
+        Change::Flag(index, level) => {
+            flags[index as usize] = level;
+            motion
+        }
+        Change::Output(index, level) => {
+            outputs[index as usize] = level;
+            motion
+        }
+        Change::Parameters(number, axis) => {
+            Motion {
+                axis: axis,
+                mark: motion.mark,
+            }
+        }
+        Change::Mark(mark) => {
+            Motion {
+                axis: stored,
+                mark: mark,
+            }
+        }
     }
 }
 

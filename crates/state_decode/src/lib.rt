@@ -5,34 +5,16 @@ use limits::CELLS;
 use limits::STACK_LENGTH;
 use limits::TASKS;
 use state::Axis;
-use state::Cells;
 use state::Motion;
 use state::Notes;
-use state::State;
 use state::Task;
-use state::Values;
 ghost use mathlib.Core.Path.{_≡_};
 ghost use Prim.Native.Nat.{_+_, _*_, _<_, _≤_};
 ghost use lib.ListN.{length};
 ghost use Rattle.limits.specs.Limits.{taskCount, mostDepth, stateLength};
 ghost use Rattle.state.specs.State.{taskAt};
-ghost use Rattle.state_layout.specs.Codecs.{variablesLength, variablesIn, levelsLength, levelsIn, headerIn, motionIn, notesIn, stackIn, taskLength, taskIn};
-ghost use Rattle.state_layout.specs.Layout.{headerAt, motionAt, notesAt, valuesIn, biasIn, plcIn, mathematicsIn, tasksIn, decoded};
-
-// The state that a buffer holds.
-pub fn decode(b: &[u8]) -> State
-    requires { ⌜ length (now b) ≡ stateLength ⌝ }
-    ensures { λ r. ⌜ r ≡ decoded (now (b .entry)) ⌝ }
-{
-    let values = values_in(b);
-    let header = header_in(b);
-    let tasks = tasks_in(b);
-    State {
-        values: values,
-        header: header,
-        tasks: tasks,
-    }
-}
+ghost use Rattle.state_layout.specs.Codecs.{levelsLength, levelsIn, headerIn, motionIn, notesIn, stackIn, taskLength, taskIn};
+ghost use Rattle.state_layout.specs.Layout.{headerAt, motionAt, notesAt, cellsIn, biasIn, plcIn, mathematicsIn, tasksIn, decoded};
 
 // The three tasks.
 pub fn tasks_in(b: &[u8]) -> [Task; TASKS]
@@ -90,24 +72,34 @@ pub fn mathematics_in(b: &[u8]) -> Task
     )
 }
 
-pub fn values_in(b: &[u8]) -> Values
+// The variables.
+pub fn variables_in(b: &[u8]) -> [i32; CELLS]
     requires { ⌜ length (now b) ≡ stateLength ⌝ }
-    ensures { λ r. ⌜ r ≡ valuesIn (now (b .entry)) ⌝ }
+    ensures { λ r. ⌜ r ≡ cellsIn (now (b .entry)) .variables ⌝ }
 {
-    let variables = variables_in(b, state_layout::VARIABLES_AT);
-    let flags = levels_in(b, state_layout::FLAGS_AT);
-    let outputs = levels_in(b, state_layout::OUTPUTS_AT);
-    let cells = Cells {
-        variables: variables,
-        flags: flags,
-        outputs: outputs,
-    };
-    let motion = motion_in(b);
-    Values {
-        cells: cells,
-        motion: motion,
-        notes: notes_in(b),
+    let mut r = [0i32; CELLS];
+    let mut k: usize = 0;
+    while k < CELLS {
+        r[k] = state_bytes::signed(b, state_layout::VARIABLES_AT + 4 * k);
+        k += 1;
     }
+    r
+}
+
+// The flags.
+pub fn flags_in(b: &[u8]) -> [u8; CELLS]
+    requires { ⌜ length (now b) ≡ stateLength ⌝ }
+    ensures { λ r. ⌜ r ≡ cellsIn (now (b .entry)) .flags ⌝ }
+{
+    levels_in(b, state_layout::FLAGS_AT)
+}
+
+// The outputs.
+pub fn outputs_in(b: &[u8]) -> [u8; CELLS]
+    requires { ⌜ length (now b) ≡ stateLength ⌝ }
+    ensures { λ r. ⌜ r ≡ cellsIn (now (b .entry)) .outputs ⌝ }
+{
+    levels_in(b, state_layout::OUTPUTS_AT)
 }
 
 // The notes of BIAS.
@@ -119,19 +111,6 @@ pub fn notes_in(b: &[u8]) -> Notes
         level: state_bytes::byte(b, state_layout::NOTES_AT),
         moved: state_bytes::byte(b, state_layout::NOTES_AT + 1),
     }
-}
-
-fn variables_in(b: &[u8], at: usize) -> [i32; CELLS]
-    requires { ⌜ at + variablesLength ≤ length (now b) ⌝ }
-    ensures { λ r. ⌜ r ≡ variablesIn (now (b .entry)) at ⌝ }
-{
-    let mut r = [0i32; CELLS];
-    let mut k: usize = 0;
-    while k < CELLS {
-        r[k] = state_bytes::signed(b, at + 4 * k);
-        k += 1;
-    }
-    r
 }
 
 // Flags, or outputs.

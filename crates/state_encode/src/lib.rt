@@ -12,7 +12,7 @@ ghost use mathlib.Core.Path.{_≡_};
 ghost use mathlib.Core.List.{[], _∷_};
 ghost use Prim.Native.Nat.{_+_, _*_, _≤_};
 ghost use lib.ListN.{length, replicate};
-ghost use Rattle.limits.specs.Limits.{mostDepth, cells, stateLength};
+ghost use Rattle.limits.specs.Limits.{mostDepth, stateLength};
 ghost use Rattle.state_bytes.specs.Bytes.{puts};
 ghost use Rattle.state_sections.specs.Records.{recordBytes};
 ghost use Rattle.state_layout.specs.Codecs.{variablesLength, variableBytes, layoutBytes, headerBytes, motionBytes, notesBytes, startWidths, stackBytes};
@@ -47,16 +47,14 @@ pub fn encode(b: &mut [u8], s: State)
 pub fn encode_parts<'a>(
     b: &mut [u8],
     variables: &'a [i32; CELLS],
-    flags: &'a [u8],
-    outputs: &'a [u8],
+    flags: &'a [u8; CELLS],
+    outputs: &'a [u8; CELLS],
     header: Header,
     motion: Motion,
     notes: Notes,
     tasks: [Task; TASKS],
 )
     requires { ⌜ length (now b) ≡ stateLength ⌝ }
-    requires { ⌜ length (now flags) ≡ cells ⌝ }
-    requires { ⌜ length (now outputs) ≡ cells ⌝ }
     ensures { λ _. ⌜ now (b .exit)
         ≡ encoded (stateOf (now (variables .entry)) (now (flags .entry)) (now (outputs .entry)) header motion notes tasks) ⌝ }
 {

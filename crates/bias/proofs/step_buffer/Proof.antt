@@ -1,5 +1,5 @@
 -- `bias::step_buffer` meets its contract: 16, then 18 and 17, then the command.
-use mathlib.Core.Path.{_≡_, sym, ap, _∙_}
+use mathlib.Core.Path.{sym, ap, _∙_}
 use borrow.Author.Needs.{needs}
 use borrow.Author.Tests.{not-true, not-false}
 use denote.Ref.{now}
@@ -19,16 +19,20 @@ returns c =
 
 carry-out-requires : tie.Need-carry-out-requires
 carry-out-requires c κs =
-    let s = c .before .before .before .before .before .before .before .before .before .before .before .before .before .before .before in
+    let read = c .before .before .before .before .before .before .before in
+    let judged = read .before .before .before in
+    let s = judged .before .before .before .before .before in
     let a = s .args in (
-      sym (c .before .before .before .before .before .before .before .before .before .before .is-state .ensures) ∙ not-false _
-          (c .before .before .before .before .before .before .before .before .before .if1 .left),
+      sym (judged .is-state .ensures) ∙ not-false _ (read .before .before .if1 .left),
       (
         s .pre .0,
         (
-          c .before .before .before .before .before .task-at .ensures,
-          sym (c .before .before .c .given .1) ∙ ready-of (now (a .state)) (now (a .image)) _ _ _ _
-              (c .before .before .before .before .before .before .before .header-in .ensures) (c .before .before .before .before .ready-for .ensures),
+          read .header-in .ensures,
+          (
+            c .before .before .before .before .before .task-at .ensures,
+            sym (c .before .before .c .given .1) ∙ ready-of (now (a .state)) (now (a .image)) _ _ _ _
+                (read .header-in .ensures) (c .before .before .before .before .ready-for .ensures),
+          ),
         ),
       ),
     )

@@ -1,7 +1,7 @@
 -- `wait` meets its contract.
 use mathlib.Core.Path.{ap, _∙_}
 use borrow.Author.Needs.{needs}
-use Rattle.machine.specs.Effect.{flows}
+use Rattle.exec_action.specs.Action.{flowing}
 use Rattle.exec_control.proofs.wait.Statement.{statement}
 use Rattle.exec_control.proofs.wait.Tie as tie
 
@@ -14,5 +14,4 @@ wait-spec =
     (λ c κs. c .before .pre)
     (λ c κs. tt)
     (λ c.
-    let a = c .before .before .before .args in
-    c .flows .ensures ∙ ap (flows (a .v)) (c .before .waits .ensures)))
+    c .flows .ensures ∙ ap flowing (c .before .waits .ensures)))

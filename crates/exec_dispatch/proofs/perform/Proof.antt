@@ -1,42 +1,131 @@
--- `perform` meets its contract: the five groups have the rows of different codes.
-use mathlib.Core.Path.{sym, ap, _∙_}
-use borrow.Author.Tests.{lt-ltb, le-ltb}
-use denote.Ref.{now}
-use Rattle.machine.specs.Effect.{CommandEffect, effectOf}
-use Rattle.exec_dispatch.proofs.Apart.{control, levels, variables, mathematics, of-motion, of-control, of-levels, of-variables, of-mathematics}
+-- `perform` meets its contract: each arm of the match is the row of its code.
+use mathlib.Core.Path.{refl}
+use Rattle.limits.specs.Limits.{mostSpeed, mostRamp}
+use Rattle.state.specs.State.{withSpeed, withAcceleration, withDeceleration}
+use Rattle.machine.specs.Effect.{effectIn}
+use Rattle.machine.specs.declared.Request.the-variants.{MoveTo, MoveBy, Forward, Backward}
+use Rattle.exec_dispatch.proofs.Found.{found, missed, found-move, found-parameter, found-wait, found-quotient}
 use Rattle.exec_dispatch.proofs.perform.Statement.{statement}
 use Rattle.exec_dispatch.proofs.perform.Tie as tie
 
 pub perform-spec : {M : Type 1} → statement M
-unfolding effectOf
+unfolding effectIn
 perform-spec =
     tie.close
     (tie.spec
     (λ c κs. tt)
-    (λ c.
-    let a = c .before .before .before .args in
-    c .perform .ensures ∙ ap (λ (d : CommandEffect). d (a .context) (a .c) (a .v))
-    (sym (of-motion (now (a .inputs)) (a .c .code) (lt-ltb (a .c .code) control (c .before .if1 .taken)))))
+    (λ c κs. tt)
+    (λ c κs. tt)
+    (λ c κs. tt)
+    (λ c κs. tt)
+    (λ c κs. tt)
+    (λ c κs. tt)
+    (λ c κs. tt)
+    (λ c κs. tt)
+    (λ c κs. tt)
+    (λ c κs. tt)
+    (λ c κs. tt)
+    (λ c κs. tt)
+    (λ c κs. tt)
+    (λ c κs. tt)
+    (λ c κs. tt)
+    (λ c κs. tt)
+    (λ c κs. tt)
+    (λ c κs. tt)
+    (λ c κs. tt)
+    (λ c κs. tt)
+    (λ c κs. tt)
+    (λ c κs. tt)
+    (λ c κs. tt)
+    (λ c κs. tt)
+    (λ c κs. tt)
+    (λ c κs. tt)
     (λ c κs. c .before .before .before .pre)
-    (λ c.
-    let a = c .before .before .before .before .args in
-    c .perform2 .ensures ∙ ap (λ (d : CommandEffect). d (a .context) (a .c) (a .v))
-    (sym (of-control (now (a .inputs)) (a .c .code) (le-ltb (a .c .code) control (c .before .before .if1 .left))
-    (lt-ltb (a .c .code) levels (c .before .if2 .taken)))))
+    (λ c κs. c .before .before .before .pre)
     (λ c κs. tt)
-    (λ c.
-    let a = c .before .before .before .before .before .args in
-    c .perform3 .ensures ∙ ap (λ (d : CommandEffect). d (a .context) (a .c) (a .v))
-    (sym (of-levels (now (a .inputs)) (a .c .code) (le-ltb (a .c .code) levels (c .before .before .if2 .left))
-    (lt-ltb (a .c .code) variables (c .before .if3 .taken)))))
     (λ c κs. tt)
-    (λ c.
-    let a = c .before .before .before .before .before .before .args in
-    c .perform4 .ensures ∙ ap (λ (d : CommandEffect). d (a .context) (a .c) (a .v))
-    (sym (of-variables (now (a .inputs)) (a .c .code) (le-ltb (a .c .code) variables (c .before .before .if3 .left))
-    (lt-ltb (a .c .code) mathematics (c .before .if4 .taken)))))
     (λ c κs. tt)
-    (λ c.
-    let a = c .before .before .before .before .before .before .args in
-    c .mathematics .ensures ∙ ap (λ (d : CommandEffect). d (a .context) (a .c) (a .v))
-    (sym (of-mathematics (now (a .inputs)) (a .c .code) (le-ltb (a .c .code) mathematics (c .before .if4 .left))))))
+    (λ c κs. tt)
+    (λ c κs. tt)
+    (λ c κs. tt)
+    (λ c κs. tt)
+    (λ c κs. tt)
+    (λ c κs. tt)
+    (λ c κs. tt)
+    (λ c κs. tt)
+    (λ c κs. tt)
+    (λ c κs. tt)
+    (λ c κs. tt)
+    (λ c κs. tt)
+    (λ c κs. tt)
+    (λ c κs. tt)
+    (λ c κs. tt)
+    (λ c κs. tt)
+    (λ c κs. tt)
+    (λ c κs. tt)
+    (λ c κs. tt)
+    (λ c κs. tt)
+    (λ c κs. tt)
+    (λ c κs. tt)
+    (λ c κs. tt)
+    (λ c κs. tt)
+    (λ c κs. tt)
+    (λ c κs. tt)
+    (λ c. found-move _ _ _ _ MoveTo (c .before .match .keys1) (c .move-to .ensures) refl)
+    (λ c. found-move _ _ _ _ MoveBy (c .before .match .keys2) (c .move-by .ensures) refl)
+    (λ c. found-move _ _ _ _ Forward (c .before .match .keys3) (c .forward .ensures) refl)
+    (λ c. found-move _ _ _ _ Backward (c .before .match .keys4) (c .backward .ensures) refl)
+    (λ c. found _ _ _ _ (c .before .match .keys5) (c .set-mark .ensures) refl)
+    (λ c. found _ _ _ _ (c .before .match .keys6) (c .stop .ensures) refl)
+    (λ c. found _ _ _ _ (c .before .match .keys7) (c .stop-by .ensures) refl)
+    (λ c. found _ _ _ _ (c .before .match .keys8) (c .set-position .ensures) refl)
+    (λ c. found _ _ _ _ (c .before .match .keys9) (c .set-speed .ensures) refl)
+    (λ c. found _ _ _ _ (c .before .match .keys10) (c .set-acceleration .ensures) refl)
+    (λ c. found _ _ _ _ (c .before .match .keys11) (c .set-deceleration .ensures) refl)
+    (λ c. found _ _ _ _ (c .before .match .keys12) (c .load-position .ensures) refl)
+    (λ c. found-parameter _ _ _ _ mostSpeed withSpeed (c .before .match .keys13) (c .load-speed .ensures) refl)
+    (λ c. found-parameter _ _ _ _ mostRamp withAcceleration (c .before .match .keys14) (c .load-acceleration .ensures) refl)
+    (λ c. found-parameter _ _ _ _ mostRamp withDeceleration (c .before .match .keys15) (c .load-deceleration .ensures) refl)
+    (λ c. found _ _ _ _ (c .before .match .keys16) (c .store-position .ensures) refl)
+    (λ c. found _ _ _ _ (c .before .match .keys17) (c .store-speed .ensures) refl)
+    (λ c. found _ _ _ _ (c .before .match .keys18) (c .store-acceleration .ensures) refl)
+    (λ c. found _ _ _ _ (c .before .match .keys19) (c .store-deceleration .ensures) refl)
+    (λ c. found _ _ _ _ (c .before .match .keys20) (c .flows .ensures) refl)
+    (λ c. found _ _ _ _ (c .before .match .keys21) (c .end .ensures) refl)
+    (λ c. found _ _ _ _ (c .before .match .keys22) (c .call .ensures) refl)
+    (λ c. found _ _ _ _ (c .before .match .keys23) (c .come-back .ensures) refl)
+    (λ c. found _ _ _ _ (c .before .match .keys24) (c .start-plc .ensures) refl)
+    (λ c. found _ _ _ _ (c .before .match .keys25) (c .jump .ensures) refl)
+    (λ c. found _ _ _ _ (c .before .match .keys26) (c .start-bias .ensures) refl)
+    (λ c. found _ _ _ _ (c .before .match .keys27) (c .wait-for-position .ensures) refl)
+    (λ c. found _ _ _ _ (c .before .match .keys28) (c .wait .ensures) refl)
+    (λ c. found-wait _ _ _ _ (c .before .match .keys29) (c .wait-by-variable .ensures) refl)
+    (λ c. found _ _ _ _ (c .before .match .keys30) (c .set-flag .ensures) refl)
+    (λ c. found _ _ _ _ (c .before .match .keys31) (c .jump-by-flag .ensures) refl)
+    (λ c. found _ _ _ _ (c .before .match .keys32) (c .copy-flag .ensures) refl)
+    (λ c. found _ _ _ _ (c .before .match .keys33) (c .flag-from-input .ensures) refl)
+    (λ c. found _ _ _ _ (c .before .match .keys34) (c .flag-from-output .ensures) refl)
+    (λ c. found _ _ _ _ (c .before .match .keys35) (c .and-flags .ensures) refl)
+    (λ c. found _ _ _ _ (c .before .match .keys36) (c .or-flags .ensures) refl)
+    (λ c. found _ _ _ _ (c .before .match .keys37) (c .xor-flags .ensures) refl)
+    (λ c. found _ _ _ _ (c .before .match .keys38) (c .not-flag .ensures) refl)
+    (λ c. found _ _ _ _ (c .before .match .keys39) (c .jump-by-bit .ensures) refl)
+    (λ c. found _ _ _ _ (c .before .match .keys40) (c .jump-by-input .ensures) refl)
+    (λ c. found _ _ _ _ (c .before .match .keys41) (c .jump-by-output .ensures) refl)
+    (λ c. found _ _ _ _ (c .before .match .keys42) (c .set-output .ensures) refl)
+    (λ c. found _ _ _ _ (c .before .match .keys43) (c .output-from-flag .ensures) refl)
+    (λ c. found _ _ _ _ (c .before .match .keys44) (c .set-variable .ensures) refl)
+    (λ c. found _ _ _ _ (c .before .match .keys45) (c .jump-by-value .ensures) refl)
+    (λ c. found _ _ _ _ (c .before .match .keys46) (c .add-value .ensures) refl)
+    (λ c. found _ _ _ _ (c .before .match .keys47) (c .sub-value .ensures) refl)
+    (λ c. found _ _ _ _ (c .before .match .keys48) (c .mul-value .ensures) refl)
+    (λ c. found-quotient _ _ _ _ _ (c .before .match .keys49) (c .div-value .ensures) refl)
+    (λ c. found _ _ _ _ (c .before .match .keys50) (c .flags-as-number .ensures) refl)
+    (λ c. found _ _ _ _ (c .before .match .keys51) (c .copy-variable .ensures) refl)
+    (λ c. found _ _ _ _ (c .before .match .keys52) (c .jump-by-variable .ensures) refl)
+    (λ c. found _ _ _ _ (c .before .match .keys53) (c .add-variable .ensures) refl)
+    (λ c. found _ _ _ _ (c .before .match .keys54) (c .sub-variable .ensures) refl)
+    (λ c. found _ _ _ _ (c .before .match .keys55) (c .mul-variable .ensures) refl)
+    (λ c. found-quotient _ _ _ _ _ (c .before .match .keys56) (c .div-variable .ensures) refl)
+    (λ c. found _ _ _ _ (c .before .match .keys57) (c .start-mathematics .ensures) refl)
+    (λ c. missed _ _ _ _ (c .before .match .rest) (c .flows2 .ensures) refl))

@@ -1,18 +1,6 @@
 -- `copy_flag` meets its contract.
-use mathlib.Core.Path.{ap, _∙_}
-use Prim.Native.Nat.{ℕ}
-use Rattle.state.specs.State.{withFlag}
-use Rattle.machine.specs.Effect.{sets}
 use Rattle.exec_levels.proofs.copy_flag.Statement.{statement}
 use Rattle.exec_levels.proofs.copy_flag.Tie as tie
 
 pub copy-flag-spec : {M : Type 1} → statement M
-copy-flag-spec =
-    tie.close
-    (tie.spec
-    (λ c κs. tt)
-    (λ c κs. tt)
-    (λ c κs. tt)
-    (λ c.
-    let a = c .before .before .before .args in
-    c .sets .ensures ∙ ap sets (c .before .with-flag .ensures ∙ ap (λ (n : ℕ). withFlag (a .c .x) n (a .v)) (c .before .before .flag .ensures))))
+copy-flag-spec = tie.close (tie.spec (λ c κs. tt) (λ c κs. tt) (λ c. rw (c .sets .ensures, c .before .level-of .ensures)))

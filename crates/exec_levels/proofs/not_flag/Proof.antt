@@ -1,9 +1,4 @@
 -- `not_flag` meets its contract.
-use mathlib.Core.Path.{ap, _∙_}
-use Prim.Native.Nat.{ℕ}
-use Rattle.state.specs.State.{withFlag}
-use Rattle.machine.specs.Effect.{sets, bit, isSet}
-use mathlib.Core.Bool.{Bool, not}
 use Rattle.exec_levels.proofs.not_flag.Statement.{statement}
 use Rattle.exec_levels.proofs.not_flag.Tie as tie
 
@@ -15,9 +10,4 @@ not-flag-spec =
     (λ c κs. tt)
     (λ c κs. tt)
     (λ c κs. tt)
-    (λ c κs. tt)
-    (λ c.
-    let a = c .before .before .before .before .before .args in
-    c .sets .ensures ∙ ap sets (c .before .with-flag .ensures
-    ∙ ap (λ (n : ℕ). withFlag (a .c .x) n (a .v)) (c .before .before .bit .ensures
-    ∙ ap (λ (t : Bool). bit (not t)) (c .before .before .before .is-set .ensures ∙ ap isSet (c .before .before .before .before .flag .ensures))))))
+    (λ c. rw (c .sets .ensures, c .before .bit .ensures, c .before .before .is-set .ensures, c .before .before .before .level-of .ensures)))

@@ -9,17 +9,17 @@ use Rattle.exec_motion.proofs.load_deceleration.Tie as tie
 
 returns : tie.Need-returns
 returns c =
-    let k = c .before .before in
-    let j = k .before .before .before in
-    let z = got w32 (j .before .before .variable .ok) (j .before .before .variable .ensures) in
-    let e = sym (j .before .within .ensures ∙ ap (within 1 mostRamp) z) ∙ j .if1 .taken in
-    rw (e, c .sets .ensures, c .before .with-axis .ensures, k .with-deceleration .ensures, k .before .natural .ensures, z, k .before .before .axis .ensures)
+    let k = c .before .before .before in
+    let j = k .before in
+    let z = got w32 (j .before .content .ok) (j .before .content .ensures) in
+    let e = sym (j .within .ensures ∙ ap (within 1 mostRamp) z) ∙ k .if1 .taken in
+    rw (e, c .sets .ensures, c .before .with-deceleration .ensures, c .before .before .natural .ensures, z)
 
 returns-2 : tie.Need-returns-2
 returns-2 c =
-    let j = c .before in
-    let z = got w32 (j .before .before .variable .ok) (j .before .before .variable .ensures) in
-    let e = sym (j .before .within .ensures ∙ ap (within 1 mostRamp) z) ∙ j .if1 .left in
+    let j = c .before .before in
+    let z = got w32 (j .before .content .ok) (j .before .content .ensures) in
+    let e = sym (j .within .ensures ∙ ap (within 1 mostRamp) z) ∙ c .before .if1 .left in
     rw (e, c .halts .ensures)
 
 pub load-deceleration-spec : {M : Type 1} → statement M
@@ -28,9 +28,7 @@ load-deceleration-spec =
     (tie.spec
     (λ c κs. tt)
     (λ c κs. tt)
-    (λ c κs. tt)
-    (λ c κs. sym (c .before .before .within .ensures) ∙ c .before .if1 .taken)
-    (λ c κs. tt)
+    (λ c κs. sym (c .before .within .ensures) ∙ c .if1 .taken)
     (λ c κs. tt)
     (λ c κs. tt)
     returns

@@ -3,4 +3,4 @@ use Rattle.exec_motion.proofs.move_to.Statement.{statement}
 use Rattle.exec_motion.proofs.move_to.Tie as tie
 
 pub move-to-spec : {M : Type 1} → statement M
-move-to-spec = tie.close (tie.spec (λ c κs. tt) (λ c κs. tt) (λ c. rw (c .moves .ensures, c .before .axis .ensures)))
+move-to-spec = tie.close (tie.spec (λ c κs. tt) (λ c. rw (c .moves .ensures)))

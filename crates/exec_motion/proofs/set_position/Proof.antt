@@ -8,9 +8,7 @@ use Rattle.exec_motion.proofs.set_position.Tie as tie
 returns : tie.Need-returns
 returns c =
     let k = c .before .before in
-    let j = k .before in
-    let z = got w32 {r = j .before .before .args .c .value} (j .struct-told .given .1 .1 .1 .1 .1 .0 .1) refl in
-    rw (c .sets .ensures, c .before .with-axis .ensures, k .with-position .ensures, z, j .before .axis .ensures)
+    rw (c .sets .ensures, c .before .with-position .ensures, got w32 {x = k .before .args .c .value} (k .struct-told .given .1 .1 .1 .1 .1 .0 .1) refl)
 
 pub set-position-spec : {M : Type 1} → statement M
-set-position-spec = tie.close (tie.spec (λ c κs. tt) (λ c κs. tt) (λ c κs. tt) (λ c κs. tt) returns)
+set-position-spec = tie.close (tie.spec (λ c κs. tt) (λ c κs. tt) returns)

@@ -7,7 +7,7 @@ use Rattle.exec_motion.proofs.store_acceleration.Statement.{statement}
 use Rattle.exec_motion.proofs.store_acceleration.Tie as tie
 
 returns : tie.Need-returns
-returns c = let a = c .before .before .axis in rw (c .assigns .ensures, toZ-ofZ (small (a .result .acceleration) (omega arith)), a .ensures)
+returns c = rw (c .assigns .ensures, toZ-ofZ (small (c .before .before .args .axis .acceleration) (omega arith)))
 
 pub store-acceleration-spec : {M : Type 1} → statement M
-store-acceleration-spec = tie.close (tie.spec (λ c κs. tt) (λ c. search needs) (λ c κs. tt) returns)
+store-acceleration-spec = tie.close (tie.spec (λ c. search needs) (λ c κs. tt) returns)

@@ -7,7 +7,7 @@ use Rattle.exec_motion.proofs.store_deceleration.Statement.{statement}
 use Rattle.exec_motion.proofs.store_deceleration.Tie as tie
 
 returns : tie.Need-returns
-returns c = let a = c .before .before .axis in rw (c .assigns .ensures, toZ-ofZ (small (a .result .deceleration) (omega arith)), a .ensures)
+returns c = rw (c .assigns .ensures, toZ-ofZ (small (c .before .before .args .axis .deceleration) (omega arith)))
 
 pub store-deceleration-spec : {M : Type 1} → statement M
-store-deceleration-spec = tie.close (tie.spec (λ c κs. tt) (λ c. search needs) (λ c κs. tt) returns)
+store-deceleration-spec = tie.close (tie.spec (λ c. search needs) (λ c κs. tt) returns)

@@ -6,9 +6,7 @@ use Rattle.exec_motion.proofs.store_position.Statement.{statement}
 use Rattle.exec_motion.proofs.store_position.Tie as tie
 
 returns : tie.Need-returns
-returns c =
-    let a = c .before .before .axis in
-    rw (c .assigns .ensures, got w32 {r = a .result .position} (c .before .struct-told .given .0 .1) refl, a .ensures)
+returns c = rw (c .assigns .ensures, got w32 {r = c .before .before .args .axis .position} (c .before .struct-told .given .0 .1) refl)
 
 pub store-position-spec : {M : Type 1} → statement M
-store-position-spec = tie.close (tie.spec (λ c κs. tt) (λ c κs. tt) returns)
+store-position-spec = tie.close (tie.spec (λ c κs. tt) returns)

@@ -7,7 +7,7 @@ use Rattle.exec_motion.proofs.store_speed.Statement.{statement}
 use Rattle.exec_motion.proofs.store_speed.Tie as tie
 
 returns : tie.Need-returns
-returns c = let a = c .before .before .axis in rw (c .assigns .ensures, toZ-ofZ (small (a .result .speed) (omega arith)), a .ensures)
+returns c = rw (c .assigns .ensures, toZ-ofZ (small (c .before .before .args .axis .speed) (omega arith)))
 
 pub store-speed-spec : {M : Type 1} → statement M
-store-speed-spec = tie.close (tie.spec (λ c κs. tt) (λ c. search needs) (λ c κs. tt) returns)
+store-speed-spec = tie.close (tie.spec (λ c. search needs) (λ c κs. tt) returns)

@@ -1,16 +1,13 @@
 -- `divide` meets its contract, by what the quotient is.
 use mathlib.Core.Path.{refl, sym, ap, _∙_}
-use lib.IntN.{ℤ}
 use borrow.Author.Needs.{needs}
 use mir.Syntax.{w32}
 use Rattle.num_arith.proofs.Range.{got}
-use Rattle.num_arith.specs.declared.Quotient.{Quotient}
-use Rattle.machine.specs.Effect.{assigns, divides}
+use Rattle.exec_action.specs.Action.{assigning, dividing}
 use Rattle.exec_variables.proofs.divide.Statement.{statement}
 use Rattle.exec_variables.proofs.divide.Tie as tie
 
 pub divide-spec : {M : Type 1} → statement M
-unfolding divides
 divide-spec =
     tie.close
     (tie.spec
@@ -21,8 +18,8 @@ divide-spec =
     (λ c.
     let a = c .before .before .before .before .args in
     c .assigns .ensures
-    ∙ ap (λ (z : ℤ). assigns (a .c) z (a .v)) (got w32 (c .before .known-told .given .0 .1) refl)
-    ∙ ap (λ (q : Quotient). divides (a .c) q (a .v)) (sym (c .before .before .q .given .1)))
+    ∙ ap (assigning (a .c)) (got w32 (c .before .known-told .given .0 .1) refl)
+    ∙ ap (dividing (a .c)) (sym (c .before .before .q .given .1)))
     (λ c.
     let a = c .before .before .before .args in
-    c .halts .ensures ∙ ap (λ (q : Quotient). divides (a .c) q (a .v)) (sym (c .before .enum-told .given .1))))
+    c .halts .ensures ∙ ap (dividing (a .c)) (sym (c .before .enum-told .given .1))))

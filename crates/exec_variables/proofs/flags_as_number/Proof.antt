@@ -1,11 +1,10 @@
 -- `flags_as_number` meets its contract.
 use mathlib.Core.Path.{ap, _∙_}
-use lib.IntN.{ℤ}
 use mir.Val.{toZ}
 use mir.Syntax.{w32}
 use Rattle.num_arith.proofs.Range.{got}
 use Rattle.num_arith.specs.Wrap.{wrap}
-use Rattle.machine.specs.Effect.{assigns}
+use Rattle.exec_action.specs.Action.{assigning}
 use Rattle.exec_variables.proofs.flags_as_number.Statement.{statement}
 use Rattle.exec_variables.proofs.flags_as_number.Tie as tie
 
@@ -21,5 +20,5 @@ flags-as-number-spec =
     let a = c .before .before .before .args in
     let o = c .before .value in
     c .assigns .ensures
-    ∙ ap (λ (z : ℤ). assigns (a .c) z (a .v))
+    ∙ ap (assigning (a .c))
     (got w32 (o .ok) (o .ensures ∙ ap (toZ w32) (c .before .before .flag-number .ensures)))))

@@ -1,10 +1,7 @@
 -- `jump_by_value` meets its contract.
-use mathlib.Core.Path.{refl, ap, ap₂, _∙_}
-use mathlib.Core.Bool.{Bool}
+use mathlib.Core.Path.{refl}
 use mir.Syntax.{w32}
 use Rattle.num_arith.proofs.Range.{got}
-use Rattle.num_arith.specs.Ops.{holds}
-use Rattle.machine.specs.Effect.{jumpIf}
 use Rattle.exec_variables.proofs.jump_by_value.Statement.{statement}
 use Rattle.exec_variables.proofs.jump_by_value.Tie as tie
 
@@ -15,10 +12,9 @@ jump-by-value-spec =
     (λ c κs. tt)
     (λ c κs. tt)
     (λ c κs. tt)
-    (λ c.
-    let a = c .before .before .before .before .args in
-    let x = c .before .before .before .variable in
-    c .jump-if .ensures
-    ∙ ap (λ (t : Bool). jumpIf t (a .c .word) (a .v))
-    (c .before .compare .ensures ∙ ap₂ (holds (a .c .y)) (got w32 (x .ok) (x .ensures))
-    (got w32 (c .before .before .struct-told .given .1 .1 .1 .1 .1 .0 .1) refl))))
+    (λ c. rw (
+      c .jump-if .ensures,
+      c .before .compare .ensures,
+      got w32 {x = c .before .before .before .before .args .c .value} (c .before .before .struct-told .given .1 .1 .1 .1 .1 .0 .1) refl,
+      got w32 (c .before .before .before .content .ok) (c .before .before .before .content .ensures),
+    )))

@@ -1,10 +1,7 @@
 -- `sub_value` meets its contract.
-use mathlib.Core.Path.{refl, ap, ap₂, _∙_}
-use lib.IntN.{ℤ, _-ℤ_}
+use mathlib.Core.Path.{refl}
 use mir.Syntax.{w32}
 use Rattle.num_arith.proofs.Range.{got}
-use Rattle.num_arith.specs.Wrap.{wrap}
-use Rattle.machine.specs.Effect.{assigns}
 use Rattle.exec_variables.proofs.sub_value.Statement.{statement}
 use Rattle.exec_variables.proofs.sub_value.Tie as tie
 
@@ -15,11 +12,9 @@ sub-value-spec =
     (λ c κs. tt)
     (λ c κs. tt)
     (λ c κs. tt)
-    (λ c.
-    let a = c .before .before .before .before .args in
-    let y = c .before .before .before .variable in
-    let o = c .before .sub in
-    c .assigns .ensures
-    ∙ ap (λ (z : ℤ). assigns (a .c) z (a .v))
-    (got w32 (o .ok) (o .ensures ∙ ap₂ (λ (p q : ℤ). wrap w32 (p -ℤ q)) (got w32 (y .ok) (y .ensures))
-    (got w32 {r = a .c .value} (c .before .before .struct-told .given .1 .1 .1 .1 .1 .0 .1) refl)))))
+    (λ c. rw (
+      c .assigns .ensures,
+      got w32 (c .before .sub .ok) (c .before .sub .ensures),
+      got w32 {x = c .before .before .before .before .args .c .value} (c .before .before .struct-told .given .1 .1 .1 .1 .1 .0 .1) refl,
+      got w32 (c .before .before .before .content .ok) (c .before .before .before .content .ensures),
+    )))

@@ -1,5 +1,5 @@
 -- The law of every command, row by row: the row's flow and ranges are computed, and the form of the effect does the rest.
-use Prim.Native.Nat.{ℕ, _+_, _-_, _*_, _≤_}
+use Prim.Native.Nat.{ℕ, _*_, _≤_}
 use mathlib.Core.Path.{_≡_, refl, sym, ap, subst, _∙_}
 use mathlib.Core.Bool.{true, _&&_, _||_, not, cond}
 use native.Mathlib.Omega.{arith}
@@ -104,7 +104,7 @@ rows-keep inputs =
     at 0x54 _ (λ c e g v. flows-law 0x54 c g v (Start plc (c .word)) (simply 0x54 c g v (Start plc (c .word)) refl Allows.start)) &
     at 0x55 _ (λ c e g v. flows-law 0x55 c g v (Jump (c .word)) (simply 0x55 c g v (Jump (c .word)) refl Allows.jump)) &
     at 0x57 _ (λ c e g v. flows-law 0x57 c g v (Start bias (c .word)) (simply 0x57 c g v (Start bias (c .word)) refl Allows.start)) &
-    at 0x58 _ (λ c e g v. stays-law 0x58 c g v (arrived g v) Allows.over Allows.stay) &
+    at 0x58 _ (λ c e g v. stays-law 0x58 c g v (arrived g (v .notes)) Allows.over Allows.stay) &
     at 0x59 _ (λ c e g v. flows-law 0x59 c g v (waits (2 * c .word) g)
     (waits-lawful 0x59 c g v (2 * c .word) refl Allows.over (λ _ _. Allows.stay) (λ _ _ f. twice (c .word) (f .word)))) &
     at 0x5A _ (λ c e g v. waits-variable-law 0x5A c g v refl Allows.over (λ _ _. Allows.stay) Allows.refuse (Reason.waiting e)

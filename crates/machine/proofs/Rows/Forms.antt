@@ -105,7 +105,7 @@ pub record Law (k : ℕ) (c : Command) (g : Context) (v : Values) (e : Effect) :
   -- no command touches the notes of BIAS
   pub notes : e .values .notes ≡ v .notes
   -- a move is asked for by a move that starts
-  pub move : isMove (e .request) ≡ true → (isMoveCode k ≡ true) × (started g v ≡ true)
+  pub move : isMove (e .request) ≡ true → (isMoveCode k ≡ true) × (started g (v .motion) (v .notes) ≡ true)
 
 -- ---- outcomes
 
@@ -174,7 +174,8 @@ module _ (k : ℕ) (c : Command) (g : Context) (v : Values) where
   halts-law q m r = flows-law (Halt q) (halts-by q m r)
 
   -- the values change but for the notes, and the task goes on
-  pub effect-law : (w : Values) (m : Request) → w .notes ≡ v .notes → (isMove m ≡ true → (isMoveCode k ≡ true) × (started g v ≡ true)) → In GoOn
+  pub effect-law : (w : Values) (m : Request) → w .notes ≡ v .notes
+      → (isMove m ≡ true → (isMoveCode k ≡ true) × (started g (v .motion) (v .notes) ≡ true)) → In GoOn
       → ((count : ℕ) → Fit count c → GoodValues v → GoodValues w) → Law k c g v (effect w m GoOn)
   effect-law w m n s further h = record { outcome = simply GoOn refl further; values = h; still = λ i. clash (sym i); notes = n; move = s }
 
@@ -199,7 +200,7 @@ module _ (k : ℕ) (c : Command) (g : Context) (v : Values) where
 
   pub moves-law : (kind : Axis → Request) → isMoveCode k ≡ true → In GoOn → In (Stay 0 0) → Law k c g v (moves kind g c v)
   moves-law kind code further again =
-      either-effect (started g v) (effect (withMark 0 v) (kind (axisOf firstAxis v)) GoOn) (flows v (Stay 0 0))
+      either-effect (started g (v .motion) (v .notes)) (effect (withMark 0 v) (kind (axisOf firstAxis v)) GoOn) (flows v (Stay 0 0))
       (λ s. effect-law (withMark 0 v) (kind (axisOf firstAxis v)) refl (λ _. (code, s)) further (λ _ _ d. mark-good v d 0 (omega arith)))
       (λ _. flows-law (Stay 0 0) (stays-on again))
 

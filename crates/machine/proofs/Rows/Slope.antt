@@ -27,7 +27,7 @@ use Rattle.machine.proofs.Rows.EveryLaw.{every-law}
 abbrev pub Starts : Context → Values → Type 0
 Starts g v = (v .motion .mark ≡ 0 → ⊥) ⊎ ((g .start ≡ 0 → ⊥) × (v .notes .level ≡ 0))
 
-starts-for : (g : Context) (v : Values) → started g v ≡ true → Starts g v
+starts-for : (g : Context) (v : Values) → started g (v .motion) (v .notes) ≡ true → Starts g v
 starts-for g v = to (eqb (v .motion .mark) 0) refl (eqb (g .start) 0) refl (eqb (v .notes .level) 0) refl
   where
     to : (a : Bool) → eqb (v .motion .mark) 0 ≡ a → (b : Bool) → eqb (g .start) 0 ≡ b → (c : Bool) → eqb (v .notes .level) 0 ≡ c
@@ -37,10 +37,10 @@ starts-for g v = to (eqb (v .motion .mark) 0) refl (eqb (g .start) 0) refl (eqb 
     to true i false j false k e = clash (sym e)
     to true i true j c k e = clash (sym e)
 
-pub started-exactly : (g : Context) (v : Values) → (started g v ≡ true) ↔ Starts g v
+pub started-exactly : (g : Context) (v : Values) → (started g (v .motion) (v .notes) ≡ true) ↔ Starts g v
 started-exactly g v = (starts-for g v, from)
   where
-    from : Starts g v → started g v ≡ true
+    from : Starts g v → started g (v .motion) (v .notes) ≡ true
     from (inl n) = rw (ne-eqb (v .motion .mark) 0 n) refl
     from (inr (n, e)) = rw (ne-eqb (g .start) 0 n, eq-eqb (v .notes .level) 0 e) (always (eqb (v .motion .mark) 0))
       where
@@ -88,7 +88,7 @@ module _ (inputs : List ℕ) (g : Context) (c : Command) (v : Values) where
   pub moves-exactly : rowOf (c .code) .carried ≡ true → (isMove (e .request) ≡ true) ↔ ((isMoveCode (c .code) ≡ true) × Starts g v)
   moves-exactly n = (λ i. let l = every-law inputs g c v n .move i in (l .0, starts-for g v (l .1)), λ k. from (by-move (k .0)) (started-exactly g v .1 (k .1)))
     where
-      from : ByMove → started g v ≡ true → isMove (e .request) ≡ true
+      from : ByMove → started g (v .motion) (v .notes) ≡ true → isMove (e .request) ≡ true
       from b s = rw (b .effect, s) (b .move (axisOf firstAxis v))
 
   -- so where a motion is asked for at such a code
@@ -98,7 +98,7 @@ module _ (inputs : List ℕ) (g : Context) (c : Command) (v : Values) where
       (λ i. rw i (not-is (isMove (e .request)) (λ k. clash (sym (moves-exactly n .0 k .0) ∙ i))))
     where
       same : ByMove → isMove (e .request) ≡ asksMotion (e .request)
-      same b = rw (b .effect) (go (started g v))
+      same b = rw (b .effect) (go (started g (v .motion) (v .notes)))
         where
           go : (t : Bool) → isMove (cond t (effect (withMark 0 v) (b .kind (axisOf firstAxis v)) GoOn) (flows v (Stay 0 0)) .request)
               ≡ asksMotion (cond t (effect (withMark 0 v) (b .kind (axisOf firstAxis v)) GoOn) (flows v (Stay 0 0)) .request)
@@ -107,6 +107,6 @@ module _ (inputs : List ℕ) (g : Context) (c : Command) (v : Values) where
 
   -- ---- 58
 
-  pub position-outcome : c .code ≡ 0x58 → e .outcome ≡ cond (arrived g v) GoOn (Stay 0 0)
+  pub position-outcome : c .code ≡ 0x58 → e .outcome ≡ cond (arrived g (v .notes)) GoOn (Stay 0 0)
   unfolding effectOf effectIn
   position-outcome i = rw i refl

@@ -1,5 +1,5 @@
 -- Parts 4 to 6 and 8 of the theorem at one step of a run.
-use Prim.Native.Nat.{ℕ, zero, suc, _+_, _-_, _<_}
+use Prim.Native.Nat.{ℕ, zero, suc, _+_, _<_}
 use mathlib.Core.Path.{_≡_, refl, sym, ap, subst, _∙_}
 use mathlib.Core.Bool.{Bool, true, false, _&&_, not, cond, and-false}
 use mathlib.Core.Logic.{_⊎_, inl, inr, ⊎-elim}
@@ -308,7 +308,7 @@ module _ (image : List ℕ) (ok : Accepted image) (s : State) (m : Machine) (g :
       part8 : c .code ≡ 0x58 → taskAt (step image s x .state) t .block ≡ cond (waitOver x (past .moved)) (b + 1) b
       part8 i = go (waitOver x (past .moved)) (position-outcome (x .levels) (contextOf s task x) c (s .values) i ∙ rw over refl)
         where
-          over : arrived (contextOf s task x) (s .values) ≡ waitOver x (past .moved)
+          over : arrived (contextOf s task x) (s .values .notes) ≡ waitOver x (past .moved)
           over =
               let unmoved = ap (λ (k : ℕ). eqb k 0) (told .moved) ∙ bit-clear (past .moved) in
               λ ι. level-set (x .rampEnded) ι && (level-set (x .inWindow) ι && unmoved ι)

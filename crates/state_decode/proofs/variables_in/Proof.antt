@@ -10,15 +10,16 @@ use Rattle.state_bytes.proofs.Tables.{none, more, all}
 use mir.Syntax.{w32}
 use Rattle.num_arith.proofs.Range.{got}
 use Rattle.state_layout.specs.Codecs.{variablesIn}
+use Rattle.state_layout.specs.Layout.{variablesAt}
 use borrow.Author.Needs.{needs}
 use Rattle.state_decode.proofs.variables_in.Statement.{statement}
 use Rattle.state_decode.proofs.variables_in.Tie as tie
 
 abbrev Inv-loop : tie.InvT-loop
-Inv-loop b at r₀ k₀ r k = (k ≤ cells) × ((length r ≡ cells) × (take k r ≡ table k (λ (j : ℕ). signedAt b (at + 4 * j))))
+Inv-loop b r₀ k₀ r k = (k ≤ cells) × ((length r ≡ cells) × (take k r ≡ table k (λ (j : ℕ). signedAt b (variablesAt + 4 * j))))
 
 abbrev μ-loop : tie.MeasureT-loop
-μ-loop b at r₀ k₀ r k = cells - k
+μ-loop b r₀ k₀ r k = cells - k
 
 loop-again : tie.Need-loop-again Inv-loop μ-loop
 loop-again c =
@@ -27,7 +28,7 @@ loop-again c =
       search needs,
       (
         simp length-set (search needs),
-        more (l .r) (l .k) (λ (j : ℕ). signedAt (now (a .b)) (a .at + 4 * j)) _ (omega arith) (l .inv .1 .1)
+        more (l .r) (l .k) (λ (j : ℕ). signedAt (now (a .b)) (variablesAt + 4 * j)) _ (omega arith) (l .inv .1 .1)
             (got w32 (c .signed .ok) (c .signed .ensures)),
       ),
     )
@@ -37,7 +38,7 @@ unfolding variablesIn
 returns c =
     let l = c .before .loop in
     let a = c .before .before .before .args in
-    all (l .r) (l .k) cells (λ (j : ℕ). signedAt (now (a .b)) (a .at + 4 * j)) (l .inv .0) (c .loop-test .left) (l .inv .1 .0) (l .inv .1 .1)
+    all (l .r) (l .k) cells (λ (j : ℕ). signedAt (now (a .b)) (variablesAt + 4 * j)) (l .inv .0) (c .loop-test .left) (l .inv .1 .0) (l .inv .1 .1)
 
 pub variables-in-spec : {M : Type 1} → statement M
 variables-in-spec =

@@ -1,9 +1,5 @@
 -- `encode_parts` meets its contract: one section behind the other, and zeros behind them.
 use native.Mathlib.Omega.{arith}
-use mathlib.Core.Path.{_≡_}
-use denote.Ref.{now}
-use lib.ListN.{length}
-use Rattle.limits.specs.Limits.{cells}
 use Rattle.state_sections.proofs.Sections.{put, done}
 use Rattle.state_layout.proofs.Buffer.{encoded-put}
 use borrow.Author.Needs.{needs}
@@ -17,12 +13,12 @@ notes c κs =
     let k2 = k1 .before .before .before .before in
     let k3 = k2 .before .before .before .before in
     let k4 = k3 .before .before .before .before in
-    let k5 = k4 .before .before .before .before in
-    let k6 = k5 .before .before .before .before in
-    let k7 = k6 .before .before .before .before .before .before .before .before in
+    let k5 = k4 .before .before .before .before .before in
+    let k6 = k5 .before .before .before .before .before in
+    let s = k6 .before .before .before .before .before .before in
     omega (
       arith,
-      k7 .pre .0,
+      s .pre,
       k1 .put-motion .kept .0,
       k2 .put-header .kept .0,
       k3 .put-layout .kept .0,
@@ -38,12 +34,12 @@ starts c κs =
     let k3 = k2 .before .before .before .before in
     let k4 = k3 .before .before .before .before in
     let k5 = k4 .before .before .before .before in
-    let k6 = k5 .before .before .before .before in
-    let k7 = k6 .before .before .before .before in
-    let k8 = k7 .before .before .before .before .before .before .before .before in
+    let k6 = k5 .before .before .before .before .before in
+    let k7 = k6 .before .before .before .before .before in
+    let s = k7 .before .before .before .before .before .before in
     omega (
       arith,
-      k8 .pre .0,
+      s .pre,
       k1 .put-notes .kept .0,
       k2 .put-motion .kept .0,
       k3 .put-header .kept .0,
@@ -61,12 +57,12 @@ first c κs =
     let k4 = k3 .before .before .before .before in
     let k5 = k4 .before .before .before .before in
     let k6 = k5 .before .before .before .before in
-    let k7 = k6 .before .before .before .before in
-    let k8 = k7 .before .before .before .before in
-    let k9 = k8 .before .before .before .before .before .before .before .before in
+    let k7 = k6 .before .before .before .before .before in
+    let k8 = k7 .before .before .before .before .before in
+    let s = k8 .before .before .before .before .before .before in
     omega (
       arith,
-      k9 .pre .0,
+      s .pre,
       k1 .put-starts .kept .0,
       k2 .put-notes .kept .0,
       k3 .put-motion .kept .0,
@@ -86,12 +82,12 @@ second c κs =
     let k5 = k4 .before .before .before .before in
     let k6 = k5 .before .before .before .before in
     let k7 = k6 .before .before .before .before in
-    let k8 = k7 .before .before .before .before in
-    let k9 = k8 .before .before .before .before in
-    let k10 = k9 .before .before .before .before .before .before .before .before in
+    let k8 = k7 .before .before .before .before .before in
+    let k9 = k8 .before .before .before .before .before in
+    let s = k9 .before .before .before .before .before .before in
     omega (
       arith,
-      k10 .pre .0,
+      s .pre,
       k1 .put-task .kept .0,
       k2 .put-starts .kept .0,
       k3 .put-notes .kept .0,
@@ -113,12 +109,12 @@ third c κs =
     let k6 = k5 .before .before .before .before in
     let k7 = k6 .before .before .before .before in
     let k8 = k7 .before .before .before .before in
-    let k9 = k8 .before .before .before .before in
-    let k10 = k9 .before .before .before .before in
-    let k11 = k10 .before .before .before .before .before .before .before .before in
+    let k9 = k8 .before .before .before .before .before in
+    let k10 = k9 .before .before .before .before .before in
+    let s = k10 .before .before .before .before .before .before in
     omega (
       arith,
-      k11 .pre .0,
+      s .pre,
       k1 .put-task2 .kept .0,
       k2 .put-task .kept .0,
       k3 .put-starts .kept .0,
@@ -142,12 +138,12 @@ unused c κs =
     let k7 = k6 .before .before .before .before in
     let k8 = k7 .before .before .before .before in
     let k9 = k8 .before .before .before .before in
-    let k10 = k9 .before .before .before .before in
-    let k11 = k10 .before .before .before .before in
-    let k12 = k11 .before .before .before .before .before .before .before .before in
+    let k10 = k9 .before .before .before .before .before in
+    let k11 = k10 .before .before .before .before .before in
+    let s = k11 .before .before .before .before .before .before in
     omega (
       arith,
-      k12 .pre .0,
+      s .pre,
       k1 .put-task3 .kept .0,
       k2 .put-task2 .kept .0,
       k3 .put-task .kept .0,
@@ -173,8 +169,8 @@ same-length c =
     let k8 = k7 .before .before .before .before in
     let k9 = k8 .before .before .before .before in
     let k10 = k9 .before .before .before .before in
-    let k11 = k10 .before .before .before .before in
-    let k12 = k11 .before .before .before .before in
+    let k11 = k10 .before .before .before .before .before in
+    let k12 = k11 .before .before .before .before .before in
     omega (
       arith,
       k1 .put-unused .kept .0,
@@ -203,11 +199,10 @@ returns c =
     let k8 = k7 .before .before .before .before in
     let k9 = k8 .before .before .before .before in
     let k10 = k9 .before .before .before .before in
-    let k11 = k10 .before .before .before .before in
-    let k12 = k11 .before .before .before .before in
-    let k13 = k12 .before .before .before .before .before .before .before .before in
-    let s = k13 in
-    encoded-put _ (s .pre .1 .0) (s .pre .1 .1) _ _ _ (s .pre .0)
+    let k11 = k10 .before .before .before .before .before in
+    let k12 = k11 .before .before .before .before .before in
+    let s = k12 .before .before .before .before .before .before in
+    encoded-put _ (search (k11 .before .put-levels-arg2 .given, needs)) (search (k10 .before .put-levels-arg4 .given, needs)) _ _ _ (s .pre)
     (put (k12 .put-variables .ensures)
     (put (k11 .put-levels .ensures)
     (put (k10 .put-levels2 .ensures)
