@@ -1,6 +1,6 @@
 -- What a pair hands on is what follows it: the points that follow those of pair p at depths s are those of the named pair at the depths handed to it and
 -- those of the pair behind at the depths handed to that; the bad depths are those of the bad points, and a 51 is foreign at all depths or none.
-use Prim.Native.Nat.{ℕ, zero, suc, _+_, _-_, _*_, _/_, _%_, _<_, _≤_}
+use Prim.Native.Nat.{ℕ, zero, suc, _+_, _-_, _*_, _/_, _%_, _<_}
 use mathlib.Core.Path.{_≡_, refl, sym, ap, _∙_}
 use mathlib.Core.Bool.{Bool, true, false, cond}
 use mathlib.Core.Logic.{_⊎_, inl, inr, ⊎-elim}
@@ -26,11 +26,11 @@ use Rattle.walk.specs.Index.{indexOf, pointAt}
 use Rattle.walk.specs.Graph.{In}
 use Rattle.walk.specs.Successors.{beyond, leadsTo, unless, flowAt, successors, indices, nextOf}
 use Rattle.walk.proofs.Steps.History.{index-in, indexed}
-use Rattle.walk_graph.specs.Depths.{sets, Has, ground, deeper}
+use Rattle.walk_graph.specs.Depths.{sets, Has, ground}
 use Rattle.walk_graph.specs.Onward.{pairOf, taskOf, blockOf, onwardForeign, onwardNone, broken, handedOn, flowOnward, commandOnward, onwardOf}
 use Rattle.walk_graph.specs.declared.Onward.{Onward}
 use Rattle.walk_graph.proofs.Depths.{none, is-depth, deeper-has, deeper-none, deeper-of, ground-is, ground-of, some-depth}
-use Rattle.walk_graph.proofs.BadDepths.{broken-within, faultBy, Split, split}
+use Rattle.walk_graph.proofs.BadDepths.{broken-within, faultBy, split}
 
 -- the points that follow those of pair p at depths s are those of pair a at depths u and of pair b at depths v
 pub record Hands (next : ℕ → List ℕ) (p s a u b v : ℕ) : Type 0 where

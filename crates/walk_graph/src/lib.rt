@@ -5,7 +5,6 @@ use walk_blocks::Instruction;
 use walk_flow::Flow;
 ghost use mathlib.Core.Path.{_≡_};
 ghost use mathlib.Core.Bool.{cond};
-ghost use lib.Dec.{eqb};
 ghost use Rattle.command_table.specs.Rows.{rowOf};
 ghost use Rattle.walk_flow.specs.Terms.{under};
 ghost use Rattle.walk_graph.specs.Depths.{ground, deeper, leastDepth};

@@ -1,5 +1,5 @@
 -- How many pairs are pending, and how much may still be handed on, after a store. The number of pairs is a variable, so that no law counts it out.
-use Prim.Native.Nat.{ℕ, zero, suc, _+_, _-_, _<_, _≤_}
+use Prim.Native.Nat.{ℕ, zero, suc, _+_, _-_, _*_, _<_, _≤_}
 use mathlib.Core.Path.{_≡_, refl, sym}
 use mathlib.Core.Bool.{Bool, true, false, cond}
 use native.Mathlib.Nat.{not-suc-le-zero}
@@ -7,8 +7,9 @@ use native.Mathlib.Decide.{ℕ-discrete}
 use native.Mathlib.Omega.{arith}
 use lib.Dec.{eqb}
 use borrow.Author.Tests.{eq-eqb, ne-eqb}
-use Rattle.walk_graph.specs.Depths.{sets}
+use Rattle.limits.specs.Limits.{depths}
 use Rattle.walk_search.specs.Search.{busy}
+use Rattle.walk_search.proofs.Sizes.{size, size-most}
 use Rattle.walk_search.proofs.Stores.{put, put-same, put-other}
 
 -- 1 where a pair is pending
@@ -97,13 +98,19 @@ unfolding busy
 busy-same zero hs ss f = refl
 busy-same (suc m) hs ss f = omega (arith, odd-same (hs m) (ss m) (f m), busy-same m hs ss f)
 
--- ---- what may still be handed on: the measure of a search
+-- ---- how many points may still be handed on: the measure of a search
 
 pub left : ℕ → (ℕ → ℕ) → ℕ
-left m hs = total (λ p. sets - hs p) m
+left m hs = total (λ p. depths - size (hs p)) m
 
-pub left-less : (m : ℕ) (hs : ℕ → ℕ) (i v : ℕ) → i < m → hs i < v → v < sets → left m (put hs i v) < left m hs
+pub left-less : (m : ℕ) (hs : ℕ → ℕ) (i v : ℕ) → i < m → size (hs i) < size v → left m (put hs i v) < left m hs
 unfolding left
-left-less m hs i v h l k =
-    let t = total-set m (λ p. sets - hs p) (λ p. sets - put hs i v p) i h (λ p n. rw (put-other hs i p v n)) in
-    omega (arith, rw (put-same hs i v) at t)
+left-less m hs i v h l =
+    let t = total-set m (λ p. depths - size (hs p)) (λ p. depths - size (put hs i v p)) i h (λ p n. rw (put-other hs i p v n)) in
+    omega (arith, rw (put-same hs i v) at t, size-most v)
+
+-- never more than all points of the pairs
+pub left-most : (m : ℕ) (hs : ℕ → ℕ) → left m hs ≤ depths * m
+unfolding left total
+left-most zero hs = omega arith
+left-most (suc m) hs = omega (arith, left-most m hs)

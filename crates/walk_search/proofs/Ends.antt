@@ -1,16 +1,15 @@
 -- A search begins with the first point alone, and ends with what walks reach and the least of it.
-use Prim.Native.Nat.{ℕ, _+_, _-_, _*_, _/_, _%_, _<_, _≤_}
+use Prim.Native.Nat.{ℕ, zero, suc, _+_, _-_, _*_, _/_, _%_, _<_, _≤_}
 use mathlib.Core.Path.{_≡_, refl, sym, ap, _∙_}
-use mathlib.Core.Bool.{Bool, true, false, cond}
+use mathlib.Core.Bool.{false}
 use mathlib.Core.List.{List}
 use native.Mathlib.Decide.{ℕ-discrete, decLt}
 use native.Mathlib.Omega.{arith}
 use lib.ListN.{length, getD, length-set, replicate, length-replicate, getD-replicate, List·getD-eq-default}
 use lib.Seq.{ext-getD}
-use Rattle.limits.specs.Limits.{bias, taskCount, mostBlocks, depths, marksLength}
+use Rattle.limits.specs.Limits.{bias, taskCount, mostBlocks, depths}
 use Rattle.logic.proofs.Choice.{clash, test}
 use Rattle.walk_flow.specs.Terms.{Terms}
-use Rattle.walk_point.specs.PointFault.{point}
 use Rattle.walk.specs.Graph.{In, Reach, has}
 use Rattle.walk.specs.Index.{indexOf}
 use Rattle.walk.specs.Successors.{nextOf}
@@ -19,14 +18,13 @@ use Rattle.walk.proofs.Membership.{has-in, in-has}
 use Rattle.walk.proofs.Verdicts.OfWalks.{exact}
 use Rattle.walk_graph.specs.Depths.{sets, digit, Has}
 use Rattle.walk_graph.specs.Onward.{pairOf}
-use Rattle.walk_graph.proofs.Depths.{digit-two, none, is-depth, ground-is, ground-of}
+use Rattle.walk_graph.proofs.Depths.{digit-two, none, ground-is, ground-of}
 use Rattle.walk_search.specs.Search.{WalkBounds, pairMarks, pairs, seenIn, handedIn, listIn, withSeen}
-use Rattle.walk_search.specs.Search.{withEntry, fresh, Board, board, visited, Seen, busy}
+use Rattle.walk_search.specs.Search.{fresh, Board, beginning, visited, visits, Seen}
 use Rattle.walk_search.specs.Search.{Listed, Sound, Going, Searched, found}
-use Rattle.walk_search.specs.declared.search.Found.{Found}
 use Rattle.walk_search.proofs.Stores.{put, put-same, at-put, seen-set, handed-seen, list-seen, list-set, seen-list, handed-list, entry-long}
-use Rattle.walk_search.proofs.Counts.{odd-same, odd-other, busy-seen, busy-same, left}
-use Rattle.walk_search.proofs.Visits.{visit-keeps, visit-less, handed₃, depths-some, all-handed, all-seen}
+use Rattle.walk_search.proofs.Counts.{odd-same, odd-other, busy-seen, busy-same, left, left-most}
+use Rattle.walk_search.proofs.Visits.{visit-keeps, visit-less, seen-before, handed₃, depths-some, all-handed, all-seen}
 use Rattle.walk_search.proofs.Minima.{Minima, minima-visit, minima-begun, minima-are}
 
 -- what holds all through a search
@@ -138,7 +136,7 @@ module _ (h : Terms) (bs : List ℕ) (r : WalkBounds h) where
         (λ p. zeros n (pairMarks * p)));
   }
 
-  pub begun : Running h bs (board (fresh n first) (record { pending = 1; foreign = mostBlocks; bad = marksLength }))
+  pub begun : Running h bs (beginning h)
   begun = record {
     going = going-begun;
     least = minima-begun h bs (handedIn (fresh n first)) (λ p. ap (λ (f : ℕ → ℕ). f p) handed-is ∙ zeros n (pairMarks * p + 1));
@@ -154,18 +152,10 @@ module _ (h : Terms) (bs : List ℕ) (r : WalkBounds h) where
       least =
           let p = listIn (b .marks) (b .found .pending - 1) in
           let d = depths-some h bs r (b .marks) (b .found .pending) (w .going) some in
+          let held = seen-before h bs r (b .marks) (b .found .pending) (w .going) some in
           minima-of h bs (handed₃ h bs r (b .marks) (b .found .pending) (w .going) some)
           (minima-visit h bs (handedIn (b .marks)) p (seenIn (b .marks) p) (held p) (d .0) (d .1) (b .found .foreign) (b .found .bad) (w .least));
     }
-      where
-        held : (p d : ℕ) → Has (handedIn (b .marks) p) d → Has (seenIn (b .marks) p) d
-        held p d k = go (is-depth (handedIn (b .marks) p) d (let l = w .going .listed .within p in let s = w .going .listed .small p in omega arith) k)
-          where
-            go : d < depths → Has (seenIn (b .marks) p) d
-            go l =
-                let e : (depths * p + d) / depths ≡ p = omega arith in
-                let f : (depths * p + d) % depths ≡ d = omega arith in
-                rw (e, f) at (w .going .graph .held (depths * p + d) (rw (e, f) k))
 
     leaves-less : left (pairs h) (handedIn (visited h bs b .marks)) < left (pairs h) (handedIn (b .marks))
     unfolding visited
@@ -177,6 +167,18 @@ module _ (h : Terms) (bs : List ℕ) (r : WalkBounds h) where
 
     pub less-after : (b′ : Board) → b′ ≡ visited h bs b → left (pairs h) (handedIn (b′ .marks)) < left (pairs h) (handedIn (b .marks))
     less-after b′ e = rw e leaves-less
+
+  -- a search that is not over has made no more visits than there were points to be handed on
+  visits-left : (v : ℕ) (b : Board) → Running h bs b → ((k : ℕ) → k < v → 0 < visits k h bs b .found .pending) → v ≤ left (pairs h) (handedIn (b .marks))
+  unfolding visits
+  visits-left zero b w some = omega arith
+  visits-left (suc v) b w some =
+      let one = some 0 (omega arith) in
+      omega (arith, visits-left v (visited h bs b) (keeps-running b w one) (λ k l. some (suc k) (omega arith)), leaves-less b w one)
+
+  -- so none makes more visits than the image has points
+  pub visits-few : (v : ℕ) → ((k : ℕ) → k < v → 0 < visits k h bs (beginning h) .found .pending) → v ≤ depths * pairs h
+  visits-few v some = omega (arith, visits-left v (beginning h) begun some, left-most (pairs h) (handedIn (beginning h .marks)))
 
   -- ---- the end
 

@@ -2,9 +2,10 @@ mod Front
 mod Upwards
 mod PartByPart
 mod Stores
+mod Sizes
 mod Counts
 mod Touches
 mod Visits
 mod Minima
-mod Ends
+pub mod Ends
 pub mod Fixed

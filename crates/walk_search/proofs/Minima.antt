@@ -7,14 +7,14 @@ use mathlib.Core.List.{List}
 use native.Mathlib.Decide.{ℕ-discrete}
 use native.Mathlib.Omega.{arith}
 use lib.Dec.{ltb, eqb}
-use borrow.Author.Tests.{ltb-true, ltb-false, eqb-true, eqb-false}
-use Rattle.limits.specs.Limits.{taskCount, mostBlocks, depths, marksLength}
+use borrow.Author.Tests.{eqb-true, eqb-false}
+use Rattle.limits.specs.Limits.{mostBlocks, depths, marksLength}
 use Rattle.logic.proofs.Choice.{clash}
 use Rattle.walk_flow.specs.Terms.{Terms}
 use Rattle.walk_fault.specs.Fault.{isForeign, isBad}
 use Rattle.walk.specs.Blocks.{faultAt}
 use Rattle.walk.specs.Index.{pointAt}
-use Rattle.walk.specs.Graph.{In, Reach, lesser, least}
+use Rattle.walk.specs.Graph.{Reach, lesser, least}
 use Rattle.walk.specs.Successors.{nextOf}
 use Rattle.walk.specs.Verdict.{rootOf, reached, leastForeign, leastBad}
 use Rattle.walk.proofs.Points.Index.{has-point}
@@ -24,7 +24,7 @@ use Rattle.walk.proofs.Verdicts.OfWalks.{exact}
 use Rattle.walk_graph.specs.Depths.{sets, Has, leastDepth}
 use Rattle.walk_graph.specs.Onward.{taskOf, blockOf, onwardOf}
 use Rattle.walk_graph.specs.declared.Onward.{Onward}
-use Rattle.walk_graph.proofs.Depths.{none, is-depth, some-depth, least-has, least-least}
+use Rattle.walk_graph.proofs.Depths.{none, some-depth, least-has, least-least}
 use Rattle.walk_graph.proofs.Handing.{foreign-at, bad-of, bad-has, bad-small}
 use Rattle.walk_search.specs.Search.{WalkBounds, foreignWith, badWith, Seen}
 use Rattle.walk_search.proofs.Stores.{put, put-same, put-other}

@@ -1,10 +1,9 @@
 -- What a touch keeps and adds: the list stays a list of the pending pairs, what was seen stays seen, and only the depths handed over are new.
-use Prim.Native.Nat.{ℕ, _+_, _-_, _*_, _/_, _%_, _<_, _≤_}
+use Prim.Native.Nat.{ℕ, _+_, _*_, _/_, _%_, _<_, _≤_}
 use mathlib.Core.Path.{_≡_, refl, sym, ap, _∙_}
 use mathlib.Core.Bool.{Bool, true, false, cond}
 use mathlib.Core.Logic.{_⊎_, inl, inr, ⊎-elim}
 use mathlib.Core.List.{List}
-use native.Mathlib.Decide.{ℕ-discrete}
 use native.Mathlib.Omega.{arith}
 use lib.Bits.{or-zero-r}
 use lib.ListN.{length, length-set}
@@ -12,7 +11,7 @@ use lib.Dec.{eqb}
 use borrow.Author.Tests.{eqb-true, eqb-false, eq-eqb, ne-eqb}
 use Rattle.limits.specs.Limits.{depths}
 use Rattle.walk_graph.specs.Depths.{sets, Has, union}
-use Rattle.walk_graph.proofs.Depths.{none, union-over, union-under, union-left, union-right, union-of}
+use Rattle.walk_graph.proofs.Depths.{union-over, union-under, union-left, union-right, union-of}
 use Rattle.walk_search.specs.Search.{pairMarks, seenIn, handedIn, listIn, withSeen, withEntry, Listing, listing, touched, Seen, busy, Listed}
 use Rattle.walk_search.proofs.Stores.{put, put-same, put-other, at-put, seen-set, handed-seen, list-seen, list-set, seen-list, handed-list, entry-long}
 use Rattle.walk_search.proofs.Counts.{odd, odd-same, odd-other, busy-seen, busy-most, busy-room}

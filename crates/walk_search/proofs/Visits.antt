@@ -1,8 +1,8 @@
 -- A visit keeps what holds all through a search, and leaves less to be handed on; at the end what is seen is what is reached.
-use Prim.Native.Nat.{ℕ, zero, suc, _+_, _-_, _*_, _/_, _%_, _<_, _≤_}
-use mathlib.Core.Path.{_≡_, refl, sym, ap, _∙_}
-use mathlib.Core.Logic.{_⊎_, inl, inr, ⊎-elim}
-use mathlib.Core.List.{List, [], _∷_}
+use Prim.Native.Nat.{ℕ, _+_, _-_, _*_, _/_, _%_, _<_, _≤_}
+use mathlib.Core.Path.{_≡_, refl, sym, _∙_}
+use mathlib.Core.Logic.{⊎-elim}
+use mathlib.Core.List.{List, []}
 use native.Mathlib.Decide.{decLt}
 use native.Mathlib.Omega.{arith}
 use lib.ListN.{length, length-set}
@@ -19,11 +19,12 @@ use Rattle.walk_graph.specs.declared.Onward.{Onward}
 use Rattle.walk_graph.proofs.Depths.{is-depth, some-depth}
 use Rattle.walk_graph.proofs.Handing.{Hands, hands}
 use Rattle.walk_search.specs.Search.{WalkBounds, pairMarks, pairs, seenIn, handedIn, listIn, withHanded, Listing, listing, touched}
-use Rattle.walk_search.specs.Search.{Room, board, foreignWith, badWith, visited, Seen, busy, Listed, Sound, Going}
+use Rattle.walk_search.specs.Search.{Room, board, foreignWith, badWith, visited, Seen, Listed, Sound, Going}
 use Rattle.walk_search.specs.declared.search.Found.{Found}
+use Rattle.walk_search.proofs.Sizes.{size-less}
 use Rattle.walk_search.proofs.Stores.{put, put-other, at-put, handed-set, seen-handed, list-handed}
 use Rattle.walk_search.proofs.Counts.{odd-same, odd-other, busy-handed, busy-none, left, left-less}
-use Rattle.walk_search.proofs.Touches.{most, room, Grown, Touched, touch-keeps}
+use Rattle.walk_search.proofs.Touches.{most, room, Touched, touch-keeps}
 
 -- ---- the last pair of the list is taken off, and all that it has seen counts as handed on
 
@@ -219,9 +220,20 @@ module _ (h : Terms) (bs : List ℕ) (r : WalkBounds h) (l : List ℕ) (n : ℕ)
   pub visit-keeps : Going h bs (b₃ .marks) (b₃ .pending)
   visit-keeps = record { long = touched₃ .long ∙ long₂; graph = rw handed₃ graph₃; listed = listed₃ }
 
+  -- what a pair has handed on it has seen
+  pub seen-before : (q d : ℕ) → Has (handedIn l q) d → Has (seenIn l q) d
+  seen-before q d k = go (is-depth (handedIn l q) d (let a = g .listed .within q in let s = g .listed .small q in omega arith) k)
+    where
+      go : d < depths → Has (seenIn l q) d
+      go i =
+          let e : (depths * q + d) / depths ≡ q = omega arith in
+          let f : (depths * q + d) % depths ≡ d = omega arith in
+          rw (e, f) at (g .graph .held (depths * q + d) (rw (e, f) k))
+
   pub visit-less : left m (handedIn (b₃ .marks)) < left m (handedIn l)
   visit-less =
-      rw handed₃ (left-less m (handedIn l) p t pair-in (ahead m (handedIn l) (seenIn l) (listIn l) n (g .listed) some) (g .listed .small p))
+      rw handed₃ (left-less m (handedIn l) p t pair-in
+      (size-less (handedIn l p) t (g .listed .small p) (seen-before p) (ahead m (handedIn l) (seenIn l) (listIn l) n (g .listed) some)))
 
   -- of what is found to be the pair, what it hands on, and what the first touch leaves
   module _ (p′ : ℕ) (o′ : Onward) (pair-is : p′ ≡ p) (onward-is : o′ ≡ onwardOf h bs (taskOf p′) (blockOf p′) (seenIn l p′)) where

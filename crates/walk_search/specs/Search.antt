@@ -6,7 +6,7 @@ use mathlib.Core.Bool.{Bool, cond}
 use mathlib.Core.List.{List, [], _∷_}
 use lib.ListN.{length, getD, set, replicate}
 use lib.Dec.{eqb}
-use Rattle.limits.specs.Limits.{taskCount, mostBlocks, depths}
+use Rattle.limits.specs.Limits.{taskCount, bias, mostBlocks, depths, marksLength}
 use Rattle.num_le.specs.LittleEndian.{leNumber}
 use Rattle.walk_flow.specs.Terms.{Terms}
 use Rattle.walk.specs.Blocks.{blockNumber}
@@ -14,7 +14,7 @@ use Rattle.walk.specs.Graph.{In, Reach, has, lesser}
 use Rattle.walk.specs.Successors.{nextOf}
 use Rattle.walk.specs.Verdict.{rootOf, reached, leastForeign, leastBad}
 use Rattle.walk_graph.specs.Depths.{sets, digit, Has, union, leastDepth}
-use Rattle.walk_graph.specs.Onward.{taskOf, blockOf, onwardOf}
+use Rattle.walk_graph.specs.Onward.{pairOf, taskOf, blockOf, onwardOf}
 use Rattle.walk_graph.specs.declared.Onward.{Onward}
 use Rattle.walk_search.specs.declared.search.Found.{Found}
 
@@ -88,6 +88,14 @@ pub record Board : Type 0 where
 abbrev pub board : List ℕ → Found → Board
 board marks found = record { marks = marks; found = found }
 
+-- as a search begins: nothing is found
+abbrev pub beginning : Terms → Board
+beginning terms = board (fresh (pairMarks * pairs terms) (pairOf bias (terms .header .start))) (record {
+  pending = 1;
+  foreign = mostBlocks;
+  bad = marksLength;
+})
+
 -- the least foreign block and the least bad point so far, and those of pair p
 abbrev pub foreignWith : Bool → ℕ → ℕ → ℕ
 foreignWith foreign block so = cond foreign (lesser block so) so
@@ -118,6 +126,11 @@ visitedAt terms bs p b =
 -- the last pair of the list is visited
 unfoldable pub visited : Terms → List ℕ → Board → Board
 visited terms bs b = visitedAt terms bs (listIn (b .marks) (b .found .pending - 1)) b
+
+-- as many visits, one after the other
+unfoldable pub visits : ℕ → Terms → List ℕ → Board → Board
+visits zero terms bs b = b
+visits (suc n) terms bs b = visits n terms bs (visited terms bs b)
 
 -- ---- what holds all through a search
 

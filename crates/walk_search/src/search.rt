@@ -7,7 +7,6 @@ use limits::TASK_COUNT;
 use walk::Verdict;
 use walk_point::Point;
 ghost use mathlib.Core.Path.{_≡_};
-ghost use mathlib.Core.Bool.{cond};
 ghost use Prim.Native.Nat.{_*_, _+_, _<_, _≤_};
 ghost use lib.ListN.{length};
 ghost use Rattle.limits.specs.Limits.{bias, mostBlocks, taskCount, marksLength};

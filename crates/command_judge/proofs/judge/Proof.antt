@@ -1,7 +1,6 @@
 -- `judge` meets its contract: the row is that of the code.
 use native.Mathlib.Omega.{arith}
 use mathlib.Core.Path.{ap, _∙_}
-use borrow.Author.Needs.{needs}
 use Rattle.command_table.specs.declared.Row.{Row}
 use Rattle.command_judge.specs.BlockFault.{rowFault, blockFault}
 use Rattle.command_judge.proofs.judge.Statement.{statement}

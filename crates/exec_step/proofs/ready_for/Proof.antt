@@ -1,6 +1,5 @@
 -- `ready_for` meets its contract, test by test.
-use mathlib.Core.Path.{_≡_, sym, ap, _∙_}
-use borrow.Author.Needs.{needs}
+use mathlib.Core.Path.{sym, ap, _∙_}
 use borrow.Author.Tests.{eq-eqb, ne-eqb, not-true, not-false}
 use denote.Ref.{now}
 use Rattle.machine.specs.declared.Answer.the-variants.{Differs}

@@ -1,10 +1,9 @@
 -- `together` meets its contract: after k turns the first k bytes are taken.
-use Prim.Native.Nat.{_+_, _-_, _≤_}
+use Prim.Native.Nat.{_-_, _≤_}
 use native.Mathlib.Omega.{arith}
 use native.Mathlib.Numerals.{add-one}
 use mathlib.Core.Path.{_≡_, refl, ap, _∙_}
 use denote.Ref.{now}
-use lib.ListN.{length}
 use borrow.Author.Needs.{needs}
 use Rattle.state_judge.specs.Together.{together}
 use Rattle.state_judge.proofs.together.Statement.{statement}

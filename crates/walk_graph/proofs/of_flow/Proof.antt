@@ -1,6 +1,5 @@
 -- `of_flow` meets its contract: what is broken is no more than all, and the rest is handed on.
 use mathlib.Core.Path.{_∙_}
-use Prim.Native.Nat.{_≤_}
 use native.Mathlib.Omega.{arith}
 use borrow.Author.Needs.{needs}
 use Rattle.walk_graph.specs.Onward.{flowOnward}

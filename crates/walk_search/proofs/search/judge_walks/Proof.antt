@@ -1,6 +1,6 @@
 -- `judge_walks` meets its contract: the search works in the marks of the image's pairs, and what stands behind them comes back.
 use Prim.Native.Nat.{ℕ, _*_, _≤_}
-use mathlib.Core.Path.{_≡_, sym, _∙_}
+use mathlib.Core.Path.{sym}
 use mathlib.Core.List.{List}
 use native.Mathlib.Omega.{arith}
 use lib.ListN.{length}

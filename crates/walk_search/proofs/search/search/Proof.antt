@@ -1,12 +1,9 @@
 -- `search` meets its contract: the marks begin with the first pair alone, are walked to the end, and the least is told.
-use Prim.Native.Nat.{ℕ}
-use mathlib.Core.Path.{_≡_, ap, _∙_}
+use mathlib.Core.Path.{_∙_}
 use native.Mathlib.Omega.{arith}
-use denote.Ref.{now}
 use borrow.Author.Needs.{needs}
-use Rattle.walk.specs.Verdict.{verdictBy, walksVerdict}
-use Rattle.walk_flow.specs.Terms.{under}
-use Rattle.walk_search.specs.Search.{found, fresh}
+use Rattle.walk.specs.Verdict.{walksVerdict}
+use Rattle.walk_search.specs.Search.{found}
 use Rattle.walk_search.proofs.search.search.Statement.{statement}
 use Rattle.walk_search.proofs.search.search.Tie as tie
 

@@ -1,15 +1,10 @@
 -- `visit` meets its contract: it is the definition's visit, and stays within the marks.
-use Prim.Native.Nat.{ℕ, _+_, _-_, _*_, _/_, _%_, _<_}
-use mathlib.Core.Path.{_≡_, refl, sym, ap, _∙_}
+use Prim.Native.Nat.{_+_, _*_}
 use native.Mathlib.Omega.{arith}
-use lib.ListN.{length, length-set}
+use lib.ListN.{length-set}
 use denote.Ref.{now}
 use borrow.Author.Needs.{needs}
-use Rattle.limits.specs.Limits.{taskCount, mostBlocks}
-use Rattle.walk_flow.specs.Terms.{under}
-use Rattle.walk_graph.specs.declared.Onward.{Onward}
-use Rattle.walk_graph.specs.Onward.{taskOf, blockOf, onwardOf}
-use Rattle.walk_search.specs.Search.{pairMarks, pairs, seenIn, handedIn, listIn, withHanded, Listing, listing, touched, Room, visited}
+use Rattle.walk_search.specs.Search.{pairMarks, seenIn}
 use Rattle.walk_search.proofs.Visits.{pair-in, not-all, first-room, second-room, visit-is}
 use Rattle.walk_search.proofs.search.visit.Statement.{statement}
 use Rattle.walk_search.proofs.search.visit.Tie as tie

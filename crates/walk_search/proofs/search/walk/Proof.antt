@@ -5,7 +5,7 @@ use lib.ListN.{length}
 use denote.Ref.{now}
 use borrow.Author.Needs.{needs}
 use Rattle.walk_flow.specs.Terms.{under}
-use Rattle.walk_search.specs.Search.{pairs, handedIn, Board, board}
+use Rattle.walk_search.specs.Search.{pairs, handedIn, board}
 use Rattle.walk_search.proofs.Counts.{left}
 use Rattle.walk_search.proofs.Ends.{begun, fresh-long, Running, running-after, less-after, found-is, searched}
 use Rattle.walk_search.proofs.search.walk.Statement.{statement}
