@@ -202,7 +202,7 @@ returns c =
     let k11 = k10 .before .before .before .before .before in
     let k12 = k11 .before .before .before .before .before in
     let s = k12 .before .before .before .before .before .before in
-    encoded-put _ (search (k11 .before .put-levels-arg2 .given, needs)) (search (k10 .before .put-levels-arg4 .given, needs)) _ _ _ (s .pre)
+    encoded-put _ (k11 .before .put-levels-arg2 .given .0) (k10 .before .put-levels-arg4 .given .0) _ _ _ (s .pre)
     (put (k12 .put-variables .ensures)
     (put (k11 .put-levels .ensures)
     (put (k10 .put-levels2 .ensures)
