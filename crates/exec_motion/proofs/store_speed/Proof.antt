@@ -1,13 +1,12 @@
 -- `store_speed` meets its contract.
 use native.Mathlib.Omega.{arith}
 use borrow.Author.Needs.{needs}
-use mir.Facts.{toZ-ofZ}
-use Rattle.exec_motion.proofs.Ranges.{small}
+use Rattle.exec_motion.proofs.Ranges.{stored-whole}
 use Rattle.exec_motion.proofs.store_speed.Statement.{statement}
 use Rattle.exec_motion.proofs.store_speed.Tie as tie
 
 returns : tie.Need-returns
-returns c = rw (c .assigns .ensures, toZ-ofZ (small (c .before .before .args .axis .speed) (omega arith)))
+returns c = let a = c .before .before .args in stored-whole (a .c) (a .axis .speed) (omega arith) (c .assigns .ensures)
 
 pub store-speed-spec : {M : Type 1} → statement M
 store-speed-spec = tie.close (tie.spec (λ c. search needs) (λ c κs. tt) returns)
