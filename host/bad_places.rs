@@ -7,7 +7,7 @@
 use reference::answer::Place;
 use reference::drive::Drive;
 use reference::hex::digits_of;
-use reference::image::{self, Block, Header, Wanted};
+use reference::image::{self, Block, Header, Landings, Wanted};
 use reference::number::*;
 use reference::walk;
 use std::process::ExitCode;
@@ -65,7 +65,8 @@ fn faulty(spots: &[Spot]) -> Option<Block> {
 
 fn bad_at_all(spots: &[Spot]) -> Option<Block> {
     // so long that nothing is past its end
-    let long = Header { drive: Drive { kind: KIND, slot_b: 0, slot_c: 0 }, start: 0, count: MOST_BLOCKS };
+    let drive = Drive { kind: KIND, slot_b: 0, slot_c: 0 };
+    let long = Header { format: FORMAT, drive, start: 0, count: MOST_BLOCKS, landings: Landings::NONE };
     let at = |s: &Spot| Place { task: s.task, block: s.line, depth: s.depth };
     let bad = |code: u8| spots.iter().all(|s| walk::bad(&long, &to(code, 0), at(s)) != SUCCESS);
     BAD_CODES.into_iter().find(|code| bad(*code)).map(|code| to(code, 0))

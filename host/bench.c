@@ -39,11 +39,13 @@ typedef struct {
                         uint8_t);
     bias_verdict (*write)(uint32_t, uint32_t, uint32_t, uint32_t, uint32_t, uint32_t, const uint8_t *, size_t, uint8_t *,
                           size_t);
+    bias_verdict (*write_landings)(uint32_t, uint32_t, uint32_t, uint32_t, uint32_t, uint32_t, const uint8_t *, size_t,
+                                   const uint8_t *, size_t, uint8_t *, size_t);
 } side;
 
 static const side sides[SIDES] = {
-    {"library", bias_load, bias_step, bias_write},
-    {"reference", reference_load, reference_step, reference_write},
+    {"library", bias_load, bias_step, bias_write, bias_write_landings},
+    {"reference", reference_load, reference_step, reference_write, reference_write_landings},
 };
 
 typedef uint8_t block[BIAS_BLOCK_LENGTH];
@@ -51,6 +53,8 @@ typedef uint8_t block[BIAS_BLOCK_LENGTH];
 /* A program being made, and what is lent. */
 static block blocks[BIAS_MOST_BLOCKS];
 static uint32_t count;
+static uint8_t landings[2 * BIAS_MOST_LANDINGS];
+static size_t landings_len;
 static uint8_t image[BIAS_MOST_IMAGE_LENGTH];
 static size_t image_len;
 static uint8_t marks[BIAS_MARKS_LENGTH];
@@ -116,13 +120,39 @@ static void put_branch(uint32_t at, uint32_t to)
     blocks[at][5] = (uint8_t)(to / 256);
 }
 
-static void make_image(uint32_t type)
+static void use_image(bias_verdict verdict)
 {
-    bias_verdict verdict = reference_write(BIAS_FORMAT, type, 0, 0, 0, count, &blocks[0][0], sizeof(block) * count, image,
-                                           sizeof image);
     if (verdict.number != BIAS_SUCCESS)
         exit(2);
     image_len = (size_t)verdict.place;
+}
+
+static void make_image(uint32_t type)
+{
+    use_image(reference_write(BIAS_FORMAT, type, 0, 0, 0, count, &blocks[0][0], sizeof(block) * count, image,
+                              sizeof image));
+}
+
+static void make_plain_image(void)
+{
+    make_image(BIAS_TYPE_637);
+}
+
+/* The same with the landing blocks. */
+static void make_listed_image(void)
+{
+    use_image(reference_write_landings(BIAS_FORMAT_LANDINGS, BIAS_TYPE_637, 0, 0, 0, count, landings, landings_len,
+                                       &blocks[0][0], sizeof(block) * count, image, sizeof image));
+}
+
+/* So many landing blocks, from the first one on in equal steps. */
+static void put_landings(uint32_t number, uint32_t first, uint32_t apart)
+{
+    for (uint32_t at = 0; at < number; at++) {
+        landings[2 * at] = (uint8_t)((first + at * apart) % 256);
+        landings[2 * at + 1] = (uint8_t)((first + at * apart) / 256);
+    }
+    landings_len = 2 * number;
 }
 
 /* ---- printing ---- */
@@ -200,6 +230,33 @@ static void make_control(uint8_t code)
     make_image(BIAS_TYPE_637);
 }
 
+/* A jump by a variable to itself, at the last of so many landing blocks. */
+static void make_jumps(uint32_t number)
+{
+    put(0, 0x80, 0, (uint8_t)number, 0);
+    for (count = 1; count < number; count++)
+        put_jump(count, 0x55, number);
+    put(count++, 0x56, 0, 0, 0);
+    put_landings(number, 1, 1);
+    make_listed_image();
+}
+
+/* BIAS starts the PLC, which in a circle starts BIAS anew by a variable, at the last of the landing blocks. */
+static void make_pointers(void)
+{
+    count = 0;
+    put_jump(count++, 0x54, 2);
+    put_jump(count++, 0x55, 1);
+    put(count++, 0x80, 0, CIRCLE + BIAS_MOST_LANDINGS, 0);
+    while (count < CIRCLE)
+        put(count++, 0x5B, 0, 0, 0);
+    put_jump(count++, 0x55, 3);
+    while (count <= CIRCLE + BIAS_MOST_LANDINGS)
+        put(count++, 0x51, 1, 0, 0);
+    put_landings(BIAS_MOST_LANDINGS, CIRCLE + 1, 1);
+    make_listed_image();
+}
+
 /* Steps of one task from a state on. */
 typedef struct {
     const uint8_t *begin;
@@ -273,6 +330,22 @@ static void make_pair(void)
     put_jump(count++, 0x55, 0);
 }
 
+/* Jumps by a variable, and starts of BIAS by one; for these BIAS has started the PLC. */
+static void bench_jumps(void)
+{
+    uint8_t begin[BIAS_STATE_LENGTH];
+    make_jumps(1);
+    load_begin(begin);
+    bench_steps("jump by a variable 56, 1 landing block", begin, BIAS_TASK_BIAS);
+    make_jumps(BIAS_MOST_LANDINGS);
+    load_begin(begin);
+    bench_steps("jump by a variable 56, 64 landing blocks", begin, BIAS_TASK_BIAS);
+    make_pointers();
+    load_begin(begin);
+    reference_step(image, image_len, begin, sizeof begin, BIAS_TASK_BIAS, inputs, sizeof inputs, 0, 0, 0);
+    bench_steps("start of BIAS by a variable 5B", begin, BIAS_TASK_PLC);
+}
+
 static void bench_all_steps(void)
 {
     uint8_t begin[BIAS_STATE_LENGTH];
@@ -295,6 +368,9 @@ static void bench_all_steps(void)
     make_control(0x54);
     load_begin(begin);
     bench_steps("start of the PLC 54", begin, BIAS_TASK_BIAS);
+    bench_jumps();
+    make_control(0x54);
+    load_begin(begin);
     bench_steps("refused by 18", begin, BIAS_TASK_PLC);
     bench_steps("refused by 15", begin, 3);
     begin[BIAS_STATE_LENGTH - 1] = 1;
@@ -337,12 +413,11 @@ static void make_branches(void)
     put_jump(count++, 0x55, 0);
 }
 
-/* Starts the PLC and mathematics at block 2, where a ladder of calls leads to the common part at every depth. Gives the
- * common part's first block. */
-static uint32_t make_ladder(uint32_t entry_from_end)
+/* A ladder of calls that leads to a block at every depth, begun by the PLC and mathematics, which blocks 0 and 1 start. */
+enum { LADDER_LENGTH = 2 * (BIAS_MOST_DEPTH + 1) };
+
+static void put_ladder(uint32_t ladder, uint32_t entry)
 {
-    const uint32_t ladder = 2, common = ladder + 2 * (BIAS_MOST_DEPTH + 1);
-    const uint32_t entry = entry_from_end ? BIAS_MOST_BLOCKS - 1 : common;
     put_jump(0, 0x54, ladder);
     put_jump(1, 0x90, ladder);
     for (uint32_t depth = 0; depth <= BIAS_MOST_DEPTH; depth++) {
@@ -353,8 +428,16 @@ static uint32_t make_ladder(uint32_t entry_from_end)
             put(at, 0x50, 0, 0, 0);
         put_jump(at + 1, 0x55, entry);
     }
-    /* 54 and 90 are reached by BIAS alone, so PLC and mathematics begin at the ladder. */
     count = BIAS_MOST_BLOCKS;
+}
+
+/* BIAS, too, comes to the ladder, at block 2, and so to the common part at every depth. Gives the common part's first
+ * block. */
+static uint32_t make_ladder(uint32_t entry_from_end)
+{
+    const uint32_t ladder = 2, common = ladder + LADDER_LENGTH;
+    /* 54 and 90 are reached by BIAS alone, so PLC and mathematics begin at the ladder. */
+    put_ladder(ladder, entry_from_end ? BIAS_MOST_BLOCKS - 1 : common);
     return common;
 }
 
@@ -419,6 +502,35 @@ static void make_both_ways(void)
     put_jump(BIAS_MOST_BLOCKS - 1, 0x55, BIAS_MOST_BLOCKS - 2);
 }
 
+/* As many landing blocks as there may be, over all blocks from one on; gives how far apart. */
+static uint32_t spread_landings(uint32_t first)
+{
+    const uint32_t apart = (BIAS_MOST_BLOCKS - first) / BIAS_MOST_LANDINGS;
+    put_landings(BIAS_MOST_LANDINGS, first, apart);
+    return apart;
+}
+
+/* All blocks at all depths in three tasks: from each landing block on to a jump by a variable, which leads to all of
+ * them. */
+static void make_landings(void)
+{
+    const uint32_t common = make_ladder(0), apart = spread_landings(common);
+    for (uint32_t at = common; at < BIAS_MOST_BLOCKS; at++)
+        put(at, (at - common) % apart == apart - 1 || at + 1 == BIAS_MOST_BLOCKS ? 0x56 : 0x50, 0, 0, 0);
+}
+
+/* Starts of BIAS by a variable, at all depths of the two other tasks; BIAS jumps by one from each landing block. */
+static void make_landed(void)
+{
+    enum { LADDER = 3, FIRST = LADDER + LADDER_LENGTH, COMMON = FIRST + BIAS_MOST_LANDINGS };
+    put_ladder(LADDER, COMMON);
+    put_jump(LADDER - 1, 0x55, LADDER - 1);
+    for (uint32_t at = FIRST; at < BIAS_MOST_BLOCKS - 1; at++)
+        put(at, at < COMMON ? 0x56 : 0x5B, 0, 0, 0);
+    put_jump(BIAS_MOST_BLOCKS - 1, 0x55, COMMON);
+    put_landings(BIAS_MOST_LANDINGS, FIRST, 1);
+}
+
 /* ---- hard images: what makes a search go far, by a seed ---- */
 
 /* Branches and jumps from anywhere to anywhere, at all depths in three tasks. */
@@ -432,6 +544,16 @@ static void make_random(void)
         else
             put_jump(at, 0x55, to);
     }
+}
+
+/* The same with jumps by a variable among them. */
+static void make_random_landings(void)
+{
+    make_random();
+    spread_landings(2 + LADDER_LENGTH);
+    for (uint32_t at = 2 + LADDER_LENGTH; at < BIAS_MOST_BLOCKS; at++)
+        if (next_random() % 8 == 0)
+            put(at, 0x56, 0, 0, 0);
 }
 
 /* Each block of the lower half may go to one near the far end, which leads back behind it. */
@@ -462,9 +584,11 @@ static void make_waves(void)
 
 static const struct {
     const char *name;
-    void (*make)(void);
+    void (*make)(void), (*write)(void);
 } hard_images[] = {
-    {"random", make_random}, {"far and back", make_far_and_back}, {"shuffled", make_shuffled}, {"waves", make_waves},
+    {"random", make_random, make_plain_image}, {"far and back", make_far_and_back, make_plain_image},
+    {"shuffled", make_shuffled, make_plain_image}, {"waves", make_waves, make_plain_image},
+    {"random landings", make_random_landings, make_listed_image},
 };
 
 /* Some of each kind, and behind them one that somebody may have found. */
@@ -501,7 +625,7 @@ static int make_hard(int number, const char *program, char *name)
     }
     random_state = (uint32_t)seed;
     hard_images[kind].make();
-    make_image(BIAS_TYPE_637);
+    hard_images[kind].write();
     snprintf(name, NAME_ROOM, "hard load, %s %d", hard_images[kind].name, seed);
     return 1;
 }
@@ -530,11 +654,11 @@ static void time_load(const char *name, double *figures)
         worst_load_ratio = figures[0] / figures[1];
 }
 
-static void bench_load(const char *name, void (*make)(void))
+static void bench_load(const char *name, void (*make)(void), void (*write)(void))
 {
     double figures[SIDES];
     make();
-    make_image(BIAS_TYPE_637);
+    write();
     load_begin(state);
     if (!timed_row(name, do_loads, NULL, 1))
         return;
@@ -585,15 +709,17 @@ static void bench_worst(const char *program)
 static void bench_all_loads(const char *program)
 {
     print_head("a load of 1,500 blocks, or as many as it says", "us");
-    bench_load("one block", make_one);
-    bench_load("load of 2 blocks", make_pair);
-    bench_load("straight code", make_straight);
-    bench_load("branches everywhere", make_branches);
-    bench_load("calls at all depths in three tasks", make_calls);
-    bench_load("all places, backwards", make_backwards);
-    bench_load("all places, zigzag", make_zigzag);
-    bench_load("all places, shuffled", make_shuffled);
-    bench_load("all places, both ways", make_both_ways);
+    bench_load("one block", make_one, make_plain_image);
+    bench_load("load of 2 blocks", make_pair, make_plain_image);
+    bench_load("straight code", make_straight, make_plain_image);
+    bench_load("branches everywhere", make_branches, make_plain_image);
+    bench_load("calls at all depths in three tasks", make_calls, make_plain_image);
+    bench_load("all places, backwards", make_backwards, make_plain_image);
+    bench_load("all places, zigzag", make_zigzag, make_plain_image);
+    bench_load("all places, shuffled", make_shuffled, make_plain_image);
+    bench_load("all places, both ways", make_both_ways, make_plain_image);
+    bench_load("all places, by 64 landing blocks", make_landings, make_listed_image);
+    bench_load("5B at all depths, 64 landing blocks", make_landed, make_listed_image);
     bench_worst(program);
 }
 
@@ -607,10 +733,18 @@ static void do_writes(const side *s, const void *what, int writes)
                             sizeof(block) * *blocks_count, image, sizeof image).number;
 }
 
-static void bench_writes(uint32_t blocks_count, const char *name)
+static void do_listed_writes(const side *s, const void *what, int writes)
+{
+    const uint32_t *blocks_count = what;
+    for (int at = 0; at < writes; at++)
+        answers += s->write_landings(BIAS_FORMAT_LANDINGS, BIAS_TYPE_637, 0, 0, 0, *blocks_count, landings, landings_len,
+                                     &blocks[0][0], sizeof(block) * *blocks_count, image, sizeof image).number;
+}
+
+static void bench_writes(uint32_t blocks_count, const char *name, calling call)
 {
     double figures[SIDES];
-    time_calls(do_writes, &blocks_count, WRITES_A_ROUND, figures);
+    time_calls(call, &blocks_count, WRITES_A_ROUND, figures);
     print_row(name, figures);
 }
 
@@ -618,7 +752,7 @@ static void bench_writes(uint32_t blocks_count, const char *name)
 
 enum { STACK_LENGTH = 1 << 18, PAINT = 0x5C };
 
-typedef enum { DO_NOTHING, DO_LOAD, DO_STEP, DO_WRITE } deed;
+typedef enum { DO_NOTHING, DO_LOAD, DO_STEP, DO_WRITE, DO_WRITE_LANDINGS } deed;
 
 typedef struct {
     const side *side;
@@ -634,6 +768,8 @@ static void do_errand(const errand *e)
     else if (e->deed == DO_WRITE)
         answers += e->side->write(BIAS_FORMAT, 2, 0, 0, 0, count, &blocks[0][0], sizeof(block) * count, image,
                                   sizeof image).number;
+    else if (e->deed == DO_WRITE_LANDINGS)
+        do_listed_writes(e->side, &count, 1);
 }
 
 static void *on_thread(void *argument)
@@ -697,15 +833,18 @@ static void stack_of_steps(size_t *deepest)
 
 static void bench_stacks(void)
 {
-    size_t load[SIDES], write[SIDES], step[SIDES] = {0, 0};
+    size_t load[SIDES], write[SIDES], write_landings[SIDES], step[SIDES] = {0, 0};
     static const uint8_t controls[] = {0x51, 0x52, 0x54};
     printf("\n%-44s %12s %12s %8s   (bytes)\n", "stack", sides[0].name, sides[1].name, "");
-    make_zigzag();
-    make_image(BIAS_TYPE_637);
+    make_landings();
+    make_listed_image();
     for (int at = 0; at < SIDES; at++) {
         load[at] = stack_of(&sides[at], DO_LOAD);
+        write_landings[at] = stack_of(&sides[at], DO_WRITE_LANDINGS);
         write[at] = stack_of(&sides[at], DO_WRITE);
     }
+    make_jumps(BIAS_MOST_LANDINGS);
+    stack_of_steps(step);
     for (size_t at = 0; at < sizeof groups / sizeof groups[0]; at++) {
         make_circle(&groups[at]);
         stack_of_steps(step);
@@ -717,6 +856,7 @@ static void bench_stacks(void)
     print_stack("bias_load", load);
     print_stack("bias_step, the deepest of all groups", step);
     print_stack("bias_write", write);
+    print_stack("bias_write_landings", write_landings);
 }
 
 /* ---- size, and the whole ---- */
@@ -779,8 +919,10 @@ int main(int argc, char **argv)
     bench_all_steps();
     bench_all_loads(argv[0]);
     print_head("a write", "ns");
-    bench_writes(14, "14 blocks");
-    bench_writes(BIAS_MOST_BLOCKS, "1,500 blocks");
+    bench_writes(14, "14 blocks", do_writes);
+    bench_writes(BIAS_MOST_BLOCKS, "1,500 blocks", do_writes);
+    make_landings();
+    bench_writes(BIAS_MOST_BLOCKS, "1,500 blocks, 64 landing blocks", do_listed_writes);
     bench_stacks();
     if (argc == at + 2) {
         printf("\n%-44s %12.0f %12.0f            (bytes)\n", "archive", file_length(argv[at]), file_length(argv[at + 1]));

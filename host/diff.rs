@@ -117,8 +117,9 @@ fn compare(options: &Options) -> Result<(), String> {
     println!("seed {}, {number} cases, {:.1} s", options.seed, begun.elapsed().as_secs_f64());
     let missing = tally.report();
     if missing.is_empty() {
-        println!("no difference; all 57 commands carried out, all numbers 0 to 20 and 23 met,");
-        println!("58s that passed and that a move held back, halts right behind a move, all ends of ranges");
+        println!("no difference; all 59 commands carried out, all numbers 0 to 23 met,");
+        println!("58s that passed and that a move held back, halts right behind a move, jumps by a variable,");
+        println!("all ends of ranges");
         return Ok(());
     }
     Err(format!("not all was met: {}", missing.join(", ")))
@@ -137,7 +138,7 @@ fn random_case(seed: u64, number: u64, tally: &mut Tally) -> Result<(), String> 
         let writing = writer::random_writing(&mut random);
         if let Err(what) = writing.run(tally) {
             writing.shrunk().print();
-            return Err(format!("case {number}: bias_write differs: {what}"));
+            return Err(format!("case {number}: {} differs: {what}", writing.function()));
         }
     }
     Ok(())

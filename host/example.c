@@ -19,7 +19,8 @@ enum { WAIT_FOR_POSITION = 0x58 };
 
 /* Where a trace finds the rest of the state (docs/STATE.md). Firmware has no need of these: they may move. */
 enum {
-    AT_HEADER = BIAS_STATE_LAYOUT_AT + 1, AT_POSITION = AT_HEADER + 8, AT_SPEED = AT_POSITION + 4,
+    AT_HEADER = BIAS_STATE_LAYOUT_AT + 1, AT_LANDING_COUNT = AT_HEADER + 8, AT_LANDINGS = AT_LANDING_COUNT + 1,
+    AT_POSITION = AT_LANDINGS + 2 * BIAS_MOST_LANDINGS, AT_SPEED = AT_POSITION + 4,
     AT_ACCELERATION = AT_SPEED + 2, AT_DECELERATION = AT_ACCELERATION + 2, AT_START_MARK = AT_DECELERATION + 2,
     AT_START_LEVEL = AT_START_MARK + 1, AT_MOVED = AT_START_LEVEL + 1, AT_STARTS = AT_MOVED + 1,
     AT_TASKS = AT_STARTS + 4, IN_TASK_DEPTH = 1, IN_TASK_BLOCK = 2, IN_TASK_STACK = 4,
@@ -331,6 +332,19 @@ static void print_summary(const run *program)
                (unsigned long)program->script.count);
 }
 
+/* What was loaded, with the landing blocks of a format that has them. */
+static void print_loaded(const run *program, const char *name)
+{
+    const uint8_t *header = program->state + AT_HEADER;
+    printf("%s: accepted, %lu bytes, drive %s, program start %u, %u blocks", name, (unsigned long)program->image_len,
+           listing_type(header[1]), word(header + 4), word(header + 6));
+    if (header[0] == BIAS_FORMAT_LANDINGS)
+        printf(", landing blocks%s", program->state[AT_LANDING_COUNT] == 0 ? " none" : "");
+    for (unsigned n = 0; n < program->state[AT_LANDING_COUNT]; n++)
+        printf("%s %u", n == 0 ? "" : ",", word(program->state + AT_LANDINGS + 2 * n));
+    printf("\n");
+}
+
 /* Gives an exit status. */
 static int load(run *program, const char *name)
 {
@@ -343,9 +357,7 @@ static int load(run *program, const char *name)
                                      sizeof program->state);
     free(marks);
     if (verdict.number == BIAS_SUCCESS) {
-        printf("%s: accepted, %lu bytes, drive %s, program start %u, %u blocks\n", name, (unsigned long)program->image_len,
-               listing_type(program->state[AT_HEADER + 1]), word(program->state + AT_HEADER + 4),
-               word(program->state + AT_HEADER + 6));
+        print_loaded(program, name);
         return EXIT_SUCCESS;
     }
     fprintf(stderr, "%s: refused by %u at %s %llu", name, (unsigned)verdict.number, listing_place(verdict.number),

@@ -1,8 +1,8 @@
 /* fuzz.c - the C border under odd lengths and contents. Every lent buffer ends (or begins) at a page that must not be
  * touched, lies at any alignment, and has guard bytes around it; buffers that are only read are write-protected during
  * the call. Each call is done twice at different places and must answer and leave the same. Programs are for every
- * drive type and up to the longest. The run fails where a number that a function can answer was not met, or where no
- * longest image of some type was accepted, refused, stepped or written. To be built with
+ * drive type, of both formats and up to the longest. The run fails where a number that a function can answer was not
+ * met, or where no longest image of some type was accepted, refused, stepped or written. To be built with
  * -fsanitize=address,undefined. Usage: fuzz [--seed S] [--calls N]
  */
 #define _DEFAULT_SOURCE
@@ -107,15 +107,15 @@ static void region_check(const region *r, const char *what)
 
 /* ---- what is lent ---- */
 
-enum { MOST_CONTENT = 65536 };
+enum { MOST_CONTENT = 65536, MOST_LIST = 4096 };
 
 typedef struct {
     uint8_t bytes[MOST_CONTENT];
     size_t length;
 } content;
 
-static content image, marks, state, inputs, blocks, out;
-static region image_region, marks_region, state_region, inputs_region, blocks_region, out_region;
+static content image, marks, state, inputs, landings, blocks, out;
+static region image_region, marks_region, state_region, inputs_region, landings_region, blocks_region, out_region;
 
 static void content_fill(content *c, size_t length)
 {
@@ -153,9 +153,10 @@ typedef struct {
     unsigned long met[HIGHEST_NUMBER + 1];
 } function;
 
-static function load = {"load", {0, 1, 2, 3, 4, 5, 6, 7, 8, 9, 10, 11, 12, 13, 16, 23}, 16, {0}};
-static function step = {"step", {0, 15, 16, 17, 18, 19, 20}, 7, {0}};
+static function load = {"load", {0, 1, 2, 3, 4, 5, 6, 7, 8, 9, 10, 11, 12, 13, 16, 21, 23}, 17, {0}};
+static function step = {"step", {0, 15, 16, 17, 18, 19, 20, 22}, 8, {0}};
 static function writing = {"write", {0, 1, 3, 4, 14}, 5, {0}};
+static function writing_landings = {"write of landings", {0, 1, 3, 4, 14, 21}, 6, {0}};
 
 static void meet(function *f, uint32_t number)
 {
@@ -194,15 +195,17 @@ static const drive drives[TYPES] = {
     {BIAS_TYPE_637F, BIAS_SLOT_B_RP_2C8, BIAS_SLOT_C_RP_SBT, 91, 125},
 };
 
-enum { INPUT = 1, OUTPUT = 2, BEHIND = 23, LEAST_BLOCKS = BEHIND + 1 };
+enum { INPUT = 1, OUTPUT = 2, AIM = 6, BEHIND = 25, LEAST_BLOCKS = BEHIND + 1 };
 
-/* A program with all three tasks, calls, waits, pins, a division and a parameter that can halt. Blocks count from its
- * own beginning; each task goes on in what stands behind it. INPUT and OUTPUT are the drive's. */
+/* A program with all three tasks, calls, waits, pins, a division, a parameter and a jump by a variable that can halt.
+ * Blocks count from its own beginning; each task goes on in what stands behind it. INPUT and OUTPUT are the drive's;
+ * block 0 sets variable AIM, mostly to a landing block. */
 static const uint8_t program[BEHIND][BIAS_BLOCK_LENGTH] = {
-    {0x54, 10}, {0x90, 14}, {0x52, 18}, {0x80, 4, 100}, {0x31, 4}, {0x0E}, {0x01}, {0x58}, {0x59, 3}, {0x55, BEHIND},
-    {0x72, OUTPUT, 1}, {0x63, 1, INPUT}, {0x57, 2}, {0x55, BEHIND},
+    {0x80, AIM}, {0x54, 11}, {0x90, 16}, {0x52, 20}, {0x80, 4, 100}, {0x31, 4}, {0x0E}, {0x01}, {0x58}, {0x59, 3},
+    {0x55, BEHIND},
+    {0x72, OUTPUT, 1}, {0x63, 1, INPUT}, {0x57, 3}, {0x5B, AIM}, {0x55, BEHIND},
     {0x82, 1, 1, 1}, {0x8D, 2, 1, 1}, {0x8A, 4, 4, 2}, {0x55, BEHIND},
-    {0x20, 1, 2, 3, 4}, {0x52, 21}, {0x53},
+    {0x20, 1, 2, 3, 4}, {0x52, 23}, {0x53},
     {0x86, 3, 0, 32}, {0x53},
 };
 
@@ -211,7 +214,7 @@ static const uint8_t filling[][BIAS_BLOCK_LENGTH] = {
     {0x50}, {0x51, 0}, {0x40, 0}, {0x43, 1}, {0x55}, {0x60, 1, 1}, {0x61, 1, 0, 1}, {0x65, 1, 2, 3}, {0x68, 2, 1},
     {0x63, 2, INPUT}, {0x64, 3, OUTPUT}, {0x70, INPUT, 0, 1}, {0x71, OUTPUT, 1, 1}, {0x72, OUTPUT, 1},
     {0x73, OUTPUT, 1}, {0x80, 1, 0}, {0x80, 4, 200}, {0x81, 1, 3, 0, 0, 0, 0x30}, {0x82, 1, 2, 255}, {0x85, 2, 1, 7},
-    {0x88, 5, 4}, {0x89, 1, 2, 2}, {0x8B, 4, 1, 2}, {0x8C, 3, 3, 4},
+    {0x88, 5, 4}, {0x89, 1, 2, 2}, {0x8B, 4, 1, 2}, {0x8C, 3, 3, 4}, {0x56, AIM},
 };
 
 static void put_address(uint8_t *b, uint32_t address)
@@ -255,6 +258,37 @@ static void put_odd(uint8_t *first, uint32_t count)
     put_address(first + BIAS_BLOCK_LENGTH * at, at);
 }
 
+/* The block of the filling that has so many before it. */
+static uint32_t filling_block(uint32_t before, uint32_t start)
+{
+    return before < start ? before : before + BEHIND;
+}
+
+/* Landing blocks of the filling, one behind the other: as many as there may be, each of two bytes where the program is
+ * long enough, or fewer. */
+static void draw_landings(uint32_t start, uint32_t count)
+{
+    const uint32_t all = count - BEHIND, most = all < BIAS_MOST_LANDINGS ? all : BIAS_MOST_LANDINGS;
+    const uint32_t number = random_below(2) == 0 ? most : (uint32_t)random_below(most + 1);
+    const uint32_t low = all > 128 + number ? 128 : 0, first = low + (uint32_t)random_below(all - low - number + 1);
+    for (uint32_t at = 0; at < number; at++) {
+        const uint32_t block = filling_block(first + at, start);
+        landings.bytes[2 * at] = (uint8_t)(block % 256);
+        landings.bytes[2 * at + 1] = (uint8_t)(block / 256);
+    }
+    landings.length = 2 * number;
+}
+
+/* 80: a landing block, now and then another number. */
+static void put_aim(uint8_t *b)
+{
+    const size_t at = landings.length == 0 ? 0 : 2 * random_below(landings.length / 2);
+    const int odd = random_below(8) == 0;
+    for (size_t byte = 0; byte < 2 && landings.length != 0; byte++)
+        b[2 + byte] = landings.bytes[at + byte];
+    b[4 + random_below(2)] = (uint8_t)(odd ? random_below(256) : 0);
+}
+
 /* The program from block `start` on, filling on both sides of it. A walk comes into it by its beginning alone: filling
  * leads to filling, and the block before it and the last one return to a start. */
 static void make_blocks(uint32_t start, uint32_t count, const drive *d)
@@ -265,13 +299,15 @@ static void make_blocks(uint32_t start, uint32_t count, const drive *d)
         const size_t drawn = turns ? 1 : random_below(sizeof filling / sizeof filling[0]);
         const uint32_t other = (uint32_t)random_below(count - BEHIND);
         memcpy(b, inside ? program[at - start] : filling[drawn], BIAS_BLOCK_LENGTH);
-        put_address(b, inside ? start + b[1] : other < start ? other : other + BEHIND);
+        put_address(b, inside ? start + b[1] : filling_block(other, start));
         put_pins(b, d);
     }
+    put_aim(blocks.bytes + BIAS_BLOCK_LENGTH * start);
     blocks.length = BIAS_BLOCK_LENGTH * count;
 }
 
-/* Few blocks, or any number, or the most, with a start that takes two bytes: the longest image. */
+/* Few blocks, or any number, or the most, with a start that takes two bytes: with the most landing blocks the longest
+ * image. */
 static void draw_size(uint32_t *start, uint32_t *count)
 {
     const size_t way = random_below(4);
@@ -285,20 +321,27 @@ static void draw_size(uint32_t *start, uint32_t *count)
 static void draw_image(void)
 {
     const drive *d = &drives[random_below(TYPES)];
-    const int bare = random_below(8) == 0;
+    const int bare = random_below(8) == 0, listed = random_below(4) != 0;
+    const uint32_t slot_b = bare ? 0 : d->slot_b, slot_c = bare ? 0 : d->slot_c;
     const size_t way = random_below(8);
     uint32_t start, count;
     draw_size(&start, &count);
+    landings.length = 0;
+    if (listed)
+        draw_landings(start, count);
     make_blocks(start, count, d);
     if (way == 0)
         put_odd(blocks.bytes, count);
-    bias_verdict verdict = bias_write(BIAS_FORMAT, d->type, bare ? 0 : d->slot_b, bare ? 0 : d->slot_c, start, count,
-                                      blocks.bytes, blocks.length, image.bytes, sizeof image.bytes);
+    bias_verdict verdict = listed
+        ? bias_write_landings(BIAS_FORMAT_LANDINGS, d->type, slot_b, slot_c, start, count, landings.bytes,
+                              landings.length, blocks.bytes, blocks.length, image.bytes, sizeof image.bytes)
+        : bias_write(BIAS_FORMAT, d->type, slot_b, slot_c, start, count, blocks.bytes, blocks.length, image.bytes,
+                     sizeof image.bytes);
     check(verdict.number == BIAS_SUCCESS, "the program was not written");
     image.length = (size_t)verdict.place;
     switch (way) {
     case 1: content_damage(&image, image.length); break;
-    case 2: content_damage(&image, 8); break;
+    case 2: content_damage(&image, random_below(2) == 0 ? 8 : 9 + landings.length); break;
     case 3: image.length = random_below(image.length + 1); break;
     case 4: image.length += random_below(20); break;
     case 5: content_fill(&image, random_below(64)); break;
@@ -464,18 +507,27 @@ static void fuzz_step(void)
 
 /* ---- writes ---- */
 
+/* `listed` is for the writer of landing blocks. */
 typedef struct {
     uint32_t format, type, slot_b, slot_c, start, count;
+    int listed;
 } header;
 
 static bias_verdict place_and_write(int at_end, header h)
 {
     const size_t away = random_below(8);
+    region_place(&landings_region, landings.bytes, landings.length, at_end, at_end ? 0 : away);
     region_place(&blocks_region, blocks.bytes, blocks.length, at_end, 0);
     region_place(&out_region, out.bytes, out.length, at_end, at_end ? 0 : away);
+    region_lock(&landings_region);
     region_lock(&blocks_region);
-    bias_verdict verdict = bias_write(h.format, h.type, h.slot_b, h.slot_c, h.start, h.count, blocks_region.bytes,
-                                      blocks_region.length, out_region.bytes, out_region.length);
+    bias_verdict verdict = h.listed
+        ? bias_write_landings(h.format, h.type, h.slot_b, h.slot_c, h.start, h.count, landings_region.bytes,
+                              landings_region.length, blocks_region.bytes, blocks_region.length, out_region.bytes,
+                              out_region.length)
+        : bias_write(h.format, h.type, h.slot_b, h.slot_c, h.start, h.count, blocks_region.bytes, blocks_region.length,
+                     out_region.bytes, out_region.length);
+    region_unlock(&landings_region);
     region_unlock(&blocks_region);
     region_check(&out_region, "wrote outside the image");
     return verdict;
@@ -495,18 +547,35 @@ static uint32_t odd_number(uint32_t right)
     return random_below(10) == 0 ? (uint32_t)random_next() >> random_below(32) : right;
 }
 
+/* A landing list for a program of so many blocks: good, damaged, of an odd length, or too long. */
+static void draw_list(uint32_t count)
+{
+    const int too_long = random_below(16) == 0;
+    landings.length = 0;
+    if (count > BEHIND && count <= BIAS_MOST_BLOCKS)
+        draw_landings(count - BEHIND, count);
+    if (random_below(8) == 0)
+        content_damage(&landings, landings.length);
+    if (random_below(8) == 0)
+        content_fill(&landings, too_long ? random_below(MOST_LIST) : odd_length(2 * BIAS_MOST_LANDINGS));
+}
+
 static void fuzz_write(void)
 {
     const uint32_t most = BIAS_MOST_BLOCKS;
+    const int listed = random_below(3) != 0;
+    const uint32_t format = listed ? BIAS_FORMAT_LANDINGS : BIAS_FORMAT;
     const uint32_t count = odd_number(random_below(4) == 0 ? most : (uint32_t)random_below(most) + 1);
     const size_t right = BIAS_BLOCK_LENGTH * (size_t)(count <= most + 100 ? count : most + 100);
-    header h = {odd_number(BIAS_FORMAT), odd_number((uint32_t)random_below(TYPES)), odd_number(0), odd_number(0),
-                odd_number((uint32_t)random_below(count < most ? count + 1 : most)), count};
+    header h = {odd_number(format), odd_number((uint32_t)random_below(TYPES)), odd_number(0), odd_number(0),
+                odd_number((uint32_t)random_below(count < most ? count + 1 : most)), count, listed};
+    draw_list(listed ? count : 0);
+    const size_t room = right + 8 + (listed ? 1 + landings.length : 0);
     content_fill(&blocks, random_below(4) == 0 ? odd_length(right + 1) : right);
-    content_fill(&out, random_below(2) == 0 ? odd_length(right + 7) : right + 8);
+    content_fill(&out, random_below(2) == 0 ? odd_length(room - 1) : room);
     bias_verdict first = place_and_write(1, h);
     check_write(first);
-    meet(&writing, first.number);
+    meet(listed ? &writing_landings : &writing, first.number);
     if (first.number == BIAS_SUCCESS)
         meet_longest((size_t)first.place, h.type, WRITTEN);
     bias_verdict second = place_and_write(0, h);
@@ -537,6 +606,9 @@ static void fuzz_huge(void)
     check(verdict.number == BIAS_LEFT_OVER && verdict.place == HUGE, "huge blocks");
     verdict = bias_write(1, 2, 0, 0, 0, 1, blocks.bytes, BIAS_BLOCK_LENGTH, huge, HUGE);
     check(verdict.number == BIAS_SUCCESS && verdict.place == 6 + BIAS_BLOCK_LENGTH, "huge room");
+    verdict = bias_write_landings(2, 2, 0, 0, 0, 1, huge, HUGE, blocks.bytes, BIAS_BLOCK_LENGTH, out.bytes,
+                                  sizeof out.bytes);
+    check(verdict.number == BIAS_BAD_LANDINGS && verdict.place == 6, "huge landings");
     memcpy(huge, (const uint8_t[]){1, 2, 0, 0, 0, 1, 0x55, 0, 0, 0, 0, 0, 0, 0}, 14);
     verdict = bias_load(huge, HUGE, marks.bytes, BIAS_MARKS_LENGTH, state.bytes, BIAS_STATE_LENGTH);
     check(verdict.number == BIAS_LEFT_OVER && verdict.place == 14, "a huge image with a good front");
@@ -551,8 +623,9 @@ static void open_regions(void)
     region_open(&marks_region, MOST_CONTENT + 8);
     region_open(&state_region, 2 * BIAS_STATE_LENGTH + 8);
     region_open(&inputs_region, 2 * BIAS_INPUTS_LENGTH + 8);
+    region_open(&landings_region, MOST_LIST + 8);
     region_open(&blocks_region, 32768);
-    region_open(&out_region, 32768);
+    region_open(&out_region, 2 * 32768);
     content_fill(&marks, sizeof marks.bytes);
 }
 
@@ -616,7 +689,8 @@ int main(int argc, char **argv)
         else
             fuzz_write();
     }
-    const int missed = tell_numbers(&load) + tell_numbers(&step) + tell_numbers(&writing) + tell_longest();
+    const int missed = tell_numbers(&load) + tell_numbers(&step) + tell_numbers(&writing)
+        + tell_numbers(&writing_landings) + tell_longest();
     unsigned long accepted = 0;
     for (unsigned type = 0; type < TYPES; type++)
         accepted += longest[type][ACCEPTED];

@@ -1,7 +1,7 @@
 /* imagecheck.c - holds the library to the table of listing.c, of which docs/IMAGE.md is made: which codes are carried,
  * the ends of each operand's range and what is beyond them, unused bytes, drives, boards and pins, tasks, what a
- * variable may hold, and what a time counts. Prints how much it tried; the status is 0 if all is as the table says and
- * each number that it looks for was met.
+ * variable may hold, a landing block included, and what a time counts. Prints how much it tried; the status is 0 if all
+ * is as the table says and each number that it looks for was met.
  */
 #include <stdarg.h>
 #include <stdio.h>
@@ -16,9 +16,11 @@ typedef struct {
     uint32_t type, slot_b, slot_c;
 } drive;
 
-/* A program to lend: its drive and its blocks. */
+/* A program to lend: its drive, its landing blocks as bytes if it is of format 2, and its blocks. */
 typedef struct {
     drive on;
+    const uint8_t *landings; /* NULL for format 1 */
+    size_t landings_len;
     unsigned count;
     uint8_t blocks[BIAS_MOST_BLOCKS][BIAS_BLOCK_LENGTH];
 } program;
@@ -46,9 +48,13 @@ static void complain(const char *format, ...)
 /* Writes a program as an image and loads it; a refusal of the writer is the verdict then. */
 static bias_verdict load(const program *it)
 {
-    const bias_verdict written = bias_write(BIAS_FORMAT, it->on.type, it->on.slot_b, it->on.slot_c, 0, it->count,
-                                            &it->blocks[0][0], (size_t)BIAS_BLOCK_LENGTH * it->count, image,
-                                            sizeof image);
+    const drive *on = &it->on;
+    const size_t length = (size_t)BIAS_BLOCK_LENGTH * it->count;
+    const bias_verdict written = it->landings == NULL
+        ? bias_write(BIAS_FORMAT, on->type, on->slot_b, on->slot_c, 0, it->count, &it->blocks[0][0], length, image,
+                     sizeof image)
+        : bias_write_landings(BIAS_FORMAT_LANDINGS, on->type, on->slot_b, on->slot_c, 0, it->count, it->landings,
+                              it->landings_len, &it->blocks[0][0], length, image, sizeof image);
     loads++;
     image_len = (size_t)written.place;
     return written.number != BIAS_SUCCESS
@@ -210,6 +216,7 @@ enum { TRIED = 1 };
 static void make_frame(program *it, const drive *on, unsigned count)
 {
     it->on = *on;
+    it->landings = NULL;
     it->count = count;
     for (unsigned block = 0; block < count; block++)
         make_jump(it, block, block);
@@ -424,13 +431,15 @@ static void check_end_modes(program *it, unsigned task, const listing_operand *m
     }
 }
 
-/* The task starts, calls, and comes to the command. Variables are 0, so some commands halt. */
+/* The task starts, calls, and comes to the command. Variables are 0 and there are no landing blocks, so some commands
+ * halt. */
 static void check_executed(uint32_t task, const listing_command *command)
 {
     step(BIAS_TASK_BIAS);
     step(task);
     const uint32_t number = step(task);
-    if (number != BIAS_SUCCESS && number != BIAS_ZERO_DIVISOR && number != BIAS_BAD_CONTENT)
+    if (number != BIAS_SUCCESS && number != BIAS_ZERO_DIVISOR && number != BIAS_BAD_CONTENT
+        && number != BIAS_NO_LANDING)
         complain("%02X by %s: the step is refused by %lu", command->code, listing_task(task), (unsigned long)number);
 }
 
@@ -490,6 +499,49 @@ static void check_content(program *it, const listing_command *command, const lis
     }
 }
 
+/* A program of format 2 in which a task sets variable 0 and then reads it as a landing block. Block LIT sets flag 0, all
+ * others jump to themselves. */
+enum { SETS = 2, READS = 3, LIT = 5, LAST = 6, LANDING_BLOCKS = 7 };
+
+static void make_landing_frame(program *it, unsigned task, uint8_t code, int64_t number)
+{
+    static const uint8_t landings[] = {1, 0, LIT, 0, LAST, 0}, starts[TASKS] = {0x55, 0x54, 0x90};
+    static const listing_operand constant = {LISTING_CONSTANT, LISTING_LONG, 2, LISTING_NO_OPERAND};
+    const uint8_t start[BIAS_BLOCK_LENGTH] = {starts[task], SETS}, set[BIAS_BLOCK_LENGTH] = {0x80};
+    const uint8_t read[BIAS_BLOCK_LENGTH] = {code}, light[BIAS_BLOCK_LENGTH] = {0x60, 0, 1};
+    make_frame(it, &plain_637, LANDING_BLOCKS);
+    it->landings = landings;
+    it->landings_len = sizeof landings;
+    memcpy(it->blocks[0], start, sizeof start);
+    memcpy(it->blocks[SETS], set, sizeof set);
+    put(it->blocks[SETS], &constant, number);
+    memcpy(it->blocks[READS], read, sizeof read);
+    memcpy(it->blocks[LIT], light, sizeof light);
+}
+
+/* Which contents 56 and 5B take in a task, and that they lead there: 56 the task itself, 5B BIAS. */
+static void check_landings(program *it, const listing_command *command, uint32_t task)
+{
+    static const int64_t contents[] = {-1, 0, 1, 2, 4, LIT, LAST, LAST + 1, 1500, 65535, 65536, 65536 + LIT, LIT - 65536,
+                                       INT32_MIN, INT32_MAX};
+    const bias_verdict accepted = {0, BIAS_SUCCESS, 0, 0};
+    const uint32_t led = command->tasks >> BIAS_TASK_BIAS & 1 ? task : BIAS_TASK_BIAS;
+    for (unsigned n = 0; n < sizeof contents / sizeof contents[0]; n++) {
+        const int64_t content = contents[n];
+        const uint32_t expected = content == 1 || content == LIT || content == LAST ? BIAS_SUCCESS : BIAS_NO_LANDING;
+        make_landing_frame(it, task, command->code, content);
+        expect(it, READS, "landing block", accepted);
+        step(BIAS_TASK_BIAS);
+        step(task);
+        const uint32_t got = step(task);
+        met[BIAS_NO_LANDING] += got == BIAS_NO_LANDING;
+        step(led);
+        if (got != expected || (state[BIAS_STATE_FLAGS] != 0) != (content == LIT))
+            complain("%02X by %s with content %lld: %lu, flag %u", command->code, listing_task(task),
+                     (long long)content, (unsigned long)got, state[BIAS_STATE_FLAGS]);
+    }
+}
+
 /* How many more steps a wait of `time` ms takes after the one that meets it: so many cycles are at least that time. */
 static unsigned long turns(const drive *on, uint64_t time)
 {
@@ -534,7 +586,10 @@ static void check_steps(program *it)
         const listing_command *command = listing_command_of((uint8_t)code);
         const listing_operand *operand = command == NULL ? NULL : command->operands;
         for (; operand != NULL && operand->kind != LISTING_NO_OPERAND; operand++) {
-            if (operand->kind == LISTING_VARIABLE)
+            for (uint32_t task = 0; task < TASKS; task++)
+                if (operand->content == LISTING_LANDING && (command->tasks >> task & 1))
+                    check_landings(it, command, task);
+            if (operand->kind == LISTING_VARIABLE && operand->content != LISTING_LANDING)
                 check_content(it, command, operand);
             for (uint32_t type = 0; type < TYPES; type++)
                 if (is_time(operand->kind) || is_time(operand->content))
@@ -547,7 +602,8 @@ int main(void)
 {
     static program it;
     static const uint32_t sought[] = {BIAS_SUCCESS, BIAS_BAD_HEADER, BIAS_BAD_CODE, BIAS_NOT_ON_DRIVE, BIAS_BAD_OPERAND,
-                                      BIAS_UNUSED_NOT_ZERO, BIAS_FORBIDDEN, BIAS_BAD_CONTENT, BIAS_BOARD_MISSING};
+                                      BIAS_UNUSED_NOT_ZERO, BIAS_FORBIDDEN, BIAS_BAD_CONTENT, BIAS_NO_LANDING,
+                                      BIAS_BOARD_MISSING};
     check_table();
     check_codes(&it);
     check_operands(&it);

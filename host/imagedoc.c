@@ -168,16 +168,6 @@ static void print_homes(void)
 
 /* ---- an image ---- */
 
-static unsigned number_length(const uint8_t *at)
-{
-    return at[0] < 128 ? 1 : 2;
-}
-
-static unsigned number(const uint8_t *at)
-{
-    return at[0] < 128 ? at[0] : at[0] - 128u + 128u * at[1];
-}
-
 /* The beginning of a row: where the bytes stand, and the bytes. */
 static void print_bytes(const uint8_t *image, size_t at, size_t length)
 {
@@ -197,15 +187,17 @@ static const char *board(char slot, unsigned number_in_header)
     return "empty";
 }
 
-/* Prints the header; gives its length. */
+/* Prints the header, the landing list included; gives its length. */
 static size_t print_header(const uint8_t *image)
 {
-    static const char *const names[] = {"format", "type", "slot B", "slot C", "program start", "count of blocks"};
+    static const char *const names[] = {"format", "type", "slot B", "slot C", "program start", "count of blocks",
+                                        "count of landing blocks"};
+    const unsigned named = sizeof names / sizeof names[0], numbers = listing_numbers(image);
     size_t at = 0;
-    for (unsigned n = 0; n < sizeof names / sizeof names[0]; n++) {
-        const unsigned value = number(image + at), length = number_length(image + at);
+    for (unsigned n = 0; n < numbers; n++) {
+        const unsigned value = listing_number(image + at), length = listing_number_length(image + at);
         print_bytes(image, at, length);
-        printf("%s: %u", names[n], value);
+        printf("%s: %u", n < named ? names[n] : "landing block", value);
         if (n == 1)
             printf(", a %s", listing_type(value));
         else if (n == 2 || n == 3)

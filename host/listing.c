@@ -37,6 +37,7 @@ static const listing_kind kinds[LISTING_KINDS] = {
     [LISTING_TIME] = {"time", LETTER, 0, 65535, 2, "ms", "", ""}, /* R3 */
     [LISTING_TIME_IN_VARIABLE] = {"time", LETTER, 0, 65535, 1, "ms", "631, 635, 637: an odd one is rounded down",
                                   ""}, /* R4 */
+    [LISTING_LANDING] = {"block", LETTER, 0, BIAS_MOST_BLOCKS - 1, 1, "", "", "one of the landing blocks (else 22)"},
     [LISTING_END_MODE] = {"mode", LETTER, 0, 3, 1, "",
                           "0 back to the task's start, 1 end of BIAS, 2 of the PLC, 3 of mathematics",
                           "1 to 3 only in the task that they end"}, /* R2; a block alone does not tell it */
@@ -96,10 +97,12 @@ static const listing_command commands[] = {
     {0x53, BPM, EVERY, "End of sub-program", {NONE}},
     {0x54, B + M, EVERY, "PLC-program %1", {BLOCK(1)}},
     {0x55, BPM, EVERY, "Jump %1", {BLOCK(1)}},
+    {0x56, BPM, EVERY, "Jump [variable %1]", {VARIABLE_WITH(LISTING_LANDING, 1)}},
     {0x57, P + M, EVERY, "BIAS-execution pointer = %1", {BLOCK(1)}},
     {0x58, B, EVERY, "Wait for \"position reached\"", {NONE}},
     {0x59, B, EVERY, "Wait time %1 ms", {TWO_BYTES(LISTING_TIME, 1)}},
     {0x5A, B, EVERY, "Wait time [variable %1]", {VARIABLE_WITH(LISTING_TIME_IN_VARIABLE, 1)}},
+    {0x5B, P + M, EVERY, "BIAS-execution pointer = [variable %1]", {VARIABLE_WITH(LISTING_LANDING, 1)}},
     /* flags */
     {0x60, BPM, EVERY, "Flag %1 = %2", {FLAG(1), LEVEL(2)}},
     {0x61, BPM, EVERY, "If flag %1 %2 %3 then jump %4", {FLAG(1), EQUALITY(2), LEVEL(3), BLOCK(4)}},
@@ -234,6 +237,30 @@ int listing_in_range(const listing_operand *operand, const uint8_t *block, unsig
     }
 }
 
+unsigned listing_number_length(const uint8_t *at)
+{
+    return at[0] < 128 ? 1 : 2;
+}
+
+unsigned listing_number(const uint8_t *at)
+{
+    return at[0] < 128 ? at[0] : at[0] - 128u + 128u * at[1];
+}
+
+/* A number of the header, counted from 0. */
+static const uint8_t *number_at(const uint8_t *image, unsigned number)
+{
+    for (; number > 0; number--)
+        image += listing_number_length(image);
+    return image;
+}
+
+unsigned listing_numbers(const uint8_t *image)
+{
+    enum { OF_HEADER = 6 };
+    return image[0] == BIAS_FORMAT ? OF_HEADER : OF_HEADER + 1 + listing_number(number_at(image, OF_HEADER));
+}
+
 const char *listing_symbol(const listing_command *command, const listing_operand *operand)
 {
     static const char *const letters[] = {"X", "Y", "Z"};
@@ -316,8 +343,8 @@ const char *listing_refusal(uint32_t number)
 {
     static const char *const meanings[] = {
         "accepted",
-        "the image ends before its header or its blocks do",
-        "a header number is not in its shortest form",
+        "the image ends before its header, its landing list or its blocks do",
+        "a number of the header or of the landing list is not in its shortest form",
         "a header number is out of range, a board is not for the type, or the start is not below the count",
         "bytes are left over behind the blocks",
         "the block's code is not carried",
@@ -336,17 +363,17 @@ const char *listing_refusal(uint32_t number)
         "the task is not running",
         "division by a variable that holds 0",
         "a variable's content is out of range",
-        [BIAS_BOARD_MISSING] = "a board is missing",
+        "the landing blocks are too many, not in ascending order, or not below the count",
+        "the variable holds no landing block",
+        "a board is missing",
     };
-    const int known = number < sizeof meanings / sizeof meanings[0] && meanings[number] != NULL;
-    return known ? meanings[number] : "unknown number";
+    return number < sizeof meanings / sizeof meanings[0] ? meanings[number] : "unknown number";
 }
 
-/* A block of an image whose header is good: four numbers of one byte, then start and count of one or two. */
+/* A block of an image whose header is good. */
 static const uint8_t *block_of(const uint8_t *image, uint64_t number)
 {
-    const uint8_t *count = image + (image[4] < 128 ? 5 : 6);
-    return count + (count[0] < 128 ? 1 : 2) + BIAS_BLOCK_LENGTH * number;
+    return number_at(image, listing_numbers(image)) + BIAS_BLOCK_LENGTH * number;
 }
 
 /* 6: what the type has with no board. */
@@ -391,7 +418,7 @@ const char *listing_place(uint32_t number)
 {
     switch (number) {
     case 1: case 13: case 14: return "length";
-    case 2: case 3: case 4: return "byte";
+    case 2: case 3: case 4: case 21: return "byte";
     case 0: case 15: case 16: case 18: return "";
     default: return "block";
     }

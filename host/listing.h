@@ -19,7 +19,7 @@ enum {
     LISTING_INPUT, LISTING_OUTPUT_READ, LISTING_OUTPUT_WRITTEN, /* pins */
     LISTING_LEVEL, LISTING_CONSTANT, LISTING_DIVISOR, LISTING_EQUALITY, LISTING_COMPARISON, LISTING_BLOCK,
     LISTING_POSITION, LISTING_SPEED, LISTING_ACCELERATION, LISTING_DECELERATION,
-    LISTING_TIME, LISTING_TIME_IN_VARIABLE,
+    LISTING_TIME, LISTING_TIME_IN_VARIABLE, LISTING_LANDING,
     LISTING_END_MODE, LISTING_STOP_MODE, LISTING_AXIS, LISTING_TARGET,
     LISTING_KINDS
 };
@@ -45,7 +45,8 @@ enum {
 typedef struct {
     uint8_t kind, coding;
     uint8_t at;      /* its first byte: 1 for D1 */
-    uint8_t content; /* of a variable: the kind of what it has to hold when the command reads it (20); else 0 */
+    uint8_t content; /* of a variable: the kind of what it has to hold when the command reads it (20; of a landing
+                        block 22); else 0 */
 } listing_operand;
 
 enum { LISTING_MOST_OPERANDS = 5 }; /* one more than a command has */
@@ -95,6 +96,14 @@ const listing_operand *listing_pin_operand(const listing_command *command);
 unsigned listing_bytes(const listing_operand *operand);
 int32_t listing_value(const listing_operand *operand, const uint8_t *block);
 int listing_in_range(const listing_operand *operand, const uint8_t *block, unsigned count);
+
+/* A number of an image's header or of its landing list: how many bytes it has, and its value. */
+unsigned listing_number_length(const uint8_t *at);
+unsigned listing_number(const uint8_t *at);
+
+/* How many numbers are in front of the blocks of an image whose header is good: six, and in format 2 the landing count
+ * and the landing blocks. */
+unsigned listing_numbers(const uint8_t *image);
 
 /* What an operand is called in the form of its command: X, Y, Z, "const.", "?"; "" for one that is always 0. */
 const char *listing_symbol(const listing_command *command, const listing_operand *operand);

@@ -11,5 +11,8 @@ bias_answer reference_step(const uint8_t *image, size_t image_len, uint8_t *stat
                            uint8_t in_window);
 bias_verdict reference_write(uint32_t format, uint32_t type, uint32_t slot_b, uint32_t slot_c, uint32_t start,
                              uint32_t count, const uint8_t *blocks, size_t blocks_len, uint8_t *out, size_t out_len);
+bias_verdict reference_write_landings(uint32_t format, uint32_t type, uint32_t slot_b, uint32_t slot_c, uint32_t start,
+                                      uint32_t count, const uint8_t *landings, size_t landings_len,
+                                      const uint8_t *blocks, size_t blocks_len, uint8_t *out, size_t out_len);
 
 #endif

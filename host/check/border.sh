@@ -75,9 +75,10 @@ wrong_tables() {
         && table last_version "$further nothing/" 1 \
         && table as_in_header '$d' 1 && table as_in_header '$s/ [0-9]* *#/ 99 #/' 1 \
         && table landings_of '$s/# [0-9]*:/# 9999:/' 2 \
-        && signature 's/after a successful bias_write/behind it/' 0 && signature 's/uint8_t ramp_ended/uint16_t ramp_ended/' 1 \
+        && signature 's/after a successful write/behind it/' 0 && signature 's/uint8_t ramp_ended/uint16_t ramp_ended/' 1 \
         && signature 's/uint8_t ramp_ended, uint8_t in_window/uint8_t in_window, uint8_t ramp_ended/' 1 \
-        && signature 's/uint32_t mode;/uint16_t mode;/' 1 && counted "$runs tables and headers"
+        && signature 's/uint32_t mode;/uint16_t mode;/' 1 && signature 's/size_t landings_len/uint32_t landings_len/' 1 \
+        && counted "$runs tables and headers"
 }
 
 try "bias.h in C++" header_in_cpp

@@ -33,6 +33,22 @@ refused() {
     says 1 "" "$out/example" "$out/bad.img" && grep 'refused by 12 at block 0, task BIAS, depth 0' "$out/err"
 }
 
+# A program of format 2: BIAS halts at a jump by a variable that holds no landing block; the PLC starts it anew by another
+# variable; then BIAS jumps by a third one.
+jumps_by_variable() {
+    bytes 2 2 0 0 0 9 2 5 8 0x54 2 0 0 0 0 0 0 0x56 2 0 0 0 0 0 0 0x80 0 5 0 0 0 0 0 0x5B 0 0 0 0 0 0 0 \
+        0x55 4 0 0 0 0 0 0 0x80 1 8 0 0 0 0 0 0x56 1 0 0 0 0 0 0 0x50 0 0 0 0 0 0 0 0x51 1 0 0 0 0 0 0 > "$out/jumps.img"
+    runs=$((runs + 1))
+    "$out/example" --cycles 6 "$out/jumps.img" > "$out/said" || return 1
+    cat "$out/said"
+    for line in ': accepted, .*, 9 blocks, landing blocks 5, 8$' \
+        '^ *1  BIAS     1 .*Jump \[variable 2\] .*HALTED by 22: the variable holds no landing block$' \
+        '^ *1  PLC      3 .*BIAS-execution pointer = \[variable 0\] .*BIAS running at block 5$' \
+        '^ *3  BIAS     6 .*Jump \[variable 1\] .*to block 8$' '^ *4  BIAS     8 .*BIAS ended at block 8$'; do
+        grep -q "$line" "$out/said" || { echo "no line: $line"; return 1; }
+    done
+}
+
 # A program that waits for input 11, then with a move for the start input, then for the axis's two bits.
 waiting() {
     bytes 1 2 0 0 0 6 0x70 11 0 0 0 0 0 0 0x72 12 1 0 0 0 0 0 0x01 0 0 0 0 0 0 0 \
@@ -102,5 +118,6 @@ try "the feed image, written by the library" feed
 try "the example's trace of the feed program" example
 try "the example from other folders" elsewhere
 try "the example refuses a bad image" refused
+try "the example's jumps by a variable" jumps_by_variable
 try "the example's inputs by a script" inputs
 try "scripts that the example refuses" wrong_scripts

@@ -10,12 +10,14 @@ image_tables() {
         && counted "$(lines_of "$out/rows.md") lines" \
         && "$out/imagedoc" --pins > "$out/rows.md" && part pins | cmp - "$out/rows.md"
 }
-image_worked() {
+# An image and its bytes explained: is_worked PART PART.
+is_worked() {
     # the words are arguments of their own
-    from_hex $(part bytes | grep -v '```') > "$out/worked.img"
+    from_hex $(part "$1" | grep -v '```') > "$out/worked.img"
     says 0 "$accepted" "$judge" "$out/worked.img" \
-        && "$out/imagedoc" "$out/worked.img" > "$out/rows.md" && part worked | cmp - "$out/rows.md"
+        && "$out/imagedoc" "$out/worked.img" > "$out/rows.md" && part "$2" | cmp - "$out/rows.md"
 }
+image_worked() { is_worked bytes worked && is_worked "bytes of format 2" "worked in format 2"; }
 image_refused() {
     part refused | grep ' | ' > "$out/refused" || return 1
     while IFS='|' read -r hex number_at_place why; do
@@ -29,6 +31,6 @@ image_refused() {
 held_to_the_table() { "$out/imagecheck" > "$out/held" && cat "$out/held" && counted "$(cut -d ';' -f 1 < "$out/held" | tail -n 1)"; }
 
 try "docs/IMAGE.md, the tables of commands and pins" image_tables
-try "docs/IMAGE.md, the worked image" image_worked
+try "docs/IMAGE.md, the worked images" image_worked
 try "docs/IMAGE.md, the refused images" image_refused
 try "the library held to the table of commands" held_to_the_table

@@ -67,10 +67,18 @@ no_board() {
 3 0 0 0x6E 0 0|$never (a 637+ never has this command)
 END
 }
-# Start 129 and count 130 have two bytes each; the last block is the bad one.
-last_block() {
-    { bytes 1 2 0 0 129 1 130 1 && head -c 1032 /dev/zero && bytes 0x63 0 101 0 0 0 0 0; } > "$out/board.img"
+# Start 129 and count 130 have two bytes each; the last block is the bad one. The same behind landing blocks 1 and 129.
+is_last_block() {
+    { "$@" && head -c 1032 /dev/zero && bytes 0x63 0 101 0 0 0 0 0; } > "$out/board.img"
     says 1 "refusal 23 place 129 task 0 depth 0" "$judge" --explain "$out/board.img" && grep ': pin 101 is on' "$out/err"
+}
+last_block() { is_last_block bytes 1 2 0 0 129 1 130 1 && is_last_block bytes 2 2 0 0 129 1 130 1 2 1 129 1; }
+# A landing block at the count.
+landing_list() {
+    words="the landing blocks are too many, not in ascending order, or not below the count"
+    bytes 2 2 0 0 0 1 1 1 0x55 0 0 0 0 0 0 0 > "$out/list.img"
+    says 1 "refusal 21 place 7 task 0 depth 0" "$judge" --explain "$out/list.img" && grep -Fx "$words" "$out/err" \
+        && says 1 "" "$out/example" "$out/list.img" && grep -F "refused by 21 at byte 7: $words" "$out/err"
 }
 help() {
     runs=$((runs + 1))
@@ -105,6 +113,7 @@ try "bias-verdict --explain" explained
 try "bias-verdict and the example, which board is missing" missing_board
 try "bias-verdict and the example, what no board has" no_board
 try "bias-verdict --explain, a block behind a longer header" last_block
+try "bias-verdict and the example, a bad landing list" landing_list
 try "bias-verdict --help" help
 try "bias-verdict, wrong usage" wrong_usage
 try "bias-verdict, what cannot be read" unread

@@ -5,9 +5,9 @@ use crate::ends;
 use crate::library::{self, Guarded};
 use crate::tally::Tally;
 use reference::engine::Given;
-use reference::image;
+use reference::image::{self, Header};
 use reference::number::*;
-use reference::state::{State, STATE_LENGTH};
+use reference::state::{State, NO_WAIT, STATE_LENGTH};
 use reference::Answer;
 use std::fmt::Debug;
 
@@ -102,6 +102,11 @@ pub struct Stood {
     pub moved: bool,
     /// The content of the variable that the command reads within a range.
     pub content: Option<i32>,
+    /// The header of the lent image, and whether its landing list alone is not the loaded one's.
+    pub header: Header,
+    pub relisted: bool,
+    /// BIAS: its status, its depth, and whether a wait was pending.
+    pub bias: (u8, usize, bool),
 }
 
 /// What a step of the player met.
@@ -214,7 +219,10 @@ fn stood(image: &[u8], state: &mut [u8], task: u32) -> Option<Stood> {
     let number = state.block(task);
     let block = image::block(blocks, Some(number as usize).filter(|number| *number < header.count)?);
     let content = ends::content_read(&state, task, block);
-    Some(Stood { code: block[0], block: number, moved: state.moved() != 0, content })
+    let loaded = state.header();
+    let relisted = header.landings != loaded.landings && Header { landings: loaded.landings, ..header } == *loaded;
+    let bias = (state.status(BIAS), state.depth(BIAS), state.wait(BIAS) != NO_WAIT);
+    Some(Stood { code: block[0], block: number, moved: state.moved() != 0, content, header, relisted, bias })
 }
 
 fn same_answers(ours: &Answer, theirs: &Answer) -> Checked {

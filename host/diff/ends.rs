@@ -1,6 +1,7 @@
-//! The ends of the ranges that the reference tests: contents of variables that a step reads (19, 20), operands of a
-//! block (7), fields of a state (16), numbers of a header (3). Random values are drawn from these lists, and a run
-//! counts of each end whether it was let pass where it is inside its range and refused, by itself, where it is outside.
+//! The ends of the ranges that the reference tests: contents of variables that a step reads (19, 20, 22), operands of a
+//! block (7), fields of a state (16), numbers of a header and of its landing list (3, 21). Random values are drawn from
+//! these lists, and a run counts of each end whether it was let pass where it is inside its range and refused, by
+//! itself, where it is outside.
 
 use crate::random::Random;
 use reference::command::{self, row};
@@ -27,7 +28,7 @@ const GREATEST: i64 = i32::MAX as i64;
 const SPEED_ENDS: Ends = ends(&[1, MOST_SPEED as i64], &[0, MOST_SPEED as i64 + 1, u16::MAX as i64]);
 const RAMP_ENDS: Ends = ends(&[1, MOST_RAMP as i64], &[0, MOST_RAMP as i64 + 1, u16::MAX as i64]);
 const RAMP_CONTENTS: Ends = ends(&[1, MOST_RAMP as i64], &[0, MOST_RAMP as i64 + 1, -1, LEAST, GREATEST]);
-const FORMAT_ENDS: Ends = ends(&[FORMAT as i64], &[FORMAT as i64 - 1, FORMAT as i64 + 1]);
+const FORMAT_ENDS: Ends = ends(&[FORMAT as i64, FORMAT_LANDINGS as i64], &[FORMAT as i64 - 1, FORMAT_LANDINGS as i64 + 1]);
 const TYPE_ENDS: Ends = ends(&[0, TYPE_637F as i64], &[TYPE_637F as i64 + 1]);
 const COUNT_ENDS: Ends = ends(&[1, MOST_BLOCKS as i64], &[0, MOST_BLOCKS as i64 + 1]);
 const WAIT_ENDS: Ends = ends(&[1, MOST_WAIT as i64], &[MOST_WAIT as i64 + 1]);
@@ -35,6 +36,10 @@ const DIVISOR_ENDS: Ends = ends(&[1, -1, LEAST, GREATEST], &[0]);
 const CONDITION_ENDS: Ends = ends(&[0, 7], &[8]);
 const LEVEL_ENDS: Ends = ends(&[0, 1], &[2]);
 const ONLY_0: Ends = ends(&[0], &[1]);
+/// The most landing blocks first: a list of one more is mended by them alone.
+const LANDING_COUNT_ENDS: Ends = ends(&[MOST_LANDINGS as i64, 0], &[MOST_LANDINGS as i64 + 1]);
+/// Of a landing block, told by how far it is above the one before it.
+const ABOVE: Ends = ends(&[1], &[0, -1]);
 /// Of what is told by how far it is above a limit that it stays below, or above the most that is allowed.
 const BELOW: Ends = ends(&[-1], &[0]);
 const AT_MOST: Ends = ends(&[0], &[1]);
@@ -60,10 +65,47 @@ pub fn content(random: &mut Random) -> i32 {
     random.pick(&CONTENTS).1.any(random) as i32
 }
 
+/// What a variable may hold that 56 or 5B reads, told by the header, and whether it is a landing block.
+const AIMS: [(&str, fn(&Header) -> Option<i64>, bool); 10] = [
+    ("first landing block", first_landing, true),
+    ("last landing block", last_landing, true),
+    ("block before the first landing block", before_first_landing, false),
+    ("block behind the last landing block", |header| last_landing(header).map(|block| block + 1), false),
+    ("65536 and a landing block", |header| first_landing(header).map(|block| 65536 + block), false),
+    ("a landing block less 65536", |header| first_landing(header).map(|block| block - 65536), false),
+    ("block count", |header| Some(header.count as i64), false),
+    ("-1", |_| Some(-1), false),
+    ("least number", |_| Some(LEAST), false),
+    ("greatest number", |_| Some(GREATEST), false),
+];
+const AIMING: [u8; 2] = [0x56, 0x5B];
+
+fn first_landing(header: &Header) -> Option<i64> {
+    header.landings.blocks().first().map(|block| *block as i64)
+}
+
+fn before_first_landing(header: &Header) -> Option<i64> {
+    first_landing(header).filter(|first| *first > 0).map(|first| first - 1)
+}
+
+fn last_landing(header: &Header) -> Option<i64> {
+    header.landings.blocks().last().map(|block| *block as i64)
+}
+
+/// A content for 56 or 5B: this often in a hundred a landing block, if there are some.
+pub fn aim(random: &mut Random, header: &Header, listed: usize) -> i32 {
+    let landings = header.landings.blocks();
+    if !landings.is_empty() && random.chance(listed) {
+        return random.pick(landings) as i32;
+    }
+    let all: Vec<i64> = AIMS.iter().filter_map(|(_, content, _)| content(header)).collect();
+    random.pick(&all) as i32
+}
+
 /// The variable that a command is about to read within a range.
 fn variable_read(state: &State, task: usize, block: &Block) -> Option<u8> {
     match block[0] {
-        0x31..=0x33 => Some(block[1]),
+        0x31..=0x33 | 0x56 | 0x5B => Some(block[1]),
         0x5A if state.wait(task) == NO_WAIT => Some(block[1]),
         0x8D => Some(block[3]),
         _ => None,
@@ -78,6 +120,9 @@ pub fn content_read(state: &State, task: usize, block: &Block) -> Option<i32> {
 /// That variable, and a content at an end of the command's own range.
 pub fn content_to_read(random: &mut Random, state: &State, task: usize, block: &Block) -> Option<(u8, i32)> {
     let variable = variable_read(state, task, block)?;
+    if AIMING.contains(&block[0]) {
+        return Some((variable, aim(random, state.header(), 40)));
+    }
     let (_, ends) = CONTENTS.iter().find(|of| of.0 == block[0])?;
     Some((variable, ends.any(random) as i32))
 }
@@ -183,7 +228,7 @@ impl Drawn {
 type Place = (usize, usize, i64);
 
 /// The kinds of numbers in a state, where they stand in one, and their ranges.
-const FIELDS: [(&str, fn(&[u8]) -> Vec<Place>, Ends); 23] = [
+const FIELDS: [(&str, fn(&[u8]) -> Vec<Place>, Ends); 28] = [
     ("layout number", |_| vec![(LAYOUT_AT, 1, 0)], ends(&[LAYOUT as i64], &[LAYOUT as i64 - 1, LAYOUT as i64 + 1])),
     ("format", |_| vec![(HEADER, 1, 0)], FORMAT_ENDS),
     ("type", |_| vec![(HEADER + 1, 1, 0)], TYPE_ENDS),
@@ -191,6 +236,11 @@ const FIELDS: [(&str, fn(&[u8]) -> Vec<Place>, Ends); 23] = [
     ("slot C", |state| vec![(HEADER + 3, 1, board(state))], AT_MOST),
     ("program start", |state| vec![(START, 2, count(state))], BELOW),
     ("block count", |_| vec![(COUNT, 2, 0)], COUNT_ENDS),
+    ("landing count", |_| vec![(LANDING_COUNT, 1, 0)], LANDING_COUNT_ENDS),
+    ("landing count of format 1", landing_count_of_1, ONLY_0),
+    ("last landing block", |state| landing(listed(state), count(state)), BELOW),
+    ("landing block beside the one before", beside, ABOVE),
+    ("landing entry past the count", past_the_list, ends(&[0], &[1, 256])),
     ("flag", |_| vec![(FLAGS, 1, 0), (FLAGS + 255, 1, 0)], LEVEL_ENDS),
     ("output", |_| vec![(FLAGS + 256, 1, 0), (LAYOUT_AT - 1, 1, 0)], LEVEL_ENDS),
     ("stored speed", |_| vec![(SPEED, 2, 0)], SPEED_ENDS),
@@ -219,6 +269,34 @@ fn count(state: &[u8]) -> i64 {
 
 fn board(state: &[u8]) -> i64 {
     most_board(state[HEADER + 1] as u32) as i64
+}
+
+fn listed(state: &[u8]) -> usize {
+    state[LANDING_COUNT] as usize
+}
+
+/// The landing count, where the format has none.
+fn landing_count_of_1(state: &[u8]) -> Vec<Place> {
+    if state[HEADER] as u32 == FORMAT { vec![(LANDING_COUNT, 1, 0)] } else { Vec::new() }
+}
+
+/// An entry of the landing list, counted from 1; none past its room.
+fn landing(number: usize, base: i64) -> Vec<Place> {
+    if (1..=MOST_LANDINGS).contains(&number) { vec![(LANDINGS + 2 * (number - 1), 2, base)] } else { Vec::new() }
+}
+
+/// The second landing block and the last, told from the ones before them.
+fn beside(state: &[u8]) -> Vec<Place> {
+    let inside = 2..=listed(state).min(MOST_LANDINGS);
+    let before = |number: usize| self::number(state, LANDINGS + 2 * (number - 2), 2);
+    let numbers = [2, listed(state)].into_iter().filter(|number| inside.contains(number));
+    numbers.flat_map(|number| landing(number, before(number))).collect()
+}
+
+/// The first entry past the landing count, and the last of all.
+fn past_the_list(state: &[u8]) -> Vec<Place> {
+    let numbers = [listed(state) + 1, MOST_LANDINGS].into_iter().filter(|number| listed(state) < *number);
+    numbers.flat_map(|number| landing(number, 0)).collect()
 }
 
 fn in_tasks(place: impl Fn(usize) -> Option<Place>) -> Vec<Place> {
@@ -258,34 +336,78 @@ pub fn field(random: &mut Random, state: &[u8]) -> Vec<(usize, u8)> {
     (0..width).map(|step| (at + step, bytes[step])).collect()
 }
 
-/// The numbers of a header: format, type, slot B, slot C, start, count; what each is told from, and its range.
-const NUMBERS: [(&str, fn(&[usize; 6]) -> i64, Ends); 6] = [
-    ("format of an image", |_| 0, FORMAT_ENDS),
-    ("type of an image", |_| 0, TYPE_ENDS),
-    ("slot B of an image", |numbers| most_board(numbers[1] as u32) as i64, AT_MOST),
-    ("slot C of an image", |numbers| most_board(numbers[1] as u32) as i64, AT_MOST),
-    ("start of an image", |numbers| numbers[5] as i64, BELOW),
-    ("count of an image", |_| 0, COUNT_ENDS),
-];
+/// Where a number stands in a header, counted in numbers, and what its value is told from.
+type Number = (usize, i64);
 
-/// The six numbers at the front of an image, the byte where each stands, and the first byte behind them.
-fn numbers(image: &[u8]) -> Option<([usize; 6], [usize; 6], usize)> {
-    let (mut values, mut places, mut at) = ([0; 6], [0; 6], 0);
-    for number in 0..NUMBERS.len() {
-        let read = image::read_number(image, at).ok()?;
-        (values[number], places[number], at) = (read.value, at, read.behind);
-    }
-    Some((values, places, at))
+/// The numbers of a header: format, type, slot B, slot C, start, count, and in format 2 the landing count and the last
+/// landing block; where each stands, and its range.
+const NUMBERS: [(&str, fn(&[usize]) -> Vec<Number>, Ends); 9] = [
+    ("format of an image", |_| vec![(0, 0)], FORMAT_ENDS),
+    ("type of an image", |_| vec![(1, 0)], TYPE_ENDS),
+    ("slot B of an image", |numbers| vec![(2, most_board(numbers[1] as u32) as i64)], AT_MOST),
+    ("slot C of an image", |numbers| vec![(3, most_board(numbers[1] as u32) as i64)], AT_MOST),
+    ("start of an image", |numbers| vec![(4, numbers[5] as i64)], BELOW),
+    ("count of an image", |_| vec![(5, 0)], COUNT_ENDS),
+    ("landing count of an image", |numbers| last_from(numbers, LISTED_AT, &[(LISTED_AT, 0)]), LANDING_COUNT_ENDS),
+    ("last landing block of an image", |numbers| {
+        last_from(numbers, LISTED_AT + 1, &[(numbers.len() - 1, numbers[5] as i64)])
+    }, BELOW),
+    ("landing block of an image beside the one before", |numbers| {
+        last_from(numbers, LISTED_AT + 2, &[(numbers.len() - 1, numbers[numbers.len() - 2] as i64)])
+    }, ABOVE),
+];
+/// Where the landing count stands.
+const LISTED_AT: usize = 6;
+
+/// These, if a header has a number at that place.
+fn last_from(numbers: &[usize], at: usize, these: &[Number]) -> Vec<Number> {
+    if numbers.len() > at { these.to_vec() } else { Vec::new() }
 }
 
-/// The image with one number of its header at an end, the blocks as they are.
+/// The numbers at the front of an image, the byte where each stands, and the first byte behind them.
+#[derive(Default)]
+struct Front {
+    values: Vec<usize>,
+    places: Vec<usize>,
+    behind: usize,
+}
+
+/// How many numbers a header has, as far as its first ones tell; a landing list that is too long is not looked at.
+fn due(values: &[usize]) -> usize {
+    let list = |number: &usize| if *number <= MOST_LANDINGS { *number } else { 0 };
+    match values.first() {
+        Some(format) if *format == FORMAT_LANDINGS as usize => LISTED_AT + 1 + values.get(LISTED_AT).map_or(0, list),
+        _ => LISTED_AT,
+    }
+}
+
+fn front(image: &[u8]) -> Option<Front> {
+    let mut front = Front::default();
+    while front.values.len() < due(&front.values) {
+        let read = image::read_number(image, front.behind).ok()?;
+        front.values.push(read.value);
+        front.places.push(front.behind);
+        front.behind = read.behind;
+    }
+    Some(front)
+}
+
+/// The image with one number of its header at an end, the blocks as they are. With another landing count the list is
+/// shorter, or longer by the blocks behind its last one.
 pub fn header(random: &mut Random, image: &[u8]) -> Vec<u8> {
-    let Some((mut values, _, behind)) = numbers(image) else {
+    let Some(Front { mut values, behind, .. }) = front(image) else {
         return image.to_vec();
     };
-    let at = random.below(NUMBERS.len());
-    let (_, base, ends) = NUMBERS[at];
-    values[at] = (base(&values) + ends.any(random)) as usize;
+    let all: Vec<(Number, Ends)> =
+        NUMBERS.iter().flat_map(|(_, places, ends)| places(&values).into_iter().map(move |place| (place, *ends))).collect();
+    let ((at, base), ends) = random.pick(&all);
+    values[at] = (base + ends.any(random)) as usize;
+    if at == LISTED_AT {
+        let next = values.get(LISTED_AT + 1..).and_then(|list| list.last()).map_or(0, |last| last + 1);
+        let list = values.len() - (LISTED_AT + 1);
+        values.extend((next..).take(values[at].saturating_sub(list)));
+        values.truncate(LISTED_AT + 1 + values[at]);
+    }
     let mut changed = Vec::new();
     for value in values {
         match value {
@@ -313,13 +435,18 @@ impl Met {
         }
     }
 
-    /// A step whose command read this content.
-    pub fn content(&mut self, code: u8, content: i32, number: u32) {
+    /// A step whose command read this content, in a program of this header.
+    pub fn content(&mut self, code: u8, content: i32, header: &Header, number: u32) {
         let passed = match number {
             SUCCESS => true,
-            BAD_CONTENT | ZERO_DIVISOR => false,
+            BAD_CONTENT | ZERO_DIVISOR | NO_LANDING => false,
             _ => return,
         };
+        for (what, aim, inside) in AIMS.into_iter().filter(|_| AIMING.contains(&code)) {
+            if aim(header) == Some(content as i64) && inside == passed {
+                *self.0.entry((what, Some(code), 0, passed)).or_default() += 1;
+            }
+        }
         if let Some((_, ends)) = CONTENTS.iter().find(|of| of.0 == code) {
             self.meet("content", Some(code), *ends, content as i64, passed);
         }
@@ -346,11 +473,14 @@ impl Met {
         if matches!(verdict.number, MARKS_SHORT | NO_STATE) {
             return;
         }
-        if let Some((values, places, _)) = numbers(image) {
+        if let Some(Front { values, places, .. }) = front(image) {
             let read = image::read_header(image).is_ok();
-            for (at, (what, base, ends)) in NUMBERS.into_iter().enumerate() {
-                if read || verdict.number == BAD_HEADER && verdict.place == places[at] as u64 {
-                    self.meet(what, None, ends, values[at] as i64 - base(&values), read);
+            let refused = matches!(verdict.number, BAD_HEADER | BAD_LANDINGS);
+            for (what, numbers, ends) in NUMBERS {
+                for (at, base) in numbers(&values) {
+                    if read || refused && verdict.place == places[at] as u64 {
+                        self.meet(what, None, ends, values[at] as i64 - base, read);
+                    }
                 }
             }
         }
@@ -410,6 +540,10 @@ fn every_end() -> Vec<End> {
         all.extend(ends.outside.iter().map(|value| (what, code, *value, false)));
     };
     CONTENTS.iter().for_each(|(code, ends)| add("content", Some(*code), *ends));
+    for (what, _, inside) in AIMS {
+        let one = if inside { ends(&[0], &[]) } else { ends(&[], &[0]) };
+        AIMING.iter().for_each(|code| add(what, Some(*code), one));
+    }
     OPERANDS.iter().for_each(|(what, codes, _, ends)| codes.iter().for_each(|code| add(what, Some(*code), *ends)));
     FIELDS.iter().for_each(|(what, _, ends)| add(what, None, *ends));
     NUMBERS.iter().for_each(|(what, _, ends)| add(what, None, *ends));

@@ -16,6 +16,10 @@ extern "C" {
         format: u32, kind: u32, slot_b: u32, slot_c: u32, start: u32, count: u32, blocks: *const u8,
         blocks_len: usize, out: *mut u8, out_len: usize,
     ) -> Verdict;
+    fn bias_write_landings(
+        format: u32, kind: u32, slot_b: u32, slot_c: u32, start: u32, count: u32, landings: *const u8,
+        landings_len: usize, blocks: *const u8, blocks_len: usize, out: *mut u8, out_len: usize,
+    ) -> Verdict;
 }
 
 pub fn load(image: &[u8], marks: &mut [u8], state: &mut [u8]) -> Verdict {
@@ -42,6 +46,17 @@ pub fn write(wanted: &Wanted, blocks: &[u8], out: &mut [u8]) -> Verdict {
     unsafe {
         bias_write(
             format, kind, slot_b, slot_c, start, count, blocks.as_ptr(), blocks.len(), out.as_mut_ptr(), out.len(),
+        )
+    }
+}
+
+pub fn write_landings(wanted: &Wanted, landings: &[u8], blocks: &[u8], out: &mut [u8]) -> Verdict {
+    let Wanted { format, kind, slot_b, slot_c, start, count } = *wanted;
+    // SAFETY: as above.
+    unsafe {
+        bias_write_landings(
+            format, kind, slot_b, slot_c, start, count, landings.as_ptr(), landings.len(), blocks.as_ptr(),
+            blocks.len(), out.as_mut_ptr(), out.len(),
         )
     }
 }

@@ -32,7 +32,7 @@ pub fn case(random: &mut Random) -> Case {
 
 /// A load alone, of an image that is likely to be refused.
 pub fn load(random: &mut Random) -> Case {
-    let image = if random.chance(10) { program::headed(random) } else { program::changed(random) };
+    let image = if random.chance(15) { program::headed(random) } else { program::changed(random) };
     Case { image, marks_len: MARKS_LENGTH, state_len: STATE_LENGTH, fill: random.byte(), actions: Vec::new() }
 }
 
@@ -125,6 +125,7 @@ impl Drawing<'_> {
                 action.lent = Some(other);
             }
             4..=5 => action.lent = self.pin_at_the_pointer(action.task),
+            36..=40 => action.lent = program::relisted(self.random, &self.image),
             6..=35 => {
                 action.pokes = pokes(self.random, self.count, &self.player.state);
                 action.keep = self.random.chance(40);
@@ -157,7 +158,7 @@ impl Drawing<'_> {
         let (variable, content) = ends::content_to_read(self.random, &state, task, &block)?;
         let mut bytes = Vec::new();
         put(&mut bytes, 4 * variable as usize, 4, content as u32);
-        self.random.chance(20).then_some(bytes)
+        self.random.chance(30).then_some(bytes)
     }
 
     /// A task that runs at its start, or at some block.

@@ -1,5 +1,5 @@
 //! The papers' own examples: A to L and the chains of calls of document 01 with its answers, or those of change
-//! request 6 where it changes them; those of change requests 2, 3, 4 and 6; starts at the ends of each length of a
+//! request 6 where it changes them; those of change requests 1, 2, 3, 4 and 6; starts at the ends of each length of a
 //! number; layout numbers and states of the layout before; and images cut at every length. Done on the library and on
 //! the reference alike.
 
@@ -7,16 +7,18 @@ use crate::case::{Action, Case, Player};
 use crate::program;
 use crate::random::Random;
 use crate::tally::Tally;
+use crate::writer::Writing;
 use reference::engine::Given;
 use reference::hex::bytes_of;
+use reference::image::{self, Wanted};
 use reference::number::*;
-use reference::state::{record, State, DEPTH, PATH, STATE_LENGTH};
+use reference::state::{record, State, DEPTH, ENDED, HALTED, PATH, RUNNING, STATE_LENGTH};
 use reference::{Answer, Verdict};
 
 /// Name, image in hexadecimal, and number, place, task, depth.
 type Row = (&'static str, &'static str, [u64; 4]);
 
-const CASES: [Row; 24] = [
+const CASES: [Row; 45] = [
     ("A", "010200000001 5500000000000000", [0, 0, 0, 0]),
     ("B", "010200000001 5000000000000000", [12, 0, 0, 0]),
     ("C", "010200000101 5500000000000000", [3, 4, 0, 0]),
@@ -45,6 +47,144 @@ const CASES: [Row; 24] = [
     ("input 101 as an output", "010200000002 7265010000000000 5500000000000000", [6, 0, 0, 0]),
     ("output 217 = 2", "010200000002 72D9020000000000 5500000000000000", [23, 0, 0, 0]),
     ("6E on a 637+", "010300000002 6E00000000000000 5500000000000000", [6, 0, 0, 0]),
+    ("format 3", "030200000001 5500000000000000", [3, 0, 0, 0]),
+    ("56 behind a landing list", "02020000 00 02 01 01 5600000000000000 5501000000000000", [0; 4]),
+    ("a landing block set", "02020000 00 03 01 02 8000020000000000 5600000000000000 5502000000000000", [0; 4]),
+    ("no landing blocks in format 2", "02020000 00 01 00 5600000000000000", [0; 4]),
+    ("65 landing blocks, and the end", "02020000 00 01 41", [21, 6, 0, 0]),
+    ("landing count not shortest", "02020000 00 01 8000", [2, 6, 0, 0]),
+    ("no landing count", "02020000 00 01", [1, 6, 0, 0]),
+    ("no landing block", "02020000 00 02 01", [1, 7, 0, 0]),
+    ("landing blocks 1, 1", "02020000 00 02 02 01 01", [21, 8, 0, 0]),
+    ("landing blocks 1, 0", "02020000 00 02 02 01 00", [21, 8, 0, 0]),
+    ("a landing block at the count", "02020000 00 02 01 02", [21, 7, 0, 0]),
+    ("a landing block past the end, not shortest", "02020000 00 02 01 8200", [2, 7, 0, 0]),
+    ("a start past the end before the list", "02020000 05 02 01 02", [3, 4, 0, 0]),
+    ("a landing block of two bytes", "02020000 8001 8101 01 8101", [21, 9, 0, 0]),
+    ("56 in format 1", "01020000 00 01 5600000000000000", [0; 4]),
+    (
+        "56 in a call",
+        "02020000 00 04 01 03 5202000000000000 5501000000000000 5600000000000000 5300000000000000",
+        [0; 4],
+    ),
+    (
+        "56 in no call",
+        "02020000 02 04 01 03 5202000000000000 5501000000000000 5600000000000000 5300000000000000",
+        [11, 3, 0, 0],
+    ),
+    (
+        "5B by the PLC",
+        "02020000 00 04 01 00 5402000000000000 5501000000000000 5B00000000000000 5503000000000000",
+        [0; 4],
+    ),
+    (
+        "5B at the end",
+        "02020000 00 03 01 00 5402000000000000 5501000000000000 5B00000000000000",
+        [12, 2, 1, 0],
+    ),
+    ("5B by BIAS", "02020000 00 02 01 00 5B00000000000000 5500000000000000", [9, 0, 0, 0]),
+    (
+        "5B leads to depth 0",
+        "02020000 00 05 01 04 5402000000000000 5501000000000000 5B00000000000000 5503000000000000 5300000000000000",
+        [11, 4, 0, 0],
+    ),
+];
+
+/// Writes of format 2 on a 637: start, count, landing blocks as bytes, bytes of blocks, and number and place.
+const WRITES: [(&str, [u32; 2], &str, usize, [u64; 2]); 9] = [
+    ("a good list of one", [0, 200], "7F00", 1600, [0, 1609]),
+    ("landings 127 128 128", [0, 200], "7F00 8000 8000", 1600, [21, 11]),
+    ("half a landing block", [0, 200], "7F00 80", 1600, [21, 7]),
+    ("blocks one byte short", [0, 200], "7F00", 1599, [1, 1599]),
+    ("blocks one byte long", [0, 200], "7F00", 1601, [4, 1601]),
+    ("a landing block at the count", [0, 200], "0000 C800", 1600, [21, 9]),
+    ("a landing block of 16 bits", [0, 200], "FFFF", 1600, [21, 8]),
+    ("a start past the end before the list", [200, 200], "C800", 1600, [3, 4]),
+    ("no landing blocks", [128, 200], "", 1600, [0, 1609]),
+];
+
+/// A step of a task with the start input high or low; number, place, task, depth of its answer; then BIAS's status,
+/// block, depth and noted start level.
+type Jumped = (u32, u8, [u64; 4], [u64; 4]);
+
+const RUNS: u64 = RUNNING as u64;
+const ENDS: u64 = ENDED as u64;
+const HALTS: u64 = HALTED as u64;
+
+/// Change request 1, and the rulings on it: a sentence, a header with its landing list, the blocks' codes and operands,
+/// the steps.
+const JUMPS: [(&str, &str, &str, &[Jumped]); 14] = [
+    ("56 halts by 22 and notes the start level, then 18", "02020000 00 02 01 01", "56 5501", &[
+        (0, 0, [22, 0, 0, 0], [HALTS, 0, 0, 0]), (0, 1, [18, 0, 0, 0], [HALTS, 0, 0, 0]),
+    ]),
+    ("56 halts by 22 and notes a high start level", "02020000 00 03 01 02", "50 56 5502", &[
+        (0, 0, [0; 4], [RUNS, 1, 0, 0]), (0, 1, [22, 1, 0, 0], [HALTS, 1, 0, 1]),
+    ]),
+    ("56 lands", "02020000 00 03 01 02", "800002 56 5502", &[
+        (0, 0, [0; 4], [RUNS, 1, 0, 0]), (0, 0, [0; 4], [RUNS, 2, 0, 0]),
+    ]),
+    ("56 lands on the last of several", "02020000 00 05 03 02 03 04", "800004 56 55 55 5504", &[
+        (0, 0, [0; 4], [RUNS, 1, 0, 0]), (0, 0, [0; 4], [RUNS, 4, 0, 0]),
+    ]),
+    ("a block beside the listed ones is no landing block", "02020000 00 05 02 02 04", "800003 56 55 55 5504", &[
+        (0, 0, [0; 4], [RUNS, 1, 0, 0]), (0, 0, [22, 1, 0, 0], [HALTS, 1, 0, 0]),
+    ]),
+    ("-1 is no landing block, and 22 is not 20", "02020000 00 03 01 02", "8000FFFFFFFF 56 5502", &[
+        (0, 0, [0; 4], [RUNS, 1, 0, 0]), (0, 0, [22, 1, 0, 0], [HALTS, 1, 0, 0]),
+    ]),
+    ("65536 and a landing block is none", "02020000 00 03 01 02", "800002000100 56 5502", &[
+        (0, 0, [0; 4], [RUNS, 1, 0, 0]), (0, 0, [22, 1, 0, 0], [HALTS, 1, 0, 0]),
+    ]),
+    ("56 always halts in format 1", "01020000 00 01", "56", &[(0, 0, [22, 0, 0, 0], [HALTS, 0, 0, 0])]),
+    ("56 lands at its own depth", "02020000 00 05 01 04", "800004 5203 5502 56 53", &[
+        (0, 0, [0; 4], [RUNS, 1, 0, 0]), (0, 0, [0; 4], [RUNS, 3, 1, 0]), (0, 0, [0; 4], [RUNS, 4, 1, 0]),
+        (0, 0, [0; 4], [RUNS, 2, 0, 0]),
+    ]),
+    ("5B starts an ended BIAS, whose start stays", "02020000 00 07 01 05", "5402 5101 800005 5B 5504 50 5100", &[
+        (0, 1, [0; 4], [RUNS, 1, 0, 1]), (0, 1, [0; 4], [ENDS, 1, 0, 1]), (1, 0, [0; 4], [ENDS, 1, 0, 1]),
+        (1, 0, [0; 4], [RUNS, 5, 0, 1]), (0, 0, [0; 4], [RUNS, 6, 0, 0]), (0, 0, [0; 4], [RUNS, 0, 0, 0]),
+    ]),
+    ("5B starts a halted BIAS", "02020000 00 06 01 05", "5402 5601 800005 5B 5504 5505", &[
+        (0, 1, [0; 4], [RUNS, 1, 0, 1]), (0, 0, [22, 1, 0, 0], [HALTS, 1, 0, 0]), (1, 1, [0; 4], [HALTS, 1, 0, 0]),
+        (1, 1, [0; 4], [RUNS, 5, 0, 0]), (0, 0, [0; 4], [RUNS, 5, 0, 0]),
+    ]),
+    ("5B takes BIAS out of a call and a wait", "02020000 00 09 01 08", "9005 5203 5502 590A 53 800008 5B 5507 5100", &[
+        (0, 0, [0; 4], [RUNS, 1, 0, 0]), (0, 0, [0; 4], [RUNS, 3, 1, 0]), (0, 0, [0; 4], [RUNS, 3, 1, 0]),
+        (2, 0, [0; 4], [RUNS, 3, 1, 0]), (2, 0, [0; 4], [RUNS, 8, 0, 0]), (0, 0, [0; 4], [RUNS, 0, 0, 0]),
+    ]),
+    ("a refused 5B halts the PLC and leaves BIAS", "02020000 00 04 02 01 03", "5402 5501 5B 5503", &[
+        (0, 0, [0; 4], [RUNS, 1, 0, 0]), (1, 1, [22, 2, 1, 0], [RUNS, 1, 0, 0]), (1, 1, [18, 0, 0, 0], [RUNS, 1, 0, 0]),
+        (0, 0, [0; 4], [RUNS, 1, 0, 0]),
+    ]),
+    ("a 5B refused in a call halts mathematics there", "02020000 00 06 01 01", "9002 5501 5204 5503 5B07 53", &[
+        (0, 0, [0; 4], [RUNS, 1, 0, 0]), (2, 0, [0; 4], [RUNS, 1, 0, 0]), (2, 0, [22, 4, 2, 1], [RUNS, 1, 0, 0]),
+        (2, 0, [18, 0, 0, 0], [RUNS, 1, 0, 0]),
+    ]),
+];
+
+/// What somebody writes into the state of "56 lands on the last of several" before its first step, and the number of that
+/// step: the landing list counts as part of the header.
+const LISTED: [(&str, &[(usize, u8)], u32); 12] = [
+    ("no change", &[], 0),
+    ("a landing count of 65", &[(1545, 65)], 16),
+    ("a landing count of 255", &[(1545, 255)], 16),
+    ("an entry past the count", &[(1552, 1)], 16),
+    ("the last entry, past the count", &[(1673, 1)], 16),
+    ("a landing count of 2, the third entry left", &[(1545, 2)], 16),
+    ("the same in format 1", &[(1537, 1)], 16),
+    ("two entries alike", &[(1548, 2)], 16),
+    ("descending entries", &[(1546, 4)], 16),
+    ("an entry at the count", &[(1550, 5)], 16),
+    ("another list", &[(1546, 1)], 17),
+    ("a shorter list", &[(1545, 2), (1550, 0)], 17),
+];
+
+/// Images lent to the first step of the same program, and the number of that step.
+const OTHER_LISTS: [(&str, u32); 4] = [
+    ("02020000 00 05 03 02 03 04", 0),
+    ("02020000 00 05 03 01 03 04", 17),
+    ("02020000 00 05 02 03 04", 17),
+    ("01020000 00 05", 17),
 ];
 
 /// What is lent to the first step after a load of case I's accepted image, and number, place, task, depth of that step:
@@ -74,14 +214,18 @@ const MARKS: [(usize, [u64; 4]); 3] = [(26_999, [13, 26_999, 0, 0]), (27_000, [0
 const DEPTHS: [(u8, usize, u32); 5] = [(5, 4, 0), (6, 4, 16), (255, 4, 16), (4, 3, 0), (4, 4, 16)];
 
 /// Where the layout number stands and what it is, as docs/STATE.md has them.
-const NUMBERED: (usize, u8) = (1536, 4);
+const NUMBERED: (usize, u8) = (1536, 5);
 
 /// What somebody writes there, and the number of the step on it.
-const LAYOUTS: [(u8, u32); 7] = [(4, 0), (3, 16), (2, 16), (1, 16), (0, 16), (5, 16), (255, 16)];
+const LAYOUTS: [(u8, u32); 8] = [(5, 0), (4, 16), (3, 16), (2, 16), (1, 16), (0, 16), (6, 16), (255, 16)];
 
-/// Where the note of a move stands, as docs/STATE.md has it; the layout before, which had number 3, had none.
-const NOTED: usize = 1557;
-const LAYOUT_BEFORE: u8 = 3;
+/// Where the note of a move stands, as docs/STATE.md has it.
+const NOTED: usize = 1686;
+
+/// Where the landing count and the landing list stand, as docs/STATE.md has them; the layout before, which had number 4,
+/// had none.
+const LISTED_AT: std::ops::Range<usize> = 1545..1674;
+const LAYOUT_BEFORE: u8 = 4;
 
 /// A step with nothing high.
 const LOW: Given<'static> = Given { inputs: &[0; INPUTS_LENGTH], start: 0, ramp_ended: 0, in_window: 0 };
@@ -227,6 +371,9 @@ pub fn check(tally: &mut Tally) -> Result<(), String> {
         expect_with(marks_len, &format!("A, {marks_len} bytes of marks"), bytes_of(CASES[0].1), wanted, tally)?;
     }
     lent(tally)?;
+    writes(tally)?;
+    jumps_by_variable(tally)?;
+    lists(tally)?;
     waits(tally)?;
     depths(tally)?;
     layouts(tally)?;
@@ -280,12 +427,108 @@ fn lent(tally: &mut Tally) -> Result<(), String> {
 
 /// An image of a 637 with these blocks, unused bytes left out.
 fn program_of(blocks: &str) -> Vec<u8> {
-    let blocks: Vec<&str> = blocks.split(' ').collect();
-    let mut image = vec![1, 2, 0, 0, 0, blocks.len() as u8];
-    for block in blocks {
+    let count = blocks.split(' ').count();
+    image_of(&format!("0102000000{count:02X}"), blocks)
+}
+
+/// An image of a header and blocks, unused bytes left out.
+fn image_of(header: &str, blocks: &str) -> Vec<u8> {
+    let mut image = bytes_of(header);
+    for block in blocks.split(' ') {
         image.extend(bytes_of(&format!("{block:0<16}")));
     }
     image
+}
+
+/// The writer of format 2; each writer refuses the other's format, and 65 landing blocks.
+fn writes(tally: &mut Tally) -> Result<(), String> {
+    let writing = |format: u32, numbers: [u32; 2], landings: Option<Vec<u8>>, length: usize| {
+        let wanted = Wanted { format, kind: 2, slot_b: 0, slot_c: 0, start: numbers[0], count: numbers[1] };
+        Writing { wanted, landings, blocks: vec![0x50; length], room: 2000, fill: 0xC3 }
+    };
+    let mut told = |name: &str, writing: Writing, wanted: [u64; 2]| {
+        let mut out = vec![0; writing.room];
+        let verdict = match &writing.landings {
+            None => image::write(&writing.wanted, &writing.blocks, &mut out),
+            Some(landings) => image::write_landings(&writing.wanted, landings, &writing.blocks, &mut out),
+        };
+        let got = [verdict.number as u64, verdict.place];
+        if got != wanted {
+            return Err(format!("a write, {name}: the reference says {got:?}, the papers {wanted:?}"));
+        }
+        writing.run(tally).map_err(|what| format!("a write, {name}: {what}"))
+    };
+    for (name, numbers, landings, length, wanted) in WRITES {
+        told(name, writing(2, numbers, Some(bytes_of(landings)), length), wanted)?;
+    }
+    let upwards = |number: u16| (0..number).flat_map(u16::to_le_bytes).collect::<Vec<u8>>();
+    told("64 landing blocks", writing(2, [0, 200], Some(upwards(64)), 1600), [0, 1672])?;
+    told("65 landing blocks", writing(2, [0, 200], Some(upwards(65)), 1600), [21, 7])?;
+    for format in [0, 1, 3] {
+        told("another format", writing(format, [0, 200], Some(upwards(1)), 1600), [3, 0])?;
+    }
+    told("format 2 by the writer of format 1", writing(2, [0, 200], None, 1600), [3, 0])?;
+    told("format 1", writing(1, [0, 200], None, 1600), [0, 1607])?;
+    put_together(&writing(2, [0, 2], Some(upwards(2)), 16), "0202000000 02 02 00 01")
+}
+
+/// The bytes of a written image begin like this, and the blocks come right behind.
+fn put_together(writing: &Writing, front: &str) -> Result<(), String> {
+    let mut out = vec![0; writing.room];
+    let landings = writing.landings.as_deref().unwrap_or(&[]);
+    let length = image::write_landings(&writing.wanted, landings, &writing.blocks, &mut out).place as usize;
+    let mut wanted = bytes_of(front);
+    wanted.extend(&writing.blocks);
+    if out[..length] == wanted { Ok(()) } else { Err("a write of format 2: other bytes".to_string()) }
+}
+
+/// 56, 5B and 22, step by step.
+fn jumps_by_variable(tally: &mut Tally) -> Result<(), String> {
+    for (sentence, header, blocks, steps) in JUMPS {
+        let image = image_of(header, blocks);
+        let mut state = vec![0; STATE_LENGTH];
+        reference::load(&image, &mut vec![0; MARKS_LENGTH], &mut state);
+        let mut actions = Vec::new();
+        for (number, (task, start, answer, bias)) in steps.iter().enumerate() {
+            let got = reference::step(&image, &mut state, *task, Given { start: *start, ..LOW });
+            let told = [got.number as u64, got.place, got.task as u64, got.depth as u64];
+            let now = State::of(&mut state).map_or([u64::MAX; 4], |state| {
+                let depth = state.depth(BIAS) as u64;
+                [state.status(BIAS) as u64, state.block(BIAS) as u64, depth, state.start_level() as u64]
+            });
+            if (told, now) != (*answer, *bias) {
+                return Err(format!("{sentence}, step {number}: the reference says {told:?} and BIAS {now:?}"));
+            }
+            actions.push(Action { start: *start, ..Action::plain(*task) });
+        }
+        case(image, actions).run(tally).map_err(|difference| format!("{sentence}: {}", difference.what))?;
+    }
+    Ok(())
+}
+
+/// 16 and 17 by the landing list.
+fn lists(tally: &mut Tally) -> Result<(), String> {
+    let blocks = "800004 56 55 55 5504";
+    let image = image_of(OTHER_LISTS[0].0, blocks);
+    let mut steps: Vec<(String, Action, u32)> = Vec::new();
+    for (name, pokes, wanted) in LISTED {
+        steps.push((name.to_string(), Action { pokes: pokes.to_vec(), ..Action::plain(0) }, wanted));
+    }
+    for (header, wanted) in OTHER_LISTS {
+        let lent = Some(image_of(header, blocks));
+        steps.push((format!("lent {header}"), Action { lent, ..Action::plain(0) }, wanted));
+    }
+    for (name, action, wanted) in steps {
+        let mut player = Player { state: vec![0; STATE_LENGTH] };
+        reference::load(&image, &mut vec![0; MARKS_LENGTH], &mut player.state);
+        let got = player.play(&image, &action).answer.number;
+        if got != wanted {
+            return Err(format!("a landing list, {name}: the reference says {got}, the papers {wanted}"));
+        }
+        let both = case(image.clone(), vec![action]).run(tally);
+        both.map_err(|difference| format!("a landing list, {name}: {}", difference.what))?;
+    }
+    Ok(())
 }
 
 /// 58 and the note of a move, step by step.
@@ -352,32 +595,19 @@ fn layouts(tally: &mut Tally) -> Result<(), String> {
     }
     remade("a loaded state of the layout before", &image, 0, &move_back, 16, tally)?;
     remade("a state of the layout before", &image, 1, &move_back, 16, tally)?;
-    let image = alike();
-    remade("a state alike in the layout before", &image, 1, &move_back, 16, tally)?;
     let with_number = |state: &mut Vec<u8>| {
         move_back(state);
         state[at] = number;
     };
-    remade("the same with the layout number", &image, 1, &with_number, 0, tally)
+    remade("the same with the layout number", &image, 1, &with_number, 16, tally)
 }
 
-/// As the layout before had it: its own layout number, no note of a move, and all behind that one back.
+/// As the layout before had it: its own layout number, no landing list, and all behind that one back. Where this layout
+/// has the speed the one before had unused bytes, so none of its states is one of this but for its number.
 fn move_back(state: &mut Vec<u8>) {
-    state.remove(NOTED);
-    state.push(0);
+    state.drain(LISTED_AT);
+    state.resize(STATE_LENGTH, 0);
     state[NUMBERED.0] = LAYOUT_BEFORE;
-}
-
-/// A program that stands, a step after its load, in block 256, which block 0 has called. In the layout before that is,
-/// but for the layout number, a state of this one as well, of the same program: BIAS runs at block 257, inside no call.
-fn alike() -> Vec<u8> {
-    let mut image = jumps("00 8004", 512);
-    let first = image.len() - 512 * BLOCK_LENGTH;
-    for (block, front) in [(0, "520001"), (256, "550001")] {
-        let bytes = bytes_of(front);
-        image[first + BLOCK_LENGTH * block..][..bytes.len()].copy_from_slice(&bytes);
-    }
-    image
 }
 
 /// The layout number stands where it has to.
@@ -471,9 +701,27 @@ fn quotient(tally: &mut Tally) -> Result<(), String> {
     Ok(())
 }
 
-/// A short program and a long one cut at every length, and with bytes behind them.
+/// The longest image there is: the most blocks, a start of two bytes, and the most landing blocks of two bytes each.
+fn longest_listed() -> Vec<u8> {
+    let mut image = bytes_of("02020000 8001 DC0B 40");
+    image.extend((128..128 + MOST_LANDINGS).flat_map(|block| [128 + (block % 128) as u8, (block / 128) as u8]));
+    for _ in 0..MOST_BLOCKS {
+        image.extend(bytes_of("5600000000000000"));
+    }
+    image
+}
+
+/// A short program and two long ones cut at every length, and with bytes behind them.
 fn every_length(tally: &mut Tally) -> Result<(), String> {
     let short = program::accepted(&mut Random::of_case(1, 1));
+    let mut listed = longest_listed();
+    expect("the longest image", listed.clone(), [0; 4], tally)?;
+    listed.push(0);
+    expect("a byte more than the longest image", listed.clone(), [4, 12_137, 0, 0], tally)?;
+    for length in (0..listed.len()).step_by(97).chain(0..150) {
+        let cut = case(listed[..length].to_vec(), Vec::new());
+        cut.run(tally).map_err(|difference| format!("the longest image cut at {length}: {}", difference.what))?;
+    }
     let mut image = longest();
     image.resize(12_100, 0);
     for length in (0..image.len()).step_by(7).chain(0..64).chain(11_990..12_100) {

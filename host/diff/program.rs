@@ -4,7 +4,7 @@ use crate::ends;
 use crate::random::Random;
 use reference::command::{codes, row};
 use reference::drive::{most_board, Drive, Presence, TYPE_637F};
-use reference::image::{self, Block, Wanted};
+use reference::image::{self, Block, Header, Landings, Wanted};
 use reference::number::*;
 use reference::state::STATE_LENGTH;
 
@@ -61,7 +61,8 @@ fn wild(random: &mut Random) -> Vec<u8> {
 fn noise(random: &mut Random) -> Vec<u8> {
     let length = random.below(40);
     let mut image: Vec<u8> = (0..length).map(|_| random.byte()).collect();
-    let header = [1, random.below(6) as u8, random.below(4) as u8, random.below(4) as u8, random.below(3) as u8, 2];
+    let format = random.pick(&[FORMAT, FORMAT_LANDINGS]) as u8;
+    let header = [format, random.below(6) as u8, random.below(4) as u8, random.below(4) as u8, random.below(3) as u8, 2];
     let known = random.below(header.len() + 1).min(length);
     image[..known].copy_from_slice(&header[..known]);
     image
@@ -69,9 +70,10 @@ fn noise(random: &mut Random) -> Vec<u8> {
 
 /// One to three damages: bytes changed, cut off, put in or taken out, header numbers in a longer form.
 pub fn damage(random: &mut Random, image: &mut Vec<u8>) {
+    let front_length = image::read_header(image).map_or(9, |(_, first)| first + 1);
     for _ in 0..random.between(1, 3) {
         let at = random.below(image.len().max(1)).min(image.len());
-        let front = random.below(image.len().clamp(1, 9)).min(image.len());
+        let front = random.below(image.len().clamp(1, front_length)).min(image.len());
         match random.below(8) {
             0 => image.truncate(at),
             1 => image.extend((0..random.between(1, 9)).map(|_| 0)),
@@ -84,6 +86,48 @@ pub fn damage(random: &mut Random, image: &mut Vec<u8>) {
             _ => (),
         }
     }
+}
+
+/// The image with another landing list of as many blocks, or of none in format 2 where it was format 1.
+pub fn relisted(random: &mut Random, image: &[u8]) -> Option<Vec<u8>> {
+    let (header, blocks) = image::read(image).ok()?;
+    let mut list = header.landings.blocks().to_vec();
+    if !list.is_empty() {
+        let at = random.below(list.len());
+        let least = if at == 0 { 0 } else { list[at - 1] + 1 };
+        let limit = list.get(at + 1).map_or(header.count as u16, |next| *next);
+        list[at] = least + random.below((limit - least) as usize) as u16;
+    }
+    Some(written(&Header { format: FORMAT_LANDINGS, landings: landings(&list, header.count), ..header }, blocks))
+}
+
+/// A landing list of blocks below the count, upwards.
+fn landings(list: &[u16], count: usize) -> Landings {
+    let mut landings = Landings::NONE;
+    for block in list {
+        landings.add(*block as usize, count).expect("blocks upwards, below the count");
+    }
+    landings
+}
+
+/// An image of a header and blocks, in its format.
+pub fn written(header: &Header, blocks: &[u8]) -> Vec<u8> {
+    let wanted = Wanted {
+        format: header.format,
+        kind: header.drive.kind,
+        slot_b: header.drive.slot_b,
+        slot_c: header.drive.slot_c,
+        start: header.start as u32,
+        count: header.count as u32,
+    };
+    let list: Vec<u8> = header.landings.blocks().iter().flat_map(|block| block.to_le_bytes()).collect();
+    let mut out = vec![0; 9 + list.len() + blocks.len()];
+    let verdict = match header.format {
+        FORMAT => image::write(&wanted, blocks, &mut out),
+        _ => image::write_landings(&wanted, &list, blocks, &mut out),
+    };
+    out.truncate(verdict.place as usize);
+    out
 }
 
 /// A block that uses any pin, often one of a board, now and then with another byte that is wrong as well.
@@ -125,17 +169,24 @@ pub struct Maker<'a> {
     read: Vec<u8>,
     written: Vec<u8>,
     sections: Vec<Section>,
+    /// The format and the landing list, and the section that most landing blocks and 56s are of.
+    format: u32,
+    landings: Landings,
+    home: usize,
 }
 
 /// Variables and flags that programs share, so that what one block writes another reads.
 const SHARED: usize = 8;
-/// Commands that few tasks may use, and calls: drawn more often than the rest.
-const OFTEN: [u8; 24] = [
-    0x00, 0x01, 0x03, 0x04, 0x0E, 0x0E, 0x0F, 0x1F, 0x20, 0x21, 0x22, 0x23, 0x30, 0x31, 0x32, 0x33, 0x52, 0x52, 0x52, 0x57,
-    0x58, 0x59, 0x5A, 0x86,
+/// Commands that few tasks may use, calls and jumps by a variable: drawn more often than the rest.
+const OFTEN: [u8; 28] = [
+    0x00, 0x01, 0x03, 0x04, 0x0E, 0x0E, 0x0F, 0x1F, 0x20, 0x21, 0x22, 0x23, 0x30, 0x31, 0x32, 0x33, 0x52, 0x52, 0x52, 0x56,
+    0x56, 0x57, 0x58, 0x59, 0x5A, 0x5B, 0x5B, 0x86,
 ];
-/// Variables that are set to good parameters, mostly, at a program's beginning.
+/// Blocks at the front of BIAS's section that set variables and start tasks.
+const BEGINNING: usize = 10;
+/// Variables that are set to good parameters, mostly, at a program's beginning; and to landing blocks.
 pub const GOOD: std::ops::Range<usize> = 16..20;
+const AIMED: std::ops::Range<usize> = 20..23;
 
 impl Maker<'_> {
     pub fn new(random: &mut Random) -> Maker<'_> {
@@ -159,16 +210,48 @@ impl Maker<'_> {
             read: pins(&|pin| drive.read_output(pin)),
             written: pins(&|pin| drive.written_output(pin)),
             sections: Vec::new(),
+            format: FORMAT,
+            landings: Landings::NONE,
+            home: 0,
         }
     }
 
+    fn header(&self, start: usize) -> Header {
+        Header { format: self.format, drive: self.drive, start, count: self.count, landings: self.landings }
+    }
+
     pub fn image(&self, start: usize, blocks: &[Block]) -> Vec<u8> {
-        let Drive { kind, slot_b, slot_c } = self.drive;
-        let wanted = Wanted { format: FORMAT, kind, slot_b, slot_c, start: start as u32, count: self.count as u32 };
-        let mut out = vec![0; 8 + BLOCK_LENGTH * self.count];
-        let written = image::write(&wanted, &blocks.concat(), &mut out);
-        out.truncate(written.place as usize);
-        out
+        written(&self.header(start), &blocks.concat())
+    }
+
+    /// Most programs are of format 2. Their landing blocks are mostly of one section, BIAS's more often than others; some
+    /// have as many as there may be, or the last block.
+    fn list(&mut self) {
+        if self.random.chance(35) {
+            return;
+        }
+        self.format = FORMAT_LANDINGS;
+        self.home = if self.random.chance(60) { 0 } else { self.random.below(self.sections.len()) };
+        let Section { first, behind, .. } = self.sections[self.home];
+        let most = MOST_LANDINGS.min(self.count);
+        let number = match self.random.below(20) {
+            0 => 0,
+            1..=4 => most,
+            5 => self.random.between(1, most),
+            _ => self.random.between(1, most.min(6)),
+        };
+        let mut list = std::collections::BTreeSet::new();
+        if number > 0 && self.random.chance(15) {
+            list.insert(self.count as u16 - 1);
+        }
+        for _ in 0..number {
+            list.insert(self.random.between(first, behind - 1) as u16);
+        }
+        while number == most && list.len() < number {
+            list.insert(self.random.below(self.count) as u16);
+        }
+        let list: Vec<u16> = list.into_iter().take(most).collect();
+        self.landings = landings(&list, self.count);
     }
 
     /// Another block, or another byte of one.
@@ -212,6 +295,7 @@ impl Maker<'_> {
     /// A program start and blocks that pass 5 to 8 and 23.
     fn program(&mut self) -> (usize, Vec<Block>) {
         self.lay_out();
+        self.list();
         let mut blocks = Vec::new();
         for at in 0..self.sections.len() {
             for number in self.sections[at].first..self.sections[at].behind {
@@ -236,7 +320,7 @@ impl Maker<'_> {
                 return self.block(code, section);
             }
         }
-        if task == Some(BIAS) && number - first < 8 && self.random.chance(80) {
+        if task == Some(BIAS) && number - first < BEGINNING && self.random.chance(80) {
             return self.beginning(section, number - first);
         }
         for _ in 0..20 {
@@ -245,8 +329,13 @@ impl Maker<'_> {
                 Some(task) => row.allowed(task),
                 None => (0..TASKS).all(|task| row.allowed(task)) || self.random.chance(20),
             });
-            let called = code != 0x52 || section + 1 < self.sections.len();
-            if (allowed && called && !matches!(code, 0x51 | 0x53)) || self.random.chance(1) {
+            let leads = match code {
+                0x52 => section + 1 < self.sections.len(),
+                0x56 => section == self.home && self.format == FORMAT_LANDINGS || self.random.chance(4),
+                0x5B => self.home == 0 && self.format == FORMAT_LANDINGS || self.random.chance(4),
+                _ => true,
+            };
+            if (allowed && leads && !matches!(code, 0x51 | 0x53)) || self.random.chance(1) {
                 return self.block(code, section);
             }
         }
@@ -264,18 +353,28 @@ impl Maker<'_> {
         }
     }
 
-    /// One of a program's first blocks: sets a variable to a good parameter, or starts another task.
+    /// One of a program's first blocks: sets a variable to a good parameter or to a landing block, or starts another
+    /// task.
     fn beginning(&mut self, section: usize, at: usize) -> Block {
-        if at >= GOOD.len() {
+        let good = self.random.between(1, MOST_SPEED as usize) as i32;
+        let (variable, value) = if at < GOOD.len() {
+            (GOOD.start + at, if self.random.chance(80) { good } else { ends::content(self.random) })
+        } else if at < GOOD.len() + AIMED.len() && self.format == FORMAT_LANDINGS {
+            (AIMED.start + at - GOOD.len(), self.aim())
+        } else {
             let code = self.random.pick(&[0x54, 0x90, 0x0E]);
             return self.block(code, section);
-        }
+        };
         let mut block = self.block(0x80, section);
-        block[1] = (GOOD.start + at) as u8;
-        let good = self.random.between(1, MOST_SPEED as usize) as i32;
-        let value = if self.random.chance(80) { good } else { ends::content(self.random) };
+        block[1] = variable as u8;
         block[2..6].copy_from_slice(&value.to_le_bytes());
         block
+    }
+
+    /// A content for 56 or 5B.
+    fn aim(&mut self) -> i32 {
+        let header = self.header(0);
+        ends::aim(self.random, &header, 75)
     }
 
     fn code(&mut self) -> u8 {
@@ -379,7 +478,8 @@ impl Maker<'_> {
             0x31..=0x33 | 0x5A if self.random.chance(80) => {
                 block[1] = self.random.between(GOOD.start, GOOD.end - 1) as u8;
             }
-            0x30..=0x33 | 0x40..=0x43 | 0x5A => block[1] = self.variable(),
+            0x56 | 0x5B if self.random.chance(90) => block[1] = self.random.between(AIMED.start, AIMED.end - 1) as u8,
+            0x30..=0x33 | 0x40..=0x43 | 0x56 | 0x5A | 0x5B => block[1] = self.variable(),
             0x51 => block[1] = self.random.below(4) as u8,
             0x52 | 0x54 | 0x55 | 0x57 | 0x90 => {
                 block[1..3].copy_from_slice(&self.address(code, section).to_le_bytes());
@@ -430,6 +530,10 @@ impl Maker<'_> {
         let [low, high] = self.address(code, section).to_le_bytes();
         block[1] = self.variable();
         match code {
+            0x80 if self.random.chance(15) => {
+                block[1] = self.random.between(AIMED.start, AIMED.end - 1) as u8;
+                block[2..6].copy_from_slice(&self.aim().to_le_bytes());
+            }
             0x80 => block[2..6].copy_from_slice(&self.constant().to_le_bytes()),
             0x81 => {
                 block[2..6].copy_from_slice(&self.constant().to_le_bytes());

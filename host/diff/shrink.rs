@@ -2,12 +2,13 @@
 
 use crate::case::{Action, Case};
 use crate::ends;
+use crate::program::written;
 use crate::tally::Tally;
 use reference::command::row;
 use reference::hex::digits_of;
-use reference::image::{self, Block, Header, Wanted};
+use reference::image::{self, Block, Header, Landings};
 use reference::number::*;
-use reference::state::{record, BLOCK, STARTS, STATE_LENGTH, TIME};
+use reference::state::{record, BLOCK, LANDINGS, POSITION, STARTS, STATE_LENGTH, TIME};
 
 /// How many cases a search for a smaller one may try.
 const TRIES: usize = 60_000;
@@ -48,9 +49,10 @@ impl Shrinking {
         let actions = self.fewer_actions();
         let single = self.single_step();
         let blocks = self.fewer_blocks();
+        let landings = self.fewer_landings();
         let plainer = self.plainer_actions();
         let bytes = self.plainer_bytes();
-        lengths || actions || single || blocks || plainer || bytes || self.block_and_step()
+        lengths || actions || single || blocks || landings || plainer || bytes || self.block_and_step()
     }
 
     fn plain_lengths(&mut self) -> bool {
@@ -113,6 +115,26 @@ impl Shrinking {
                 }
             }
             stretch /= 2;
+        }
+        smaller
+    }
+
+    /// Leaves out landing blocks, the last one first; at last the format.
+    fn fewer_landings(&mut self) -> bool {
+        let mut smaller = false;
+        for at in (0..MOST_LANDINGS).rev() {
+            let Ok((header, blocks)) = image::read(&self.best.image) else {
+                return smaller;
+            };
+            let kept = header.landings.blocks().iter().enumerate().filter(|(number, _)| *number != at);
+            let landings = list_of(kept.map(|(_, block)| *block as usize), header.count);
+            if landings != header.landings {
+                let image = written(&Header { landings, ..header }, blocks);
+                smaller |= self.take(Case { image, ..self.best.clone() });
+            } else if at == 0 && header.format != FORMAT {
+                let image = written(&Header { format: FORMAT, ..header }, blocks);
+                smaller |= self.take(Case { image, ..self.best.clone() });
+            }
         }
         smaller
     }
@@ -221,7 +243,8 @@ fn without_blocks(case: &Case, at: usize, stretch: usize) -> Option<Case> {
     for number in (0..header.count).filter(|number| !(at..at + stretch).contains(number)) {
         left.extend_from_slice(&readdressed(image::block(blocks, number), &moved));
     }
-    let image = written(&Header { start: moved(header.start), count, ..header }, &left);
+    let landings = list_of(header.landings.blocks().iter().map(|block| moved(*block as usize)), count);
+    let image = written(&Header { start: moved(header.start), count, landings, ..header }, &left);
     let mut actions = case.actions.clone();
     for action in &mut actions {
         move_pokes(&mut action.pokes, &moved);
@@ -229,10 +252,22 @@ fn without_blocks(case: &Case, at: usize, stretch: usize) -> Option<Case> {
     Some(Case { image, actions, ..case.clone() })
 }
 
-/// Whether a state's byte is the low one of a block number: start blocks, then a task's block and return entries.
+/// A landing list of these blocks; those that fall together are one.
+fn list_of(blocks: impl Iterator<Item = usize>, count: usize) -> Landings {
+    let mut list = Landings::NONE;
+    for block in blocks {
+        list.add(block, count);
+    }
+    list
+}
+
+/// Whether a state's byte is the low one of a block number: landing blocks, start blocks, then a task's block and return
+/// entries.
 fn is_block_field(at: usize) -> bool {
     let within = |first: usize, behind: usize| (first..behind).contains(&at) && (at - first) % 2 == 0;
-    within(STARTS, record(BIAS)) || (0..TASKS).any(|task| within(record(task) + BLOCK, record(task) + TIME))
+    within(LANDINGS, POSITION)
+        || within(STARTS, record(BIAS))
+        || (0..TASKS).any(|task| within(record(task) + BLOCK, record(task) + TIME))
 }
 
 fn move_pokes(pokes: &mut [(usize, u8)], moved: &dyn Fn(usize) -> usize) {
@@ -257,21 +292,6 @@ fn readdressed(block: &Block, moved: &dyn Fn(usize) -> usize) -> Block {
         ends::put_address(&mut block, moved(named as usize) as u16);
     }
     block
-}
-
-fn written(header: &Header, blocks: &[u8]) -> Vec<u8> {
-    let wanted = Wanted {
-        format: FORMAT,
-        kind: header.drive.kind,
-        slot_b: header.drive.slot_b,
-        slot_c: header.drive.slot_c,
-        start: header.start as u32,
-        count: header.count as u32,
-    };
-    let mut out = vec![0; 8 + blocks.len()];
-    let written = image::write(&wanted, blocks, &mut out);
-    out.truncate(written.place as usize);
-    out
 }
 
 /// Prints a case so that a person can do it by hand.

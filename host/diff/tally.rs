@@ -1,18 +1,18 @@
 //! What a run has met: loads, steps and writes by number, commands carried out by code and where they went, what the
-//! note of a move is for, and the ends of ranges.
+//! note of a move is for, jumps by a variable, and the ends of ranges.
 
 use crate::case::{Action, Stood};
 use crate::ends::Met;
 use reference::command::codes;
 use reference::number::*;
-use reference::state::State;
+use reference::state::{State, ENDED, HALTED};
 use reference::{Answer, Verdict};
 
 /// Room for every number, and those that there are.
 const NUMBERS: usize = BOARD_MISSING as usize + 1;
 
-fn numbers() -> impl Iterator<Item = u32> {
-    (SUCCESS..=BAD_CONTENT).chain([BOARD_MISSING])
+fn numbers() -> std::ops::RangeInclusive<u32> {
+    SUCCESS..=BOARD_MISSING
 }
 
 /// Where a command that was carried out went on.
@@ -34,7 +34,68 @@ pub struct Tally {
     /// 58s that stayed by the note of a move alone, and BIAS steps right behind a move that halted.
     held_back: u64,
     halted_behind: u64,
+    jumps: Jumps,
     ends: Met,
+}
+
+/// Change request 1: 56s that landed, by task and by depth; 5Bs by what BIAS was before; 22s by code and task; 17s by the
+/// landing list alone.
+#[derive(Default)]
+struct Jumps {
+    landed: [u64; TASKS],
+    landed_deeper: u64,
+    ended: u64,
+    halted: u64,
+    in_a_call: u64,
+    waiting: u64,
+    no_landing: [[u64; TASKS]; 2],
+    no_list: u64,
+    relisted: u64,
+}
+
+impl Jumps {
+    fn step(&mut self, answer: &Answer, stood: Stood, task: usize) {
+        let (status, depth, waiting) = stood.bias;
+        match (stood.code, answer.number) {
+            (0x56, SUCCESS) => {
+                self.landed[task] += 1;
+                self.landed_deeper += u64::from(task == BIAS && depth > 0);
+            }
+            (0x5B, SUCCESS) => {
+                self.ended += u64::from(status == ENDED);
+                self.halted += u64::from(status == HALTED);
+                self.in_a_call += u64::from(depth > 0);
+                self.waiting += u64::from(waiting);
+            }
+            (code, NO_LANDING) => {
+                self.no_landing[usize::from(code == 0x5B)][task] += 1;
+                self.no_list += u64::from(stood.header.format == FORMAT);
+            }
+            (_, OTHER_IMAGE) if stood.relisted => self.relisted += 1,
+            _ => (),
+        }
+    }
+
+    fn all(&self) -> [(u64, &'static str); 15] {
+        let [by_56, by_5b] = self.no_landing;
+        [
+            (self.landed[BIAS], "56s of BIAS that landed"),
+            (self.landed[PLC], "56s of the PLC that landed"),
+            (self.landed[MATHEMATICS], "56s of mathematics that landed"),
+            (self.landed_deeper, "56s of BIAS that landed inside a call"),
+            (self.ended, "5Bs that started an ended BIAS"),
+            (self.halted, "5Bs that started a halted BIAS"),
+            (self.in_a_call, "5Bs that took BIAS out of a call"),
+            (self.waiting, "5Bs that took BIAS out of a wait"),
+            (by_56[BIAS], "22s of BIAS by 56"),
+            (by_56[PLC], "22s of the PLC by 56"),
+            (by_56[MATHEMATICS], "22s of mathematics by 56"),
+            (by_5b[PLC], "22s of the PLC by 5B"),
+            (by_5b[MATHEMATICS], "22s of mathematics by 5B"),
+            (self.no_list, "22s in format 1"),
+            (self.relisted, "17s by the landing list alone"),
+        ]
+    }
 }
 
 impl Tally {
@@ -49,6 +110,7 @@ impl Tally {
             motions: [0; 6],
             held_back: 0,
             halted_behind: 0,
+            jumps: Jumps::default(),
             ends: Met::default(),
         }
     }
@@ -71,8 +133,9 @@ impl Tally {
         self.steps[answer.number as usize] += 1;
         if let Some(stood) = before {
             self.note_of_a_move(answer, stood, action);
+            self.jumps.step(answer, stood, action.task as usize);
             if let Some(content) = stood.content {
-                self.ends.content(stood.code, content, answer.number);
+                self.ends.content(stood.code, content, &stood.header, answer.number);
             }
         }
         let (SUCCESS, Some(Stood { code, block, .. })) = (answer.number, before) else {
@@ -104,12 +167,13 @@ impl Tally {
         let both = action.ramp_ended != 0 && action.in_window != 0;
         match answer.number {
             SUCCESS if stood.code == 0x58 && both && stood.moved => self.held_back += 1,
-            ZERO_DIVISOR | BAD_CONTENT if action.task as usize == BIAS && stood.moved => self.halted_behind += 1,
+            ZERO_DIVISOR | BAD_CONTENT | NO_LANDING if action.task as usize == BIAS && stood.moved => self.halted_behind += 1,
             _ => (),
         }
     }
 
-    /// Prints the whole; gives what was never met: codes, numbers, what the note of a move is for, ends of ranges.
+    /// Prints the whole; gives what was never met: codes, numbers, what the note of a move is for, jumps by a variable,
+    /// ends of ranges.
     pub fn report(&self) -> Vec<String> {
         print_numbers("loads by number", &self.loads);
         print_numbers("writes by number", &self.writes);
@@ -124,6 +188,9 @@ impl Tally {
         }
         println!("58s that stayed by the note of a move alone: {}", self.held_back);
         println!("halts of BIAS right behind a move: {}", self.halted_behind);
+        for (count, what) in self.jumps.all() {
+            println!("{what}: {count}");
+        }
         let (ends, rarest, lost_ends) = self.ends.missing();
         println!("ends of ranges: {ends}, the rarest met {rarest} times");
         let (steps, images) = (self.steps_done(), self.loads.iter().sum::<u64>());
@@ -155,7 +222,8 @@ impl Tally {
             (self.halted_behind, "no halt right behind a move"),
         ];
         let lost_notes = notes.into_iter().filter(|note| note.0 == 0).map(|note| note.1.to_string());
-        lost_codes.chain(lost_numbers).chain(lost_notes).collect()
+        let lost_jumps = self.jumps.all().into_iter().filter(|jump| jump.0 == 0).map(|jump| format!("no {}", jump.1));
+        lost_codes.chain(lost_numbers).chain(lost_notes).chain(lost_jumps).collect()
     }
 }
 

@@ -11,6 +11,9 @@ void *bias_step_raw(bias_answer *answer, const uint8_t *image, uint64_t image_le
 void *bias_write_raw(bias_verdict *verdict, uint32_t format, uint32_t type, uint32_t slot_b, uint32_t slot_c,
                      uint32_t start, uint32_t count, const uint8_t *blocks, uint64_t blocks_len, uint8_t *out,
                      uint64_t out_len);
+void *bias_write_landings_raw(bias_verdict *verdict, uint32_t format, uint32_t type, uint32_t slot_b, uint32_t slot_c,
+                              uint32_t start, uint32_t count, const uint8_t *landings, uint64_t landings_len,
+                              const uint8_t *blocks, uint64_t blocks_len, uint8_t *out, uint64_t out_len);
 
 bias_verdict bias_load(const uint8_t *image, size_t image_len, uint8_t *marks, size_t marks_len, uint8_t *state,
                        size_t state_len)
@@ -35,5 +38,15 @@ bias_verdict bias_write(uint32_t format, uint32_t type, uint32_t slot_b, uint32_
 {
     bias_verdict verdict;
     bias_write_raw(&verdict, format, type, slot_b, slot_c, start, count, blocks, blocks_len, out, out_len);
+    return verdict;
+}
+
+bias_verdict bias_write_landings(uint32_t format, uint32_t type, uint32_t slot_b, uint32_t slot_c, uint32_t start,
+                                 uint32_t count, const uint8_t *landings, size_t landings_len, const uint8_t *blocks,
+                                 size_t blocks_len, uint8_t *out, size_t out_len)
+{
+    bias_verdict verdict;
+    bias_write_landings_raw(&verdict, format, type, slot_b, slot_c, start, count, landings, landings_len, blocks,
+                            blocks_len, out, out_len);
     return verdict;
 }

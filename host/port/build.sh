@@ -146,6 +146,7 @@ sort > "$work/expected" << 'END'
 bias_load(ptr, ptr, i64, ptr, i64, ptr, i64)
 bias_step(ptr, ptr, i64, ptr, i64, i32, ptr, i64, i8, i8, i8)
 bias_write(ptr, i32, i32, i32, i32, i32, i32, ptr, i64, ptr, i64)
+bias_write_landings(ptr, i32, i32, i32, i32, i32, i32, ptr, i64, ptr, i64, ptr, i64)
 END
 if ! diff "$work/expected" "$work/exports" >&2; then
     fail "the module's functions are not those that border.c calls"

@@ -100,7 +100,7 @@ host/port/number.sh
 # The archive has the names of the border and no other, and needs what docs/PORTING.md names and nothing else.
 target=thumbv7em-none-eabi
 exports=$(arm-none-eabi-nm -g --defined-only "$out/$target/libbias.a" | sed -n 's/^[0-9a-f]* [A-Z] //p' | sort)
-[ "$(echo $exports)" = "bias_load bias_step bias_write" ] || fail "$target: the archive's names are" $exports
+[ "$(echo $exports)" = "bias_load bias_step bias_write bias_write_landings" ] || fail "$target: the archive's names are" $exports
 imports=$(arm-none-eabi-nm -u "$out/$target/libbias.a" | sed -n 's/^ *U //p' | sort -u)
 for name in $imports; do
     case $name in

@@ -8,11 +8,13 @@
 #include "text.h"
 
 enum { MOST = BIAS_MOST_BLOCKS, BLOCK = BIAS_BLOCK_LENGTH, LADDER = 2, COMMON = LADDER + 2 * (BIAS_MOST_DEPTH + 1) };
-enum { SEED = 637, ORDERS = 7, TRIES_OF_A_CLIMB = 300, PATIENCE = 80 };
+enum { SEED = 637, ORDERS = 10, TRIES_OF_A_CLIMB = 300, PATIENCE = 80 };
 
-/* An image being changed: the drive, and the blocks. */
+/* An image being changed: the drive, the landing blocks, two bytes for each, and the blocks. Without landing blocks it is
+ * of format 1. */
 typedef struct {
-    uint32_t type, slot_b, slot_c;
+    uint32_t type, slot_b, slot_c, listed;
+    uint8_t landings[2 * BIAS_MOST_LANDINGS];
     uint8_t blocks[MOST * BLOCK];
 } program;
 
@@ -20,7 +22,6 @@ typedef struct {
 static const uint8_t known[] = {
 #include "worst.inc"
 };
-enum { HEADER = BIAS_MOST_IMAGE_LENGTH - MOST * BLOCK };
 
 static program best, now, tried;
 static uint32_t best_cost;
@@ -44,7 +45,7 @@ static uint32_t below(uint32_t bound)
 
 /* Commands to try: some that go on, all forms that may jump, calls, returns, starts and ends of tasks. */
 static const uint8_t codes[] = {0x50, 0x55, 0x61, 0x6E, 0x70, 0x71, 0x81, 0x89, 0x52, 0x53, 0x80, 0x85, 0x86,
-                                0x8D, 0x1F, 0x51, 0x54, 0x57, 0x90, 0x64, 0x73};
+                                0x8D, 0x1F, 0x51, 0x54, 0x57, 0x90, 0x64, 0x73, 0x56, 0x5B};
 
 static uint32_t target_of(const uint8_t *block)
 {
@@ -85,6 +86,16 @@ static void put(program *p, uint32_t at, uint8_t code, uint32_t target)
     }
 }
 
+/* So many landing blocks, from one on in equal steps, as far as there are blocks. */
+static void list(program *p, uint32_t number, uint32_t first, uint32_t apart)
+{
+    p->listed = 0;
+    for (uint32_t at = first; at < MOST && p->listed < number; at += apart) {
+        p->landings[2 * p->listed] = (uint8_t)at;
+        p->landings[2 * p->listed++ + 1] = (uint8_t)(at >> 8);
+    }
+}
+
 /* ---- programs to begin with ---- */
 
 /* BIAS starts the two other tasks at the ladder, where calls lead to every depth; from each a jump leads to the entry. */
@@ -122,6 +133,7 @@ static void begin(program *p, uint32_t order)
 {
     p->type = BIAS_TYPE_637;
     p->slot_b = p->slot_c = 0;
+    list(p, order < 7 ? 0 : BIAS_MOST_LANDINGS, COMMON, (MOST - COMMON) / BIAS_MOST_LANDINGS);
     put_ladder(p, order == 1 || order == 2 ? MOST - 1 : COMMON);
     for (uint32_t at = COMMON; at < MOST; at++)
         switch (order) {
@@ -129,9 +141,12 @@ static void begin(program *p, uint32_t order)
         case 2: put(p, at, 0x89, at > COMMON + 1 ? at - 2 : COMMON); break;      /* both ways */
         case 3: put(p, at, 0x89, COMMON + below(MOST - COMMON)); break;          /* branches everywhere */
         case 4: put(p, at, 0x52, COMMON + below(MOST - COMMON)); break;          /* calls everywhere */
+        case 7: put(p, at, at % 16 == 0 ? 0x56 : 0x50, 0); break;                /* jumps by a variable */
+        case 8: put(p, at, at % 2 == 0 ? 0x56 : 0x89, (at + 2) % MOST); break;   /* beside branches */
+        case 9: put(p, at, at % 2 == 0 ? 0x5B : 0x89, (at + 2) % MOST); break;   /* starts of BIAS by a variable */
         default: put(p, at, 0x50, 0); break;                                     /* straight */
         }
-    if (order >= 5)
+    if (order == 5 || order == 6)
         put_chain(p, COMMON, MOST, order == 6, 0x55);                            /* zigzag; shuffled */
     else if (order != 1)
         put(p, MOST - 1, 0x55, order == 2 ? MOST - 2 : COMMON);
@@ -160,7 +175,7 @@ static void change(program *p)
     const uint32_t length = 1 + below(below(2) == 0 ? 8 : MOST), low = below(MOST), most = low + length;
     const uint32_t high = most < MOST ? most : MOST, way = below(9);
     const uint8_t code = codes[below(sizeof codes)];
-    switch (below(8)) {
+    switch (below(9)) {
     case 0: case 1:
         /* other commands, with the targets that were there */
         for (uint32_t at = low; at < high; at++)
@@ -181,6 +196,7 @@ static void change(program *p)
         if (below(2) == 0)
             put(p, LADDER + 1 + 2 * below(BIAS_MOST_DEPTH + 1), 0x55, below(MOST));
         break;
+    case 7: list(p, below(BIAS_MOST_LANDINGS + 1), low, 1 + below(MOST / BIAS_MOST_LANDINGS)); break;
     default:
         p->type = below(2) == 0 ? BIAS_TYPE_637 : BIAS_TYPE_637F;
         p->slot_c = below(2);
@@ -195,8 +211,10 @@ static void change(program *p)
 
 static uint32_t cost_of(const program *p)
 {
-    const bias_verdict written = bias_write(BIAS_FORMAT, p->type, p->slot_b, p->slot_c, 0, MOST, p->blocks,
-                                            sizeof p->blocks, image, sizeof image);
+    const bias_verdict written = p->listed == 0
+        ? bias_write(BIAS_FORMAT, p->type, p->slot_b, p->slot_c, 0, MOST, p->blocks, sizeof p->blocks, image, sizeof image)
+        : bias_write_landings(BIAS_FORMAT_LANDINGS, p->type, p->slot_b, p->slot_c, 0, MOST, p->landings, 2 * p->listed,
+                              p->blocks, sizeof p->blocks, image, sizeof image);
     if (written.number != BIAS_SUCCESS)
         return 0;
     image_len = (size_t)written.place;
@@ -210,6 +228,9 @@ static void copy(program *to, const program *from)
     to->type = from->type;
     to->slot_b = from->slot_b;
     to->slot_c = from->slot_c;
+    to->listed = from->listed;
+    for (uint32_t at = 0; at < sizeof to->landings; at++)
+        to->landings[at] = from->landings[at];
     for (uint32_t at = 0; at < sizeof to->blocks; at++)
         to->blocks[at] = from->blocks[at];
 }
@@ -241,16 +262,25 @@ static void put_image(void)
     put_text("\n");
 }
 
-/* The worst image known; its start, 0, takes one byte, and its count two. */
+/* The worst image known; its start, 0, takes one byte, and its count two. A landing list, if there is one, stands behind
+ * them, each block in one byte or two. */
 static int begin_known(program *p)
 {
-    if (sizeof known != BIAS_MOST_IMAGE_LENGTH - 1)
+    enum { AT_LIST = 7 };
+    if (sizeof known < AT_LIST + sizeof p->blocks)
         return 0;
+    const size_t header = sizeof known - sizeof p->blocks;
     p->type = known[1];
     p->slot_b = known[2];
     p->slot_c = known[3];
+    p->listed = 0;
+    for (size_t at = AT_LIST + 1; at < header; at++) {
+        const uint32_t low = known[at], block = low < 128 ? low : low - 128 + 128u * known[++at];
+        p->landings[2 * p->listed] = (uint8_t)block;
+        p->landings[2 * p->listed++ + 1] = (uint8_t)(block >> 8);
+    }
     for (uint32_t at = 0; at < sizeof p->blocks; at++)
-        p->blocks[at] = known[HEADER - 1 + at];
+        p->blocks[at] = known[header + at];
     return 1;
 }
 

@@ -12,7 +12,7 @@ static const uint8_t worst[] = {
 enum { LOOP_ROUNDS = 1000000, STEPS = 1000 };
 #define BLOCK BIAS_BLOCK_LENGTH
 
-static uint8_t blocks[BIAS_MOST_BLOCKS * BLOCK];
+static uint8_t blocks[BIAS_MOST_BLOCKS * BLOCK], landings[2 * BIAS_MOST_LANDINGS];
 static uint8_t image[BIAS_MOST_IMAGE_LENGTH];
 static size_t image_len;
 static uint8_t marks[BIAS_MARKS_LENGTH], state[BIAS_STATE_LENGTH], inputs[BIAS_INPUTS_LENGTH];
@@ -48,6 +48,28 @@ static int write_image(uint32_t count)
 static void write_one(void)
 {
     write_image(1);
+}
+
+/* The most landing blocks, from the first one on in equal steps. */
+static void put_landings(uint32_t first, uint32_t apart)
+{
+    for (uint32_t at = 0; at < BIAS_MOST_LANDINGS; at++) {
+        landings[2 * at] = (uint8_t)(first + at * apart);
+        landings[2 * at + 1] = (uint8_t)((first + at * apart) >> 8);
+    }
+}
+
+static int write_listed(uint32_t count)
+{
+    const bias_verdict verdict = bias_write_landings(BIAS_FORMAT_LANDINGS, BIAS_TYPE_637, 0, 0, 0, count, landings,
+                                                     sizeof landings, blocks, count * BLOCK, image, sizeof image);
+    image_len = (size_t)verdict.place;
+    return verdict.number == BIAS_SUCCESS;
+}
+
+static void write_most(void)
+{
+    write_listed(BIAS_MOST_BLOCKS);
 }
 
 /* The answers of all calls, so that none is left out. */
@@ -97,8 +119,83 @@ static int make_straight(void)
     return write_image(BIAS_MOST_BLOCKS);
 }
 
+/* A jump by a variable, to itself: it is the last of the landing blocks. Two steps lead to it. */
+static int load_jump(void)
+{
+    put_block(0, 0x80, 0, BIAS_MOST_LANDINGS);
+    for (uint32_t at = 1; at < BIAS_MOST_LANDINGS; at++)
+        put_block(at, 0x55, BIAS_MOST_LANDINGS, 0);
+    put_block(BIAS_MOST_LANDINGS, 0x56, 0, 0);
+    put_landings(1, 1);
+    if (!write_listed(BIAS_MOST_LANDINGS + 1))
+        return 0;
+    load();
+    return answers == BIAS_SUCCESS;
+}
+
+/* BIAS starts the two other tasks at a ladder of calls, which leads to a block at every depth. */
+enum { LADDER_LENGTH = 2 * (BIAS_MOST_DEPTH + 1) };
+
+static void put_ladder(uint32_t ladder, uint32_t entry)
+{
+    put_block(0, 0x54, (uint8_t)ladder, 0);
+    put_block(1, 0x90, (uint8_t)ladder, 0);
+    for (uint32_t depth = 0; depth <= BIAS_MOST_DEPTH; depth++) {
+        const uint32_t at = ladder + 2 * depth;
+        put_block(at, depth < BIAS_MOST_DEPTH ? 0x52 : 0x50, depth < BIAS_MOST_DEPTH ? (uint8_t)(at + 2) : 0, 0);
+        put_block(at + 1, 0x55, (uint8_t)entry, 0);
+    }
+}
+
+/* All blocks at all depths in three tasks, from each landing block on to a jump by a variable, which leads to all of
+ * them. */
+static int make_landings(void)
+{
+    enum { FIRST = 2 + LADDER_LENGTH, APART = (BIAS_MOST_BLOCKS - FIRST) / BIAS_MOST_LANDINGS };
+    put_ladder(2, FIRST);
+    for (uint32_t at = FIRST; at < BIAS_MOST_BLOCKS; at++)
+        put_block(at, (at - FIRST) % APART == APART - 1 || at + 1 == BIAS_MOST_BLOCKS ? 0x56 : 0x50, 0, 0);
+    put_landings(FIRST, APART);
+    return write_listed(BIAS_MOST_BLOCKS);
+}
+
+/* 61: a block that a walk may jump from as well. */
+static void put_branch(uint32_t at, uint32_t to)
+{
+    put_block(at, 0x61, 0, 0);
+    blocks[at * BLOCK + 4] = (uint8_t)to;
+    blocks[at * BLOCK + 5] = (uint8_t)(to >> 8);
+}
+
+/* All blocks at all depths in three tasks, every second one a jump by a variable. */
+static int make_jumps(void)
+{
+    enum { FIRST = 2 + LADDER_LENGTH };
+    put_ladder(2, FIRST);
+    for (uint32_t at = FIRST; at + 1 < BIAS_MOST_BLOCKS; at += 2) {
+        put_branch(at, at + 3 < BIAS_MOST_BLOCKS ? at + 2 : at);
+        put_block(at + 1, 0x56, 0, 0);
+    }
+    put_landings(FIRST, (BIAS_MOST_BLOCKS - FIRST) / BIAS_MOST_LANDINGS);
+    return write_listed(BIAS_MOST_BLOCKS);
+}
+
+/* Starts of BIAS by a variable, at all depths of the two other tasks; BIAS jumps by one from each landing block. */
+static int make_pointers(void)
+{
+    enum { LADDER = 3, FIRST = LADDER + LADDER_LENGTH, COMMON = FIRST + BIAS_MOST_LANDINGS };
+    put_ladder(LADDER, COMMON);
+    put_block(LADDER - 1, 0x55, LADDER - 1, 0);
+    for (uint32_t at = FIRST; at < BIAS_MOST_BLOCKS - 1; at++)
+        put_block(at, at < COMMON ? 0x56 : 0x5B, 0, 0);
+    put_block(BIAS_MOST_BLOCKS - 1, 0x55, COMMON, 0);
+    put_landings(FIRST, 1);
+    return write_listed(BIAS_MOST_BLOCKS);
+}
+
 /* Every command that BIAS may have, one behind the other; none of them stays. Variables 1 to 3 hold what a speed, a ramp and
- * a wait may be; calls lead to a return, and the two other tasks to a jump to itself, both behind the end of the circle. */
+ * a wait may be, variable 10 the last landing block; calls lead to a return, and the two other tasks to a jump to itself,
+ * both behind the end of the circle. */
 static const uint8_t every[][BLOCK] = {
     {0x80, 1, 2}, {0x80, 2, 2}, {0x80, 3, 2}, {0x50}, {0x52, 65}, {0x54, 66}, {0x90, 66}, {0x55, 8}, {0x60, 1, 1},
     {0x61, 1, 0, 1, 10}, {0x62, 2, 1}, {0x63, 1, 11}, {0x64, 2, 12}, {0x65, 3, 1, 2}, {0x66, 4, 1, 2}, {0x67, 5, 1, 2},
@@ -107,7 +204,7 @@ static const uint8_t every[][BLOCK] = {
     {0x88, 6, 1}, {0x89, 1, 2, 2, 30}, {0x8A, 7, 1, 2}, {0x8B, 7, 1, 2}, {0x8C, 7, 1, 2}, {0x8D, 7, 1, 2}, {0x0E}, {0x00},
     {0x0E}, {0x01}, {0x0E}, {0x03}, {0x0E}, {0x04}, {0x0F, 1}, {0x1F, 1, 10}, {0x50}, {0x58}, {0x59, 0, 0}, {0x5A, 9},
     {0x20, 1, 2, 3, 4}, {0x21, 9}, {0x22, 9}, {0x23, 9}, {0x30, 1}, {0x31, 1}, {0x32, 2}, {0x33, 3}, {0x40, 8}, {0x41, 8},
-    {0x42, 8}, {0x43, 8}, {0x50}, {0x50}, {0x50}, {0x50}, {0x51}, {0x53}, {0x55, 66},
+    {0x42, 8}, {0x43, 8}, {0x50}, {0x80, 10, 63}, {0x56, 10}, {0x50}, {0x51}, {0x53}, {0x55, 66},
 };
 enum { EVERY = sizeof every / sizeof every[0], ROUND = EVERY - 1 };
 
@@ -116,7 +213,8 @@ static int load_every(void)
     for (uint32_t at = 0; at < EVERY; at++)
         for (uint32_t byte = 0; byte < BLOCK; byte++)
             blocks[at * BLOCK + byte] = every[at][byte];
-    if (!write_image(EVERY))
+    put_landings(0, 1);
+    if (!write_listed(EVERY))
         return 0;
     load();
     return answers == BIAS_SUCCESS;
@@ -148,8 +246,12 @@ typedef struct {
 static const row rows[] = {
     {"a step (80, 55)", load_two, step, STEPS, BIAS_SUCCESS},
     {"a step refused by 18", load_two, step_plc, STEPS, BIAS_NOT_RUNNING},
+    {"a jump by a variable (56), 64 landing blocks", load_jump, step, STEPS, BIAS_SUCCESS},
     {"a load of 2 blocks", make_two, load, 100, BIAS_SUCCESS},
     {"a load of 1,500 straight blocks", make_straight, load, 4, BIAS_SUCCESS},
+    {"a load of 1,500 blocks, by 64 landing blocks", make_landings, load, 1, BIAS_SUCCESS},
+    {"a load of 1,500 blocks, half of them 56", make_jumps, load, 1, BIAS_SUCCESS},
+    {"a load of 1,500 blocks, most of them 5B", make_pointers, load, 1, BIAS_SUCCESS},
     {"the worst load found", make_worst, load, 1, UINT32_MAX},
 };
 enum { ROWS = sizeof rows / sizeof rows[0] };
@@ -248,6 +350,8 @@ static int all_rows(void)
     make_worst();
     put_row("stack of a load", stack_of(load));
     put_row("stack of a write", stack_of(write_one));
+    make_landings();
+    put_row("stack of a write with landing blocks", stack_of(write_most));
     return 0;
 }
 

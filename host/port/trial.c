@@ -1,8 +1,8 @@
 /* trial.c - the same calls on every machine, and hashes over what they answer and leave: host/port/check.sh compares them.
  * Runs the manual's feed program, each command in each task that may have it, operands and pins at their limits, sums and
- * comparisons of numbers at theirs, random programs (most of them accepted, some damaged) with steps of all three tasks, and
- * writes of images, with a fixed seed. Every field of every answer, every byte of the state after each call and the bytes
- * around what is lent go into a hash; a line for each group.
+ * comparisons of numbers at theirs, landing blocks at theirs, random programs of both formats (most of them accepted, some
+ * damaged) with steps of all three tasks, and writes of images, with a fixed seed. Every field of every answer, every byte
+ * of the state after each call and the bytes around what is lent go into a hash; a line for each group.
  * Fails by itself where too little was met: accepted programs, steps that went on, commands, numbers of answers.
  * Argument: none; "each" for a line for each random program, to find where machines differ; "fault" to turn one bit of one
  * state, which the comparison has to find. */
@@ -101,7 +101,7 @@ static void mix_bytes(const uint8_t *bytes, size_t length)
 
 /* ---- what was met ---- */
 
-static uint32_t accepted, refused, programs_run, steps_done, loads_by[NUMBERS], steps_by[NUMBERS];
+static uint32_t accepted, refused, programs_run, steps_done, landed, loads_by[NUMBERS], steps_by[NUMBERS];
 static uint8_t code_done[256];
 
 static void count_in(uint32_t *numbers, uint32_t number)
@@ -222,6 +222,11 @@ static given plain(uint32_t task)
 static uint8_t blocks[BIAS_MOST_BLOCKS * BLOCK];
 static uint32_t count;
 
+/* The landing list of a program of format 2; format 1 has none. */
+static uint8_t landings[2 * BIAS_MOST_LANDINGS];
+static uint32_t landing_count;
+static int listed;
+
 /* A drive; `wild` is for a program whose pins and commands may be those of other drives. */
 typedef struct {
     uint32_t type, slot_b, slot_c, start;
@@ -242,8 +247,11 @@ static drive some_drive(void)
 
 static void write_image(drive d)
 {
-    const bias_verdict verdict = bias_write(BIAS_FORMAT, d.type, d.slot_b, d.slot_c, d.start, count, blocks, count * BLOCK,
-                                            image, BIAS_MOST_IMAGE_LENGTH);
+    const bias_verdict verdict = listed
+        ? bias_write_landings(BIAS_FORMAT_LANDINGS, d.type, d.slot_b, d.slot_c, d.start, count, landings, 2 * landing_count,
+                              blocks, count * BLOCK, image, BIAS_MOST_IMAGE_LENGTH)
+        : bias_write(BIAS_FORMAT, d.type, d.slot_b, d.slot_c, d.start, count, blocks, count * BLOCK, image,
+                     BIAS_MOST_IMAGE_LENGTH);
     mix_verdict(verdict);
     image_len = verdict.number == BIAS_SUCCESS ? (size_t)verdict.place : 0;
     mix_bytes(image, image_len);
@@ -254,7 +262,7 @@ static void write_image(drive d)
 typedef enum {
     BARE, MODE, TARGET, WORD, ONE_VARIABLE, FLAG_LEVEL, FLAG_JUMP, TWO, FLAG_INPUT, FLAG_OUTPUT, THREE, BIT_JUMP, INPUT_JUMP,
     OUTPUT_JUMP, OUTPUT_LEVEL, OUTPUT_FLAG, VARIABLE_VALUE, VALUE_JUMP, TWO_VALUE, FLAG_RUN, VARIABLE_JUMP, STOP, STOP_RAMP,
-    VALUE, SPEED, RAMP
+    VALUE, SPEED, RAMP, LANDING
 } form;
 
 typedef struct {
@@ -276,7 +284,8 @@ static const command commands[] = {
     {0x00, B, BARE}, {0x01, B, BARE}, {0x03, B, BARE}, {0x04, B, BARE}, {0x0E, B, BARE}, {0x0F, BP, STOP},
     {0x1F, BP, STOP_RAMP}, {0x20, B, VALUE}, {0x21, B, SPEED}, {0x22, B, RAMP}, {0x23, B, RAMP}, {0x30, B, ONE_VARIABLE},
     {0x31, B, ONE_VARIABLE}, {0x32, B, ONE_VARIABLE}, {0x33, B, ONE_VARIABLE}, {0x40, ALL, ONE_VARIABLE},
-    {0x41, ALL, ONE_VARIABLE}, {0x42, ALL, ONE_VARIABLE}, {0x43, ALL, ONE_VARIABLE},
+    {0x41, ALL, ONE_VARIABLE}, {0x42, ALL, ONE_VARIABLE}, {0x43, ALL, ONE_VARIABLE}, {0x56, ALL, LANDING},
+    {0x5B, PM, LANDING},
 };
 enum { COMMANDS = sizeof commands / sizeof commands[0] };
 
@@ -336,6 +345,9 @@ static uint8_t some_flag(void)
     return (uint8_t)(one_in(8) ? below(256) : below(8));
 }
 
+/* The variable that mostly holds a landing block. */
+enum { AIMED = 12 };
+
 /* Operands for a form; `target` is where it leads to. */
 static void put_operands(uint8_t *d, form f, drive on, uint32_t target)
 {
@@ -371,6 +383,7 @@ static void put_operands(uint8_t *d, form f, drive on, uint32_t target)
     case VALUE: put_value(d, some_value()); break;
     case SPEED: put_word(d, between(1, 12000)); break;
     case RAMP: put_word(d, between(1, 64000)); break;
+    case LANDING: d[0] = (uint8_t)(one_in(16) ? below(256) : AIMED); break;
     }
 }
 
@@ -396,6 +409,25 @@ static void put_small(uint32_t at, uint8_t variable)
     put_value(block + 2, between(1, 12000));
 }
 
+static void list_landing(uint32_t block)
+{
+    put_word(landings + 2 * landing_count++, block);
+}
+
+/* 80: the variable that holds a landing block; now and then another number. */
+static void put_aim(uint32_t at)
+{
+    static const uint32_t others[] = {0xFFFFFFFF, 0x10000, 0x10001, 0x80000000, 1500, 65535};
+    uint8_t *const block = clear_block(at, 0x80);
+    block[1] = AIMED;
+    if (landing_count > 0) {
+        const uint8_t *const landing = landings + 2 * below(landing_count);
+        put_value(block + 2, landing[0] + 256u * landing[1]);
+    }
+    if (one_in(8))
+        put_value(block + 2, others[below(sizeof others / sizeof others[0])]);
+}
+
 /* ---- each command in each task: a program of eight blocks in which it is the second that the task comes to ---- */
 
 enum { IDLE = 1, RETURN = 2, AIM = 3, ENTRY = 4, TRIED = 5, BACK = 6, SUB = 7, TRIES = 40 };
@@ -411,6 +443,13 @@ static int make_tried(const command *c, uint32_t task)
     clear_block(RETURN, 0x53);
     put_jump(AIM, 0x55, AIM);
     put_small(ENTRY, (uint8_t)below(4));
+    landing_count = 0;
+    listed = c->form == LANDING;
+    if (listed) {
+        list_landing(IDLE);
+        list_landing(AIM);
+        put_aim(ENTRY);
+    }
     tried = clear_block(TRIED, c->code);
     put_operands(tried + 1, c->form, d, c->code == 0x52 ? RETURN : c->code == 0x57 ? IDLE : AIM);
     if (c->form == MODE)
@@ -440,6 +479,7 @@ static void try_command(const command *c, uint32_t task, uint32_t variant)
         if (at == tried_step && (answer.number == BIAS_SUCCESS || answer.number == BIAS_BAD_CONTENT
                                  || answer.number == BIAS_ZERO_DIVISOR))
             code_done[c->code] = 1;
+        landed += at == tried_step && listed && answer.number == BIAS_SUCCESS;
     }
     step(plain(BIAS_TASK_BIAS));
 }
@@ -470,6 +510,7 @@ static void try_operands(void)
     const drive d = {BIAS_TYPE_637F, BIAS_SLOT_B_RP_EA5, BIAS_SLOT_C_RP_EAE, 0, 0};
     begin_chance(1);
     place_all();
+    listed = 0;
     for (uint32_t at = 0; at < COMMANDS; at++)
         for (uint32_t byte = 1; byte < BLOCK; byte++)
             for (uint32_t value = 0; value < sizeof bytes; value++) {
@@ -547,6 +588,76 @@ static void try_numbers(void)
     end_group("numbers, pairs of", ENDS);
 }
 
+/* ---- landing blocks: a variable with each content beside a list of each length; lists that are refused ---- */
+
+enum { LISTED_BLOCKS = 2 + 2 * BIAS_MOST_LANDINGS + 1 };
+
+/* No entry of a list: they are counted from 0. */
+enum { NO_ENTRY = BIAS_MOST_LANDINGS };
+
+/* Every second block of a program of jumps to themselves, and of the list's entry `odd` another block. */
+static void list_blocks(uint32_t number, uint32_t odd, uint32_t block)
+{
+    landing_count = 0;
+    for (uint32_t at = 0; at < number; at++)
+        list_landing(at == odd ? block : 2 + 2 * at);
+}
+
+/* BIAS sets a variable, then jumps by it. */
+static void try_content(uint32_t content)
+{
+    const drive d = {BIAS_TYPE_637, 0, 0, 0, 0};
+    uint8_t *block;
+    count = LISTED_BLOCKS;
+    for (uint32_t at = 2; at < count; at++)
+        put_jump(at, 0x55, at);
+    block = clear_block(0, 0x80);
+    block[1] = AIMED;
+    put_value(block + 2, content);
+    clear_block(1, 0x56)[1] = AIMED;
+    write_image(d);
+    if (load().number != BIAS_SUCCESS)
+        return;
+    for (uint32_t at = 0; at < 3; at++)
+        landed += step(plain(BIAS_TASK_BIAS)).number == BIAS_SUCCESS && at == 1;
+}
+
+/* A load of the same list as somebody else may have written it: its count stands at byte 7, and its entries below 128 in
+ * a byte each. */
+static void read_list(uint32_t odd, uint32_t block)
+{
+    list_blocks(BIAS_MOST_LANDINGS, NO_ENTRY, 0);
+    try_content(2);
+    if (odd + 1 < BIAS_MOST_LANDINGS)
+        image[8 + odd] = (uint8_t)block;
+    else
+        image[7]++;
+    load();
+}
+
+static void try_landings(void)
+{
+    static const uint32_t lengths[] = {0, 1, 2, 63, BIAS_MOST_LANDINGS};
+    place_all();
+    listed = 1;
+    for (uint32_t at = 0; at < sizeof lengths / sizeof lengths[0]; at++) {
+        const uint32_t last = 2 * lengths[at], contents[] = {0, 1, 2, 3, last, last + 1, 0xFFFFFFFF, 0x10002, 0x80000002};
+        for (uint32_t of = 0; of < sizeof contents / sizeof contents[0]; of++) {
+            list_blocks(lengths[at], NO_ENTRY, 0);
+            try_content(contents[of]);
+        }
+    }
+    for (uint32_t odd = 0; odd < BIAS_MOST_LANDINGS; odd++) {
+        const uint32_t others[] = {2 * odd, 2 * odd + 1, LISTED_BLOCKS - 1, LISTED_BLOCKS, 0xFFFF};
+        for (uint32_t of = 0; of < sizeof others / sizeof others[0]; of++) {
+            list_blocks(BIAS_MOST_LANDINGS, odd, others[of]);
+            try_content(2);
+            read_list(odd, others[of]);
+        }
+    }
+    end_group("landing blocks", BIAS_MOST_LANDINGS);
+}
+
 /* ---- the feed program ---- */
 
 /* An axis that needs some cycles for each move and says so a cycle late. */
@@ -608,6 +719,17 @@ static uint32_t target_of(uint8_t code, uint32_t number)
     }
 }
 
+/* Most programs are of format 2, with landing blocks in BIAS's section, upwards. */
+static void list_some(void)
+{
+    const uint32_t wanted = below(8);
+    landing_count = 0;
+    listed = !one_in(4);
+    for (uint32_t block = section[BIAS_TASK_BIAS].first; listed && block < section[BIAS_TASK_PLC].first; block++)
+        if (landing_count < BIAS_MOST_LANDINGS && (one_in(8) || wanted == 0))
+            list_landing(block);
+}
+
 /* Whether a command may stand in a section: its task and its drive may have it, and it leads somewhere. */
 static int fits(const command *c, uint32_t number, drive d)
 {
@@ -618,6 +740,8 @@ static int fits(const command *c, uint32_t number, drive d)
         return d.wild;
     if (c->code == 0x52)
         return number < TASKS ? subs > 0 : number < TASKS + subs - 1;
+    if (c->code == 0x56)
+        return number == BIAS_TASK_BIAS;
     return 1;
 }
 
@@ -638,6 +762,8 @@ static void put_section(uint32_t number, drive d)
     for (uint32_t at = first; at < last; at++)
         if (at - first < 3 && number < TASKS)
             put_small(at, (uint8_t)(at - first + 1));
+        else if (at - first == 3 && number < TASKS)
+            put_aim(at);
         else
             put_some(at, number, d);
     if (number >= TASKS)
@@ -659,6 +785,7 @@ static drive make_program(uint32_t most)
         section[number].length = between(4, most);
         count += section[number].length;
     }
+    list_some();
     for (uint32_t number = 0; number < TASKS + subs; number++)
         put_section(number, d);
     d.start = one_in(4) ? inside(BIAS_TASK_BIAS) : 0;
@@ -708,7 +835,7 @@ static void damage_image(void)
         if (image_len < BIAS_MOST_IMAGE_LENGTH)
             image[image_len++] = (uint8_t)below(256);
         break;
-    case 2: image[below(8)] = (uint8_t)below(256); break;
+    case 2: image[below(listed ? 8 + landing_count : 8)] = (uint8_t)below(256); break;
     default: image[below(6)] = (uint8_t)below(4); break;
     }
 }
@@ -728,7 +855,7 @@ static given some_step(void)
 static void odd_step(given g)
 {
     /* of the image most likely a byte of the header, of the state one that is no variable */
-    const uint32_t in_state = one_in(3) ? below(BIAS_STATE_LENGTH) : between(BIAS_STATE_FLAGS, BIAS_STATE_LENGTH - 400);
+    const uint32_t in_state = one_in(3) ? below(BIAS_STATE_LENGTH) : between(BIAS_STATE_FLAGS, BIAS_STATE_LENGTH - 280);
     const uint32_t in_image = below(one_in(2) ? 8 : (uint32_t)image_len);
     uint8_t *const byte = one_in(2) ? state + in_state : image + in_image;
     const uint8_t kept = *byte;
@@ -795,14 +922,25 @@ static void write_some(void)
 {
     const uint32_t good = between(1, 40), room = one_in(8) ? below(340) : BIAS_MOST_IMAGE_LENGTH;
     const uint32_t blocks_len = one_in(8) ? below(400) : good * BLOCK;
-    const uint32_t format = one_in(16) ? random32() : BIAS_FORMAT, type = one_in(16) ? random32() : below(5);
+    const int list = one_in(2);
+    const uint32_t right_format = list ? BIAS_FORMAT_LANDINGS : BIAS_FORMAT;
+    const uint32_t format = one_in(16) ? random32() : right_format, type = one_in(16) ? random32() : below(5);
     const uint32_t slot_b = below(4), slot_c = below(4);
     const uint32_t start = one_in(16) ? random32() : below(good), written = one_in(16) ? random32() : good;
     bias_verdict verdict;
     place_all();
     for (uint32_t at = 0; at < 50 * BLOCK; at++)
         blocks[at] = (uint8_t)random32();
-    verdict = bias_write(format, type, slot_b, slot_c, start, written, blocks, blocks_len, image, room);
+    if (list) {
+        const uint32_t length = one_in(8) ? below(2 * BIAS_MOST_LANDINGS + 20) : 2 * below(good);
+        uint8_t bytes[2 * BIAS_MOST_LANDINGS + 20];
+        for (uint32_t at = 0; at < sizeof bytes; at++)
+            bytes[at] = (uint8_t)(at % 2 == 1 ? 0 : one_in(32) ? random32() : at / 2);
+        verdict = bias_write_landings(format, type, slot_b, slot_c, start, written, bytes, length, blocks, blocks_len, image,
+                                      room);
+    } else {
+        verdict = bias_write(format, type, slot_b, slot_c, start, written, blocks, blocks_len, image, room);
+    }
     mix_verdict(verdict);
     mix_bytes(image_room, sizeof image_room);
     count_in(loads_by, verdict.number);
@@ -844,7 +982,6 @@ static int enough(const char *what, uint32_t met, uint32_t least)
     return met >= least;
 }
 
-/* Every number but 21 and 22, which no release has yet. */
 static uint32_t numbers_met(void)
 {
     uint32_t met = 0;
@@ -871,6 +1008,7 @@ int run(const char *word)
     try_operands();
     try_pins();
     try_numbers();
+    try_landings();
     run_programs(word[0] == 'e' ? 1 : GROUP);
     run_writes();
     put_counts("answers of loads and writes:", loads_by);
@@ -881,7 +1019,8 @@ int run(const char *word)
     good &= enough("steps", steps_done, PROGRAMS * STEPS * 3 / 4);
     good &= enough("steps that went on", steps_by[BIAS_SUCCESS], PROGRAMS * STEPS / 3);
     good &= enough("commands carried out", commands_done(), COMMANDS);
-    good &= enough("numbers of answers", numbers_met(), NUMBERS - 2);
+    good &= enough("jumps by a variable that landed, in programs for them", landed, 300);
+    good &= enough("numbers of answers", numbers_met(), NUMBERS);
     put_text("all: ");
     put_hex(whole_hash.a);
     put_hex(whole_hash.b);

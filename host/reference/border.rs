@@ -1,10 +1,10 @@
-//! The C border of include/bias.h over the reference. Built as a stand-in for the library (`--cfg stand_in`) the three
-//! functions have the library's names; otherwise `reference_load`, `reference_step`, `reference_write`, so that both
-//! can stand in one program.
+//! The C border of include/bias.h over the reference. Built as a stand-in for the library (`--cfg stand_in`) the four
+//! functions have the library's names; otherwise `reference_load`, `reference_step`, `reference_write` and
+//! `reference_write_landings`, so that both can stand in one program.
 
 use crate::answer::{Answer, Verdict};
 use crate::engine::{step, Given};
-use crate::image::{write, Wanted};
+use crate::image::{write, write_landings, Wanted};
 use crate::loader::load;
 use std::slice::{from_raw_parts, from_raw_parts_mut};
 
@@ -52,4 +52,18 @@ pub unsafe extern "C" fn c_write(
 ) -> Verdict {
     let wanted = Wanted { format, kind, slot_b, slot_c, start, count };
     unsafe { write(&wanted, lent(blocks, blocks_len), lent_out(out, out_len)) }
+}
+
+/// # Safety
+/// Pointers and lengths are those of real buffers that don't overlap.
+#[cfg_attr(stand_in, export_name = "bias_write_landings")]
+#[cfg_attr(not(stand_in), export_name = "reference_write_landings")]
+pub unsafe extern "C" fn c_write_landings(
+    format: u32, kind: u32, slot_b: u32, slot_c: u32, start: u32, count: u32, landings: *const u8, landings_len: usize,
+    blocks: *const u8, blocks_len: usize, out: *mut u8, out_len: usize,
+) -> Verdict {
+    let wanted = Wanted { format, kind, slot_b, slot_c, start, count };
+    unsafe {
+        write_landings(&wanted, lent(landings, landings_len), lent(blocks, blocks_len), lent_out(out, out_len))
+    }
 }

@@ -1,4 +1,4 @@
-//! The 57 commands: which bytes each uses, which drive part it needs, the ranges of its operands, its tasks, and what
+//! The 59 commands: which bytes each uses, which drive part it needs, the ranges of its operands, its tasks, and what
 //! it may continue with. Judges one block by 5 to 8 (document 01, "Refused because of the input") and by change
 //! request 3's 23.
 
@@ -62,7 +62,7 @@ const fn turning(row: Row) -> Row {
     Row { next: false, ..row }
 }
 
-const ROWS: [Row; 57] = [
+const ROWS: [Row; 59] = [
     plain(0x00, 2, B),                                                          // Move position
     plain(0x01, 2, B),                                                          // Move incremental position
     plain(0x03, 2, B),                                                          // Move infinite positive
@@ -88,10 +88,12 @@ const ROWS: [Row; 57] = [
     turning(plain(0x53, 0, ALL)),                                               // End of sub-program
     naming(0x54, 2, B | M, Address::From(1)),                                   // PLC-program
     turning(naming(0x55, 2, ALL, Address::From(1))),                            // Jump const.
+    turning(plain(0x56, 1, ALL)),                                               // Jump [variable X]
     naming(0x57, 2, P | M, Address::From(1)),                                   // BIAS-execution pointer = const.
     plain(0x58, 0, B),                                                          // Wait for "position reached"
     plain(0x59, 2, B),                                                          // Wait time = const.
     plain(0x5A, 1, B),                                                          // Wait time = [variable X]
+    plain(0x5B, 1, P | M),                                                      // BIAS-execution pointer = [variable X]
     plain(0x60, 2, ALL),                                                        // Flag X = const.
     naming(0x61, 5, ALL, Address::From(4)),                                     // If flag X ? const. then jump
     plain(0x62, 2, ALL),                                                        // Flag X = flag Y
@@ -160,7 +162,7 @@ pub fn condition_of_81(block: &Block) -> u8 {
 }
 
 impl Row {
-    /// The block that the command names.
+    /// The block that the command names; 56 and 5B name none.
     pub fn named(&self, block: &Block) -> Option<u16> {
         match self.address {
             Address::None => None,

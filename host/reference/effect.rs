@@ -1,4 +1,4 @@
-//! What the 57 commands do to the values of the state, the motion request each hands out, and where each goes on
+//! What the 59 commands do to the values of the state, the motion request each hands out, and where each goes on
 //! (the manual's chapter 4; document 01, "Running").
 
 use crate::answer::{Move, Request};
@@ -30,7 +30,7 @@ pub enum Onward {
     End,
 }
 
-/// What a command comes to; an error is the number that halts the task (19 or 20).
+/// What a command comes to; an error is the number that halts the task (19, 20 or 22).
 pub struct Effect {
     pub onward: Onward,
     pub request: Request,
@@ -46,7 +46,7 @@ pub fn perform(state: &mut State, turn: &Turn) -> Result<Effect, u32> {
         0x20..=0x33 => quiet(parameter(state, turn.block)),
         0x40..=0x43 => quiet(Ok(parameter_read(state, turn.block))),
         0x58..=0x5A => quiet(wait(state, turn)),
-        0x50..=0x57 | 0x90 => quiet(Ok(control(turn))),
+        0x50..=0x57 | 0x5B | 0x90 => quiet(control(state, turn)),
         0x60..=0x6E => quiet(Ok(flag(state, turn))),
         0x70..=0x73 => quiet(Ok(pin(state, turn))),
         _ => quiet(variable(state, turn.block)),
@@ -87,20 +87,30 @@ fn values_compare(condition: u8, first: i32, second: i32) -> bool {
     }
 }
 
-/// 50 to 57 and 90.
-fn control(turn: &Turn) -> Onward {
+/// 50 to 57, 5B and 90.
+fn control(state: &State, turn: &Turn) -> Outcome {
     let block = turn.block;
-    match block[0] {
+    Ok(match block[0] {
         0x51 if block[1] == 0 => Onward::Restart,
         0x51 => Onward::End,
         0x52 => Onward::Call(named(block)),
         0x53 => Onward::Return,
         0x54 => Onward::Start(PLC, named(block)),
         0x55 => Onward::To(named(block)),
+        0x56 => Onward::To(landing(state, block)?),
         0x57 => Onward::Start(BIAS, named(block)),
+        0x5B => Onward::Start(BIAS, landing(state, block)?),
         0x90 => Onward::Start(MATHEMATICS, named(block)),
         _ => Onward::Next,
-    }
+    })
+}
+
+/// Change request 1: the landing block that the variable of 56 or 5B holds; "22 when the variable holds no landing
+/// block".
+fn landing(state: &State, block: &Block) -> Result<u16, u32> {
+    let content = state.variable(block[1]);
+    let held = state.header().landings.blocks().iter().find(|landing| **landing as i32 == content);
+    held.copied().ok_or(NO_LANDING)
 }
 
 /// 58 to 5A.

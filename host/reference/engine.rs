@@ -1,4 +1,5 @@
-//! Step: document 01's refusals 15, 16, 18, 17 in this order, then the command, 19 and 20 included.
+//! Step: document 01's refusals 15, 16, 18, 17 in this order, then the command, 19 and 20 and change request 1's 22
+//! included.
 
 use crate::answer::{Answer, Place, Request, Verdict};
 use crate::effect::{perform, Effect, Onward, Turn};
@@ -40,10 +41,11 @@ pub fn step(image: &[u8], state: &mut [u8], task: u32, given: Given) -> Answer {
 
 /// The block at the pointer, or none: 17, "lent image's header or length differs from the loaded one, or the block at
 /// the pointer breaks 5 to 12 at the present depth, or a wait is pending there and it is neither 59 nor 5A". Change
-/// request 3 has 23 in the place of 6: "a step gives 17 for either".
+/// request 3 has 23 in the place of 6: "a step gives 17 for either". Change request 1 has the landing list as part of
+/// the header.
 fn permitted<'a>(image: &'a [u8], state: &State, place: Place) -> Option<&'a Block> {
     let (header, blocks) = image::read(image).ok()?;
-    if header != state.header() {
+    if header != *state.header() {
         return None;
     }
     let block = image::block(blocks, place.block);
@@ -55,6 +57,7 @@ fn permitted<'a>(image: &'a [u8], state: &State, place: Place) -> Option<&'a Blo
 }
 
 /// Does the command, or halts the task: "Both halt the task, record the start level for BIAS, and change nothing else."
+/// So does 22, "doing to the task that executes it what they do" (change request 1).
 fn carry_out(state: &mut State, place: Place, block: &Block, given: Given) -> Answer {
     let start = u8::from(given.start != 0);
     let turn = Turn {
@@ -82,8 +85,8 @@ fn carry_out(state: &mut State, place: Place, block: &Block, given: Given) -> An
 }
 
 /// What a BIAS step notes for the next one: the start level, and unless it halts whether it carried out a move. Change
-/// request 4 asks about "the preceding BIAS step that was not refused": 19 and 20 are refusals, which "change nothing
-/// else" than task and level, so they leave the note of a move.
+/// request 4 asks about "the preceding BIAS step that was not refused": 19, 20 and 22 are refusals, which "change
+/// nothing else" than task and level, so they leave the note of a move.
 fn note(state: &mut State, start: u8, effect: &Result<Effect, u32>) {
     state.set_start_level(start);
     if let Ok(effect) = effect {

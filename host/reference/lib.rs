@@ -17,5 +17,5 @@ pub mod walk;
 
 pub use answer::{Answer, Verdict};
 pub use engine::step;
-pub use image::write;
+pub use image::{write, write_landings};
 pub use loader::load;

@@ -1,7 +1,11 @@
 //! The numbers of the papers, each named once: limits, tasks, and document 01's refusals.
 
-/// Document 01, "The image": the only format there is.
+/// Document 01, "The image": "format (1)".
 pub const FORMAT: u32 = 1;
+/// Change request 1: "The image gets format 2: after the block count come a landing count of 0 to 64 and the landing
+/// blocks."
+pub const FORMAT_LANDINGS: u32 = 2;
+pub const MOST_LANDINGS: usize = 64;
 /// "block count (1 to 1500)".
 pub const MOST_BLOCKS: usize = 1500;
 /// "A block is a code byte and D1 to D7".
@@ -52,6 +56,11 @@ pub const OTHER_IMAGE: u32 = 17;
 pub const NOT_RUNNING: u32 = 18;
 pub const ZERO_DIVISOR: u32 = 19;
 pub const BAD_CONTENT: u32 = 20;
+
+/// Change request 1: "21 when the landing list is not strictly ascending, is too long or names a block not below the
+/// count", judged with the input; "22 when the variable holds no landing block, judged with 19 and 20".
+pub const BAD_LANDINGS: u32 = 21;
+pub const NO_LANDING: u32 = 22;
 
 /// Change request 3; judged with the input.
 pub const BOARD_MISSING: u32 = 23;

@@ -2,14 +2,14 @@
 //! (16). The layout is the table of docs/STATE.md.
 
 use crate::drive::{most_board, Drive, TYPE_637F};
-use crate::image::Header;
+use crate::image::{Header, Landings};
 use crate::number::*;
 
 pub const STATE_LENGTH: usize = 2048;
 
 /// The layout number: each release raises it that moves a byte, so that a state that another one saved is never taken
 /// for one of this. The first two layouts had none; where it stands they had the header's first byte, the format 1.
-pub const LAYOUT: u8 = 4;
+pub const LAYOUT: u8 = 5;
 
 /// Where things stand, each behind the one before it.
 const VARIABLES: usize = 0;
@@ -19,7 +19,9 @@ pub const LAYOUT_AT: usize = OUTPUTS + 256;
 pub const HEADER: usize = LAYOUT_AT + 1;
 pub const START: usize = HEADER + 4;
 pub const COUNT: usize = START + 2;
-pub const POSITION: usize = COUNT + 2;
+pub const LANDING_COUNT: usize = COUNT + 2;
+pub const LANDINGS: usize = LANDING_COUNT + 1;
+pub const POSITION: usize = LANDINGS + 2 * MOST_LANDINGS;
 pub const SPEED: usize = POSITION + 4;
 pub const ACCELERATION: usize = SPEED + 2;
 pub const DECELERATION: usize = ACCELERATION + 2;
@@ -90,19 +92,34 @@ fn layout_good(bytes: &[u8; STATE_LENGTH]) -> bool {
     bytes[LAYOUT_AT] == LAYOUT
 }
 
-/// "header not one that load accepts".
+/// "header not one that load accepts"; the landing list is part of it.
 fn header_of(bytes: &[u8; STATE_LENGTH]) -> Option<Header> {
     let [format, kind, slot_b, slot_c] = [0, 1, 2, 3].map(|at| bytes[HEADER + at] as u32);
     let start = word(bytes, START) as usize;
     let count = word(bytes, COUNT) as usize;
     let board = most_board(kind);
-    let good = format == FORMAT
+    let good = (FORMAT..=FORMAT_LANDINGS).contains(&format)
         && kind <= TYPE_637F
         && slot_b <= board
         && slot_c <= board
         && (1..=MOST_BLOCKS).contains(&count)
         && start < count;
-    good.then_some(Header { drive: Drive { kind, slot_b, slot_c }, start, count })
+    let landings = landings_of(bytes, format, count)?;
+    good.then_some(Header { format, drive: Drive { kind, slot_b, slot_c }, start, count, landings })
+}
+
+/// The landing list as load would judge it: "Format 1 means no landing blocks". Entries past the landing count are 0.
+fn landings_of(bytes: &[u8; STATE_LENGTH], format: u32, count: usize) -> Option<Landings> {
+    let number = bytes[LANDING_COUNT] as usize;
+    if number > MOST_LANDINGS || format == FORMAT && number != 0 {
+        return None;
+    }
+    let (listed, past) = bytes[LANDINGS..POSITION].split_at(2 * number);
+    let mut list = Landings::NONE;
+    for entry in listed.chunks_exact(2) {
+        list.add(u16::from_le_bytes([entry[0], entry[1]]) as usize, count)?;
+    }
+    (together(past) == 0).then_some(list)
 }
 
 /// "a parameter, level, mark ... out of range, an unused byte not 0", and the start blocks below the count. The note of
@@ -153,13 +170,14 @@ impl<'a> State<'a> {
     pub fn fresh(bytes: &'a mut [u8; STATE_LENGTH], header: &Header) -> State<'a> {
         bytes.fill(0);
         bytes[LAYOUT_AT] = LAYOUT;
-        bytes[HEADER] = FORMAT as u8;
+        bytes[HEADER] = header.format as u8;
         bytes[HEADER + 1] = header.drive.kind as u8;
         bytes[HEADER + 2] = header.drive.slot_b as u8;
         bytes[HEADER + 3] = header.drive.slot_c as u8;
         let mut state = State { bytes, header: *header };
         state.put_word(START, header.start as u16);
         state.put_word(COUNT, header.count as u16);
+        state.put_landings(header.landings.blocks());
         state.set_speed(1);
         state.set_acceleration(1);
         state.set_deceleration(1);
@@ -168,8 +186,15 @@ impl<'a> State<'a> {
         state
     }
 
-    pub fn header(&self) -> Header {
-        self.header
+    pub fn header(&self) -> &Header {
+        &self.header
+    }
+
+    fn put_landings(&mut self, blocks: &[u16]) {
+        self.bytes[LANDING_COUNT] = blocks.len() as u8;
+        for (entry, block) in blocks.iter().enumerate() {
+            self.put_word(LANDINGS + 2 * entry, *block);
+        }
     }
 
     fn put_word(&mut self, at: usize, value: u16) {
@@ -271,7 +296,7 @@ impl<'a> State<'a> {
         }
     }
 
-    /// The block named by the latest 54 or 90; 57 leaves BIAS's start alone (ruling 9).
+    /// The block named by the latest 54 or 90; 57 and 5B leave BIAS's start alone (ruling 9).
     pub fn set_start(&mut self, task: usize, block: u16) {
         if task != BIAS {
             self.put_word(STARTS + 2 * (task - 1), block);

@@ -95,7 +95,8 @@ impl Search<'_> {
     }
 
     /// Every block that a command may continue with. A return to a start leads to a place that the walk's latest 54 or
-    /// 90, or its beginning, has already reached, so it adds none; 53 leads nowhere.
+    /// 90, or its beginning, has already reached, so it adds none; 53 leads nowhere. Change request 1: "A walk continues
+    /// from 56 to every landing block at the same depth, and from 5B to every one in task 0 at depth 0."
     fn go_on(&mut self, block: &Block, place: Place) {
         let Some(row) = row(block[0]) else {
             return;
@@ -109,6 +110,15 @@ impl Search<'_> {
                 0x90 => Place { task: MATHEMATICS, block: named, depth: 0 },
                 _ => Place { block: named, ..place },
             });
+        }
+        let header = self.header;
+        for landing in header.landings.blocks() {
+            let landing = *landing as usize;
+            match row.code {
+                0x56 => self.reach(Place { block: landing, ..place }),
+                0x5B => self.reach(Place { task: BIAS, block: landing, depth: 0 }),
+                _ => (),
+            }
         }
         if row.next {
             self.reach(Place { block: place.block + 1, ..place });

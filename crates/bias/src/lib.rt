@@ -8,6 +8,7 @@ use image_header::Header;
 use image_header::reader;
 use limits::INPUTS_LENGTH;
 use limits::MARKS_LENGTH;
+use limits::MOST_LANDINGS;
 use limits::STATE_LENGTH;
 use limits::TASK_COUNT;
 use machine::Answer;
@@ -23,7 +24,8 @@ ghost use lib.ListN.{length};
 ghost use Rattle.limits.specs.Limits.{taskCount, marksLength, stateLength, inputsLength};
 ghost use Rattle.walk.specs.Verdict.{verdictOf};
 ghost use Rattle.walk_search.specs.After.{After};
-ghost use Rattle.image_writer.specs.Writer.{written, outAfter};
+ghost use Rattle.image_header.specs.Rows.{format1, format2};
+ghost use Rattle.image_writer.specs.Writer.{withLandings, written, outAfter};
 ghost use Rattle.state.specs.State.{taskAt};
 ghost use Rattle.state_layout.specs.Codecs.{headerIn};
 ghost use Rattle.state_layout.specs.Layout.{headerAt, decoded};
@@ -74,8 +76,9 @@ fn load_image(image: &[u8], marks: &mut [u8], state: &mut [u8]) -> BiasVerdict
 fn fresh(image: &[u8]) -> State
     ensures { λ r. ⌜ r ≡ loaded (now (image .entry)) ⌝ }
 {
-    let read = reader::read(image);
-    State::fresh(read.header)
+    let mut landings = [0u16; MOST_LANDINGS];
+    let read = reader::read(image, &mut landings);
+    State::fresh(read.header, landings)
 }
 
 // Steps a task: 15, then 16, then 18, 17 or the command.
@@ -131,8 +134,10 @@ fn step_buffer(
         return bias_results::no_state();
     }
     let header = state_decode::header_in(state);
+    let n = header.landings as usize;
+    let landings = state_decode::landings_in(state, header.landings);
     let task = state_decode::task_at(state, t);
-    match exec_step::ready_for(image, header, t, task) {
+    match exec_step::ready_for(image, header, &landings, t, task) {
         Ready::Refused(answer) => bias_results::answer(Request::None, answer),
         Ready::Carries(c) => {
             carry_out(
@@ -144,6 +149,7 @@ fn step_buffer(
                 ramp_ended,
                 in_window,
                 header,
+                &landings[..n],
                 task,
                 c,
             )
@@ -161,12 +167,14 @@ fn carry_out(
     ramp_ended: u8,
     in_window: u8,
     header: Header,
+    landings: &[u16],
     task: Task,
     c: Command,
 ) -> BiasAnswer
     requires { ⌜ isState (now state) ≡ true ⌝ }
     requires { ⌜ t < taskCount ⌝ }
     requires { ⌜ header ≡ headerIn (now state) headerAt ⌝ }
+    requires { ⌜ now landings ≡ termsHeld (decoded (now state)) .landings ⌝ }
     requires { ⌜ task ≡ taskAt (decoded (now state)) t ⌝ }
     requires { ⌜ Carries c ≡ readyFor (now image) (termsHeld (decoded (now state))) t task ⌝ }
     ensures { λ r. ⌜ r
@@ -186,6 +194,7 @@ fn carry_out(
         header.drive,
         c,
         inputs,
+        landings,
         start,
         ramp_ended,
         in_window,
@@ -223,7 +232,7 @@ fn carry_out(
     bias_results::answer(request, answer)
 }
 
-// Writes the image of these header numbers and blocks to the front of out.
+// Writes the image, of format 1, of these header numbers and blocks to the front of out.
 #[no_mangle]
 pub extern "C" fn bias_write(
     format: u32,
@@ -235,9 +244,34 @@ pub extern "C" fn bias_write(
     blocks: &[u8],
     out: &mut [u8],
 ) -> BiasVerdict
-    ensures { λ r. ⌜ r ≡ writtenFor (written (format ∷ model ∷ b ∷ c ∷ start ∷ count ∷ []) (length (now (blocks .entry))) (length (now (out .entry)))) ⌝ }
-    ensures { λ _. ⌜ now (out .exit) ≡ outAfter (format ∷ model ∷ b ∷ c ∷ start ∷ count ∷ []) (now (blocks .entry)) (now (out .entry)) ⌝ }
+    ensures { λ r. ⌜ r
+        ≡ writtenFor (written format1 (withLandings (format ∷ model ∷ b ∷ c ∷ start ∷ count ∷ []) []) (length (now (blocks .entry))) (length (now (out .entry)))) ⌝ }
+    ensures { λ _. ⌜ now (out .exit)
+        ≡ outAfter format1 (withLandings (format ∷ model ∷ b ∷ c ∷ start ∷ count ∷ []) []) (now (blocks .entry)) (now (out .entry)) ⌝ }
 {
     let numbers = [format, model, b, c, start, count];
-    bias_results::written(image_writer::write(numbers, blocks, out))
+    bias_results::written(image_writer::write(reader::FORMAT_1, numbers, &blocks[..0], blocks, out))
+}
+
+// Writes the image, of format 2, of these header numbers, landing blocks (two bytes each, low byte first) and blocks to the front of out.
+#[no_mangle]
+pub extern "C" fn bias_write_landings(
+    format: u32,
+    model: u32,
+    b: u32,
+    c: u32,
+    start: u32,
+    count: u32,
+    landings: &[u8],
+    blocks: &[u8],
+    out: &mut [u8],
+) -> BiasVerdict
+    ensures { λ r. ⌜ r
+        ≡ writtenFor (written format2 (withLandings (format ∷ model ∷ b ∷ c ∷ start ∷ count ∷ []) (now (landings .entry))) (length (now (blocks .entry)))
+        (length (now (out .entry)))) ⌝ }
+    ensures { λ _. ⌜ now (out .exit)
+        ≡ outAfter format2 (withLandings (format ∷ model ∷ b ∷ c ∷ start ∷ count ∷ []) (now (landings .entry))) (now (blocks .entry)) (now (out .entry)) ⌝ }
+{
+    let numbers = [format, model, b, c, start, count];
+    bias_results::written(image_writer::write(reader::FORMAT_2, numbers, landings, blocks, out))
 }

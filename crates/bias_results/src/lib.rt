@@ -129,6 +129,7 @@ fn cause_number(cause: Cause) -> u32
     match cause {
         Cause::ZeroDivisor => 19,
         Cause::BadContent => 20,
+        Cause::NoLanding => 22,
     }
 }
 

@@ -8,10 +8,10 @@ use lib.ListN.{getD}
 use borrow.Author.Tests.{eqb-true}
 use Rattle.command_table.specs.declared.FlowKind.{FlowKind}
 use Rattle.command_table.specs.declared.FlowKind.the-variants.{Nothing, Next, Wait, Jump, Branch, Call, Return, StartBias, StartPlc, StartMathematics}
-use Rattle.command_table.specs.declared.FlowKind.the-variants.{Ending}
+use Rattle.command_table.specs.declared.FlowKind.the-variants.{Ending, ComputedJump, ComputedStartBias}
 
 abbrev kinds : List FlowKind
-kinds = Nothing ∷ Next ∷ Wait ∷ Jump ∷ Branch ∷ Call ∷ Return ∷ StartBias ∷ StartPlc ∷ StartMathematics ∷ Ending ∷ []
+kinds = Nothing ∷ Next ∷ Wait ∷ Jump ∷ Branch ∷ Call ∷ Return ∷ StartBias ∷ StartPlc ∷ StartMathematics ∷ Ending ∷ ComputedJump ∷ ComputedStartBias ∷ []
 
 abbrev number : FlowKind → ℕ
 number Nothing = 0
@@ -25,6 +25,8 @@ number StartBias = 7
 number StartPlc = 8
 number StartMathematics = 9
 number Ending = 10
+number ComputedJump = 11
+number ComputedStartBias = 12
 
 back : (k : FlowKind) → getD kinds (number k) Nothing ≡ k
 back Nothing = refl
@@ -38,6 +40,8 @@ back StartBias = refl
 back StartPlc = refl
 back StartMathematics = refl
 back Ending = refl
+back ComputedJump = refl
+back ComputedStartBias = refl
 
 -- the same kind, as a test
 abbrev pub is : FlowKind → FlowKind → Bool

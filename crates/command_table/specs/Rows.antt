@@ -1,7 +1,7 @@
--- The commands carried, one row for each code: document 01, "The commands carried", and chapters 3 and 4 of 000. A row says where the operands stand
--- behind the code byte, what the drive must have (6, 23), which ranges the operands have (7), which tasks may use the command (9; the boxes of
--- chapter 3), and what it may continue with. The columns but the tasks are enums (src/lib.rt says each case), given their meaning where they are used,
--- case by case.
+-- The commands carried, one row for each code: document 01, "The commands carried", change request 1 (56, 5B), and chapters 3 and 4 of 000. A row says where
+-- the operands stand behind the code byte, what the drive must have (6, 23), which ranges the operands have (7), which tasks may use the command (9; the boxes
+-- of chapter 3), and what it may continue with. The columns but the tasks are enums (src/lib.rt says each case), given their meaning where they are used, case
+-- by case.
 use Prim.Native.Nat.{ℕ, _+_}
 use mathlib.Core.Bool.{Bool, true, false, cond}
 use mathlib.Core.List.{List, [], _∷_}
@@ -16,7 +16,7 @@ use Rattle.command_table.specs.declared.Ranges.the-variants.{Any, Addres
 use Rattle.command_table.specs.declared.Ranges.the-variants.{AxisTarget, ModeAxis, ModeRamp, Speed, Ramp}
 use Rattle.command_table.specs.declared.FlowKind.{FlowKind}
 use Rattle.command_table.specs.declared.FlowKind.the-variants.{Nothing, Next, Wait, Jump, Branch, Call, Return, StartBias, StartPlc, StartMathematics}
-use Rattle.command_table.specs.declared.FlowKind.the-variants.{Ending}
+use Rattle.command_table.specs.declared.FlowKind.the-variants.{Ending, ComputedJump, ComputedStartBias}
 
 -- ---- tasks: 1 for BIAS, 2 for the PLC, 4 for mathematics, added
 
@@ -55,6 +55,8 @@ isEnding Return = false
 isEnding StartBias = false
 isEnding StartPlc = false
 isEnding StartMathematics = false
+isEnding ComputedJump = false
+isEnding ComputedStartBias = false
 
 -- ---- the rows
 
@@ -101,10 +103,12 @@ rows =
     row 0x53 Bare NoDevice Any BPM Return ∷  -- p. 125: return from a sub-program
     row 0x54 Word NoDevice Address BM StartPlc ∷  -- p. 126: start the PLC at word
     row 0x55 Word NoDevice Address BPM Jump ∷  -- p. 127: jump to word
+    row 0x56 Byte NoDevice Any BPM ComputedJump ∷  -- p. 128: jump to the block that variable x holds (change request 1)
     row 0x57 Word NoDevice Address PM StartBias ∷  -- p. 129: start BIAS at word
     row 0x58 Bare NoDevice Any B Wait ∷  -- p. 130: wait for position reached
     row 0x59 Word NoDevice Any B Wait ∷  -- p. 131: wait for a time of word x 2 ms (DECISIONS R3)
     row 0x5A Byte NoDevice Any B Wait ∷  -- p. 132: wait for a time of variable x ms (DECISIONS R4)
+    row 0x5B Byte NoDevice Any PM ComputedStartBias ∷  -- p. 133: start BIAS at the block that variable x holds (change request 1)
     -- flags
     row 0x60 Pair NoDevice Level BPM Next ∷  -- p. 137: flag x = y
     row 0x61 TripleWord NoDevice LevelJump BPM Branch ∷  -- p. 138: jump to word if flag x compares by y with z

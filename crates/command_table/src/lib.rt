@@ -1,4 +1,4 @@
-// The commands carried (document 01, "The commands carried"): one row for each code. A row says where the operands stand, what the drive must
+// The commands carried (document 01, "The commands carried"; change request 1): one row for each code. A row says where the operands stand, what the drive must
 // have, which ranges the operands have, which tasks may use the command, and what it may continue with.
 use Device::*;
 use FlowKind::*;
@@ -118,6 +118,10 @@ pub enum FlowKind {
     StartMathematics,
     // the start of its task (mode 0), or nothing more
     Ending,
+    // any landing block
+    ComputedJump,
+    // the next block; BIAS starts at any landing block
+    ComputedStartBias,
 }
 
 impl FlowKind {
@@ -137,6 +141,8 @@ impl FlowKind {
             FlowKind::StartBias => false,
             FlowKind::StartPlc => false,
             FlowKind::StartMathematics => false,
+            FlowKind::ComputedJump => false,
+            FlowKind::ComputedStartBias => false,
         }
     }
 }
@@ -212,6 +218,8 @@ pub fn find(code: u8) -> Row
         0x54 => entry(Word, NoDevice, Address, BM, StartPlc),
         // jump to word
         0x55 => entry(Word, NoDevice, Address, BPM, Jump),
+        // jump to the block that variable x holds
+        0x56 => entry(Byte, NoDevice, Any, BPM, ComputedJump),
         // start BIAS at word
         0x57 => entry(Word, NoDevice, Address, PM, StartBias),
         // wait for position reached
@@ -220,6 +228,8 @@ pub fn find(code: u8) -> Row
         0x59 => entry(Word, NoDevice, Any, B, Wait),
         // wait for a time of variable x ms
         0x5A => entry(Byte, NoDevice, Any, B, Wait),
+        // start BIAS at the block that variable x holds
+        0x5B => entry(Byte, NoDevice, Any, PM, ComputedStartBias),
         // flag x = y
         0x60 => entry(Pair, NoDevice, Level, BPM, Next),
         // jump to word if flag x compares by y with z

@@ -1,10 +1,11 @@
 -- What an action comes to, and the forms of actions: those of effects (machine, Effect), with what changes in the place of the values.
 use Prim.Native.Nat.{ℕ}
 use mathlib.Core.Bool.{Bool, _||_, cond}
-use mathlib.Core.List.{List}
+use mathlib.Core.List.{List, [], _∷_}
 use lib.ListN.{getD}
 use lib.IntN.{ℤ, pos}
 use Rattle.limits.specs.Limits.{mostTime}
+use Rattle.num_arith.specs.Ops.{eqZ}
 use Rattle.num_arith.specs.declared.Quotient.{Quotient}
 use Rattle.num_arith.specs.declared.Quotient.the-variants.{Value, ByZero}
 use Rattle.command_operands.specs.declared.Command.{Command}
@@ -16,9 +17,9 @@ use Rattle.state.specs.declared.Change.the-variants.{Nothing, Variable, Paramet
 use Rattle.state.specs.declared.Motion.{Motion}
 use Rattle.state.specs.declared.Notes.{Notes}
 use Rattle.state.specs.declared.Values.{Values}
-use Rattle.machine.specs.Effect.{effect, isSet, natural, within, started, waits, timeOf}
+use Rattle.machine.specs.Effect.{effect, isSet, natural, within, started, waits, timeOf, isLanding}
 use Rattle.machine.specs.declared.Cause.{Cause}
-use Rattle.machine.specs.declared.Cause.the-variants.{ZeroDivisor, BadContent}
+use Rattle.machine.specs.declared.Cause.the-variants.{ZeroDivisor, BadContent, NoLanding}
 use Rattle.machine.specs.declared.Context.{Context}
 use Rattle.machine.specs.declared.Effect.{Effect}
 use Rattle.machine.specs.declared.Outcome.{Outcome}
@@ -26,6 +27,8 @@ use Rattle.machine.specs.declared.Outcome.the-variants.{GoOn, Stay, Jump, Halt}
 use Rattle.machine.specs.declared.Request.{Request}
 use Rattle.machine.specs.declared.Request.the-variants.{None}
 use Rattle.exec_action.specs.declared.Action.{Action}
+use Rattle.exec_action.specs.declared.Landing.{Landing}
+use Rattle.exec_action.specs.declared.Landing.the-variants.{At, Nowhere}
 
 -- a variable's content
 abbrev pub content : List ℤ → ℕ → ℤ
@@ -80,3 +83,12 @@ loading most put content axis = cond (within 1 most content) (setting (Parameter
 abbrev pub waiting : Context → ℤ → Action
 waiting g content =
     cond (isSet (g .time) || within 0 mostTime content) (flowing (waits (timeOf (g .drive .model) (natural content)) g)) (halting BadContent)
+
+-- the landing block of a list that a content names
+unfoldable pub landingOf : List ℕ → ℤ → Landing
+landingOf [] z = Nowhere
+landingOf (a ∷ landings) z = cond (eqZ z (pos a)) (At a) (landingOf landings z)
+
+-- on to the landing block that a content names, 22 unless it names one
+abbrev pub landing : List ℕ → (ℕ → Outcome) → ℤ → Action
+landing landings to content = cond (isLanding landings content) (flowing (to (natural content))) (halting NoLanding)

@@ -6,9 +6,11 @@ use machine::Outcome;
 use machine::Request;
 use state::Change;
 ghost use mathlib.Core.Path.{_≡_};
+ghost use lib.IntN.{pos};
+ghost use Rattle.num_arith.specs.Ops.{eqZ};
 ghost use Rattle.machine.specs.Inputs.{level};
 ghost use Rattle.machine.specs.Effect.{compares};
-ghost use Rattle.exec_action.specs.Action.{asking, setting, assigning, flowing, jumpingIf, halting, content, levelOf};
+ghost use Rattle.exec_action.specs.Action.{asking, setting, assigning, flowing, jumpingIf, halting, content, levelOf, landingOf};
 
 // What a command does, as it is handed on: what it changes of the values, and not the values after it, which would be copied from function to function; its
 // request to the axis; and what becomes of its task.
@@ -16,6 +18,12 @@ pub struct Action {
     pub change: Change,
     pub request: Request,
     pub outcome: Outcome,
+}
+
+// The landing block that a content names, if it names one.
+pub enum Landing {
+    At(u16),
+    Nowhere,
 }
 
 // At most one change, a motion is asked for, and the task goes on.
@@ -98,4 +106,25 @@ pub fn level(byte: u8) -> u8
     ensures { λ r. ⌜ r ≡ level byte ⌝ }
 {
     if byte == 0 { 0 } else { 1 }
+}
+
+// The landing block that a content names.
+pub fn find_landing(content: i32, landings: &[u16]) -> Landing
+    ensures { λ r. ⌜ r ≡ landingOf (now (landings .entry)) content ⌝ }
+{
+    let mut k: usize = 0;
+    while k < landings.len() {
+        if is_block(content, landings[k]) {
+            return Landing::At(landings[k]);
+        }
+        k += 1;
+    }
+    Landing::Nowhere
+}
+
+// Whether a content is the number of a block.
+fn is_block(content: i32, block: u16) -> bool
+    ensures { λ r. ⌜ r ≡ eqZ content (pos block) ⌝ }
+{
+    content == block as i32
 }

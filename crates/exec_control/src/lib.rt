@@ -1,8 +1,9 @@
-// Commands of control (51 to 55, 57 to 5A; 50 does nothing) and of mathematics (90): one function for each. They take what they read, and change
+// Commands of control (51 to 5B; 50 does nothing) and of mathematics (90): one function for each. They take what they read, and change
 // nothing but tasks.
 use command_operands::Command;
 use drive::Drive;
 use exec_action::Action;
+use exec_action::Landing;
 use limits::CELLS;
 use machine::Cause;
 use machine::Context;
@@ -15,7 +16,7 @@ ghost use lib.Dec.{eqb};
 ghost use Rattle.limits.specs.Limits.{bias, plc, mathematics, mostTime};
 ghost use Rattle.state.specs.Wait.{due};
 ghost use Rattle.machine.specs.Effect.{within, natural, arrived, waits, timeOf};
-ghost use Rattle.exec_action.specs.Action.{flowing, waiting, content};
+ghost use Rattle.exec_action.specs.Action.{flowing, waiting, content, landing};
 ghost use Rattle.machine.specs.declared.Outcome.the-variants.{GoOn, Stay, Jump, Call, Return, Start, Restart, End};
 
 // 51: back to the start of its task in mode 0, else its end.
@@ -56,6 +57,16 @@ pub fn jump(c: Command) -> Action
     exec_action::flows(Outcome::Jump(c.word))
 }
 
+// 56: a jump to the landing block that variable x holds.
+pub fn jump_to_landing<'a>(c: Command, variables: &'a [i32; CELLS], landings: &'a [u16]) -> Action
+    ensures { λ r. ⌜ r ≡ landing (now (landings .entry)) Jump (content (now (variables .entry)) (c .x)) ⌝ }
+{
+    match exec_action::find_landing(exec_action::content(variables, c.x), landings) {
+        Landing::At(block) => exec_action::flows(Outcome::Jump(block)),
+        Landing::Nowhere => exec_action::halts(Cause::NoLanding),
+    }
+}
+
 // 57: BIAS is started.
 pub fn start_bias(c: Command) -> Action
     ensures { λ r. ⌜ r ≡ flowing (Start bias (c .word)) ⌝ }
@@ -91,6 +102,20 @@ pub fn wait_by_variable(context: Context, c: Command, variables: &[i32; CELLS]) 
         return exec_action::flows(waits(context, time_of(context.drive, natural(content))));
     }
     exec_action::halts(Cause::BadContent)
+}
+
+// 5B: BIAS is started at the landing block that variable x holds.
+pub fn start_bias_at_landing<'a>(
+    c: Command,
+    variables: &'a [i32; CELLS],
+    landings: &'a [u16],
+) -> Action
+    ensures { λ r. ⌜ r ≡ landing (now (landings .entry)) (Start bias) (content (now (variables .entry)) (c .x)) ⌝ }
+{
+    match exec_action::find_landing(exec_action::content(variables, c.x), landings) {
+        Landing::At(block) => exec_action::flows(Outcome::Start(limits::BIAS, block)),
+        Landing::Nowhere => exec_action::halts(Cause::NoLanding),
+    }
 }
 
 // A wait: a time is pending from the first step on, and each later step counts a turn.

@@ -16,6 +16,7 @@ ghost use Rattle.exec_action.specs.Action.{acted};
 pub fn perform<'a>(
     context: Context,
     inputs: &[u8],
+    landings: &'a [u16],
     c: Command,
     variables: &'a [i32; CELLS],
     flags: &'a [u8; CELLS],
@@ -25,7 +26,7 @@ pub fn perform<'a>(
 ) -> Action
     requires { ⌜ context .turns < 4294967295 ⌝ }
     ensures { λ r. ⌜ acted r (valuesOf (cellsOf (now (variables .entry)) (now (flags .entry)) (now (outputs .entry))) motion notes)
-        ≡ effectOf (now (inputs .entry)) context c (valuesOf (cellsOf (now (variables .entry)) (now (flags .entry)) (now (outputs .entry))) motion notes) ⌝ }
+        ≡ effectOf (now (inputs .entry)) (now (landings .entry)) context c (valuesOf (cellsOf (now (variables .entry)) (now (flags .entry)) (now (outputs .entry))) motion notes) ⌝ }
 {
     let code = c.code;
     let axis = motion.axis;
@@ -55,10 +56,12 @@ pub fn perform<'a>(
         0x53 => exec_control::come_back(),
         0x54 => exec_control::start_plc(c),
         0x55 => exec_control::jump(c),
+        0x56 => exec_control::jump_to_landing(c, variables, landings),
         0x57 => exec_control::start_bias(c),
         0x58 => exec_control::wait_for_position(context, notes),
         0x59 => exec_control::wait(context, c),
         0x5A => exec_control::wait_by_variable(context, c, variables),
+        0x5B => exec_control::start_bias_at_landing(c, variables, landings),
         0x60 => exec_levels::set_flag(c),
         0x61 => exec_levels::jump_by_flag(c, flags),
         0x62 => exec_levels::copy_flag(c, flags),

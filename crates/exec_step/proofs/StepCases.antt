@@ -1,6 +1,6 @@
 -- What the engine's functions share: truths twice negated, what a task has room for, and the step by its tests.
 use Prim.Native.Nat.{ℕ, _<_, _≤_}
-use mathlib.Core.Path.{_≡_, refl, sym, ap}
+use mathlib.Core.Path.{_≡_, refl, sym, ap, _∙_}
 use mathlib.Core.Bool.{Bool, true, false, _&&_, _||_, not, cond}
 use mathlib.Core.List.{List}
 use native.Mathlib.Omega.{arith}
@@ -10,15 +10,20 @@ use lib.ListN.{length}
 use borrow.Author.Tests.{eq-eqb, ne-eqb, lt-ltb, le-ltb}
 use Rattle.limits.specs.Limits.{taskCount, mostBlocks, mostDepth, inputsLength}
 use Rattle.logic.proofs.Choice.{clash, both}
-use Rattle.image_header.specs.Scan.{headerOf, blocksOf}
+use Rattle.image_header.specs.Scan.{headerOf, landingsOf, blocksOf}
 use Rattle.image_header.specs.declared.Header.{Header}
 use Rattle.image_header.specs.declared.reader.HeaderRead.{HeaderRead}
 use Rattle.command_operands.specs.Operands.{command}
 use Rattle.command_operands.specs.declared.Command.{Command}
 use Rattle.command_operands.specs.Operands.{laidOut, operands}
 use Rattle.command_table.specs.Rows.{rowOf}
-use Rattle.command_judge.specs.BlockFault.{rowFault, blockFault}
-use Rattle.walk_flow.specs.Terms.{under}
+use Rattle.command_judge.specs.BlockFault.{rowFault, blockFault, blockFaultNumber}
+use Rattle.walk_flow.specs.Terms.{under, byHeader}
+use Rattle.walk_flow.specs.Flow.{flowOf}
+use Rattle.walk_flow.specs.Permission.{permitted}
+use Rattle.walk_fault.specs.Fault.{faultNumber}
+use Rattle.walk_fault.specs.declared.Fault.{Fault}
+use Rattle.walk_point.specs.PointFault.{faultOf}
 use Rattle.walk_point.specs.declared.Point.{Point}
 use Rattle.walk.specs.Blocks.{blockAt, commandAt, faultAt}
 use Rattle.walk_blocks.specs.Instructions.{instructionOf}
@@ -71,13 +76,20 @@ module _ (i : Instruction) (block : List ℕ) (e : i ≡ instructionOf block) wh
   unfolding blockFault
   judged h = rw e refl
 
+-- no landing block decides what a point breaks
+same-fault : (h : Header) (m : List ℕ) (c : Command) (p : Point) → faultOf (byHeader h) c p ≡ faultOf (under h m) c p
+unfolding faultOf flowOf permitted
+same-fault h m c p = refl
+
 -- the three tests of 17 are those of the image, its header and its block
-pub fits-is : (image : List ℕ) (h : Header) (t : ℕ) (task : Task) (r : HeaderRead) (bs block : List ℕ) (i : Instruction) (p : Point) (x y z : Bool)
-    → r ≡ headerOf image → bs ≡ blocksOf image → block ≡ blockAt bs (task .block) → i ≡ instructionOf block → p ≡ pointOf t task
-    → x ≡ isLoaded r h → y ≡ passes h block (i .command) p → z ≡ (not (isSet (task .time)) || isWait (i .command .code))
-    → (x && (y && z)) ≡ fits image (under h) t task
+pub fits-is : (image : List ℕ) (h : Header) (m : List ℕ) (t : ℕ) (task : Task) (r : HeaderRead) (l bs block : List ℕ) (i : Instruction) (p : Point) (x y z : Bool)
+    → r ≡ headerOf image → l ≡ landingsOf image → bs ≡ blocksOf image → block ≡ blockAt bs (task .block) → i ≡ instructionOf block → p ≡ pointOf t task
+    → x ≡ isLoaded r l (under h m) → y ≡ passes h block (i .command) p → z ≡ (not (isSet (task .time)) || isWait (i .command .code))
+    → (x && (y && z)) ≡ fits image (under h m) t task
 unfolding fits faultAt commandAt
-fits-is image h t task r bs block i p x y z e₁ e₂ e₃ e₄ e₅ e₆ e₇ e₈ = rw (e₆, e₇, e₈, e₅, e₄, e₃, e₂, e₁) refl
+fits-is image h m t task r l bs block i p x y z e₁ e₂ e₃ e₄ e₅ e₆ e₇ e₈ e₉ =
+    let q = e₈ ∙ ap (λ (f : Fault). eqb (blockFaultNumber (blockFault h block)) 0 && eqb (faultNumber f) 0) (same-fault h m (i .command) p) in
+    rw (e₇, q, e₉, e₆, e₅, e₄, e₃, e₂, e₁) refl
 
 -- the command of the instruction is that of the block
 pub command-here : (image : List ℕ) (task : Task) (bs block : List ℕ) (i : Instruction) → bs ≡ blocksOf image → block ≡ blockAt bs (task .block)
@@ -129,8 +141,8 @@ module _ (image : List ℕ) (s : State) (x : Inputs) (task : Task) where
           → Carries c ≡ cond t (cond u (Carries here) (Refused (Differs (pointOf (x .task) task)))) (Refused NotRunning) → Carried c
       go true true i j k = record {
         is = ap commandOf k;
-        fitting = both (blockFits (termsHeld s) (blocksOf image) (x .task) task) (waitFits (blocksOf image) task) (both (isLoaded (headerOf image)
-            (s .header)) _ j .1) .0;
+        fitting = both (blockFits (termsHeld s) (blocksOf image) (x .task) task) (waitFits (blocksOf image) task) (both (isLoaded (headerOf image) (landingsOf image)
+            (termsHeld s)) _ j .1) .0;
         step-is = rw (i, j);
       }
       go true false i j k = clash (ap carries k)

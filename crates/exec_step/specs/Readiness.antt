@@ -8,7 +8,7 @@ use Rattle.image_header.specs.Scan.{blocksOf}
 use Rattle.image_header.specs.declared.Header.{Header}
 use Rattle.command_operands.specs.declared.Command.{Command}
 use Rattle.command_judge.specs.BlockFault.{blockFault, blockFaultNumber}
-use Rattle.walk_flow.specs.Terms.{Terms, under}
+use Rattle.walk_flow.specs.Terms.{Terms, byHeader}
 use Rattle.walk_fault.specs.Fault.{faultNumber}
 use Rattle.walk_point.specs.PointFault.{faultOf}
 use Rattle.walk_point.specs.declared.Point.{Point}
@@ -31,7 +31,7 @@ readyFor image terms t task =
 
 -- a block with the command c passes 5 to 8 and 23 by itself, and 9 to 12 at a point
 abbrev pub passes : Header → List ℕ → Command → Point → Bool
-passes header block c p = eqb (blockFaultNumber (blockFault header block)) 0 && eqb (faultNumber (faultOf (under header) c p)) 0
+passes header block c p = eqb (blockFaultNumber (blockFault header block)) 0 && eqb (faultNumber (faultOf (byHeader header) c p)) 0
 
 -- what a command reads besides the values and the input levels
 abbrev pub contextWith : Drive → ℕ → ℕ → ℕ → ℕ → ℕ → Context

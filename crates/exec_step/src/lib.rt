@@ -8,6 +8,7 @@ use image_header::reader;
 use image_header::reader::HeaderRead;
 use limits::BLOCK_LENGTH;
 use limits::CELLS;
+use limits::MOST_LANDINGS;
 use machine::Answer;
 use machine::Context;
 use machine::Outcome;
@@ -114,31 +115,46 @@ pub fn notes_after(t: u8, start: u8, outcome: Outcome, request: Request, before:
     }
 }
 
-// 18, then 17, of the task t with this record, in a program that was loaded with this header: header, block and row are read once.
-pub fn ready_for(image: &[u8], header: Header, t: u8, task: Task) -> Ready
-    ensures { λ r. ⌜ r ≡ readyFor (now (image .entry)) (under header) t task ⌝ }
+// 18, then 17, of the task t with this record, in a program that was loaded with this header and landing list: header, landing list, block and row are read
+// once.
+pub fn ready_for(
+    image: &[u8],
+    header: Header,
+    landings: &[u16; MOST_LANDINGS],
+    t: u8,
+    task: Task,
+) -> Ready
+    ensures { λ r. ⌜ r ≡ readyFor (now (image .entry)) (under header (now (landings .entry))) t task ⌝ }
 {
     if task.status != state::RUNNING {
         return Ready::Refused(Answer::NotRunning);
     }
-    let read = reader::read(image);
+    let mut lent = [0u16; MOST_LANDINGS];
+    let read = reader::read(image, &mut lent);
     let block = walk_blocks::block_at(reader::part_of(image, read), task.block);
     let i = walk_blocks::decode(block);
     let c = i.command;
     let p = point_of(t, task);
-    if !(is_loaded(read, header)
+    if !(is_loaded(read, &lent, header, landings)
         & (block_fits(header, block, i, p) & wait_fits(c.code, task.time))) {
         return Ready::Refused(Answer::Differs(p));
     }
     Ready::Carries(c)
 }
 
-// Whether what was read of the lent image is this header.
-fn is_loaded(read: HeaderRead, header: Header) -> bool
-    ensures { λ r. ⌜ r ≡ isLoaded read header ⌝ }
+// Whether what was read of the lent image is this header and this landing list.
+fn is_loaded<'a>(
+    read: HeaderRead,
+    lent: &'a [u16; MOST_LANDINGS],
+    header: Header,
+    landings: &'a [u16; MOST_LANDINGS],
+) -> bool
+    ensures { λ r. ⌜ r ≡ isLoaded read (now (lent .entry)) (under header (now (landings .entry))) ⌝ }
 {
     let result = read.result;
-    result.is_done() & reader::same(read.header, header)
+    result.is_done()
+        & (reader::same(read.header, header)
+            & reader::same_landings(header.landings, lent, landings))
 }
 
 // Whether a block, whose instruction this is, passes 5 to 8 and 23 by itself, and 9 to 12 at a point.
@@ -160,11 +176,12 @@ fn wait_fits(code: u8, time: u32) -> bool
     (time == 0) | is_wait(code)
 }
 
-// The action of a command, in a program for this drive, with the task's pending wait.
+// The action of a command, in a program for this drive and with these landing blocks, with the task's pending wait.
 pub fn action_of<'a>(
     drive: Drive,
     c: Command,
     inputs: &[u8],
+    landings: &'a [u16],
     start: u8,
     ramp_ended: u8,
     in_window: u8,
@@ -178,7 +195,7 @@ pub fn action_of<'a>(
 ) -> Action
     requires { ⌜ turns < 4294967295 ⌝ }
     ensures { λ r. ⌜ acted r (valuesOf (cellsOf (now (variables .entry)) (now (flags .entry)) (now (outputs .entry))) motion notes)
-        ≡ effectOf (now (inputs .entry)) (contextWith drive start «ramp_ended» «in_window» time turns) c
+        ≡ effectOf (now (inputs .entry)) (now (landings .entry)) (contextWith drive start «ramp_ended» «in_window» time turns) c
         (valuesOf (cellsOf (now (variables .entry)) (now (flags .entry)) (now (outputs .entry))) motion notes) ⌝ }
 {
     let context = Context {
@@ -189,5 +206,15 @@ pub fn action_of<'a>(
         time: time,
         turns: turns,
     };
-    exec_dispatch::perform(context, inputs, c, variables, flags, outputs, motion, notes)
+    exec_dispatch::perform(
+        context,
+        inputs,
+        landings,
+        c,
+        variables,
+        flags,
+        outputs,
+        motion,
+        notes,
+    )
 }

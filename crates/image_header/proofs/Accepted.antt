@@ -1,166 +1,204 @@
--- What a header was whose numbers were accepted: each stands where the scan was, the scan holds them all, and load accepts their header.
+-- What was read of an image whose numbers were accepted: each that stands stood where the scan was, the scan holds them all, and load accepts their header and
+-- their landing list.
 use mathlib.Core.Path.{_≡_, refl, sym, ap, _∙_}
 use mathlib.Core.Bool.{Bool, true, false}
+use mathlib.Core.Logic.{⊎-elim}
 use mathlib.Core.List.{List}
-use Prim.Native.Nat.{ℕ, zero, suc, _<_, _≤_}
+use Prim.Native.Nat.{ℕ, zero, suc, _+_, _<_, _≤_}
 use native.Mathlib.Omega.{arith}
-use lib.ListN.{length, getD, set, length-set}
-use lib.Seq.{getD-set-same, getD-set-other}
-use lib.Dec.{eqb}
+use lib.ListN.{getD, set, length-drop}
+use lib.Seq.{getD-set-same, getD-drop}
+use lib.Dec.{eqb, ltb}
 use borrow.Author.Count.{below-more}
-use borrow.Author.Tests.{eqb-true, eqb-false}
+use borrow.Author.Tests.{eqb-true, eqb-false, eq-eqb, lt-ltb, le-ltb, le-leb}
 use Rattle.image_result.specs.ImageResult.{done}
+use Rattle.image_result.specs.declared.ImageResult.{ImageResult}
 use Rattle.image_number.specs.declared.Number.{Number}
 use Rattle.image_number.specs.declared.Number as number
-use Rattle.logic.proofs.Choice.{clash}
+use Rattle.logic.proofs.Choice.{by, test, either, first-way, clash}
+use Rattle.limits.specs.Limits.{mostLandings}
 use Rattle.drive.specs.Types.{slotB, slotC}
 use Rattle.drive.proofs.EveryDrive.{board-small}
 use Rattle.logic.proofs.Each.{all-pass}
 use Rattle.image_header.specs.Numbers.{headerFrom, Narrow}
-use Rattle.image_header.specs.GoodHeader.{GoodHeader}
-use Rattle.image_header.specs.Rows.{rowCount, checked, passed, accepts}
-use Rattle.image_header.specs.Scan.{Source, withNumber, unlessFailed, judged, taken, scan, scannedHeader}
+use Rattle.image_header.specs.GoodHeader.{GoodHeader, GoodLandings}
+use Rattle.image_header.specs.Rows.{mostOf, headerCount, landingCountRow, rowCount, landingsFrom, landingFits, stands, headerChecked, checked, passed}
+use Rattle.image_header.specs.Rows.{accepts, entryFits, acceptsLandings}
+use Rattle.image_header.specs.Scan.{Source, Scanned, withNumber, outOfRange, unlessFailed, judged, taken, scan}
 use Rattle.image_header.specs.declared.reader.Check.{Check}
 use Rattle.image_header.specs.declared.reader.Check.the-variants.{Passes, Fails}
-use Rattle.image_header.specs.declared.reader.Scan.{Scan}
-use Rattle.image_header.proofs.Rows.{accepted-good, looks-back}
-use Rattle.image_header.proofs.Scanning.{stays, takes, refused-empty}
-
-abbrev valueOf : Number → ℕ
-valueOf (number.Number.Value v next) = v
-valueOf number.Number.EndsEarly = 0
-valueOf number.Number.NotShortest = 0
+use Rattle.image_header.proofs.Rows.{most-of, accepted-good, landings-accepted, header-row, landing-row, header-stands, landing-stands, looks-back}
+use Rattle.image_header.proofs.Scanning.{stays, takes, value, scan-long, number-is, zero-past, stands-then}
 
 module _ (n : ℕ) (source : Source) where
-  -- where the scan is after k numbers
+  -- where the scan is after k rows
   abbrev pub place : ℕ → ℕ
   place k = scan n source k .at
 
-  -- number k, that stands there
-  abbrev pub value : ℕ → ℕ
-  value k = valueOf (source k (place k))
+  -- whether number k stands
+  abbrev pub standing : ℕ → Bool
+  standing k = stands k (scan n source k .numbers)
 
   -- number k stands where the scan was, and the scan went behind it
   abbrev pub Stood : ℕ → Type 0
-  Stood k = source k (place k) ≡ number.Number.Value (value k) (place (suc k))
+  Stood k = source k (place k) ≡ number.Number.Value (value n source k) (place (suc k))
 
-  -- number k was accepted
-  pub record Took (k : ℕ) : Type 0 where
+  -- number k was accepted, or passed over
+  pub record Went (k : ℕ) : Type 0 where
     pub before : done (scan n source k .result) ≡ true
-    pub stood : Stood k
-    pub numbers : scan n source (suc k) .numbers ≡ set (scan n source k .numbers) k (value k)
-    pub row : checked k (headerFrom (scan n source (suc k) .numbers)) ≡ Passes
+    pub stood : standing k ≡ true → Stood k
+    pub row : standing k ≡ true → checked k (scan n source (suc k) .numbers) ≡ Passes
+    pub over : standing k ≡ false → scan n source (suc k) ≡ scan n source k
 
   -- a row that let pass left the scan with the number withNumber
-  kept : (k v next : ℕ) (c : Check) → checked k (headerFrom (set (scan n source k .numbers) k v)) ≡ c
-      → scan n source (suc k) ≡ unlessFailed c (withNumber k (scan n source k) v next) → done (scan n source (suc k) .result) ≡ true
+  kept : (k v next : ℕ) (c : Check) → checked k (set (scan n source k .numbers) k v) ≡ c
+      → scan n source (suc k) ≡ unlessFailed c (scan n source k) (withNumber k (scan n source k) v next) → done (scan n source (suc k) .result) ≡ true
       → (c ≡ Passes) × (scan n source (suc k) ≡ withNumber k (scan n source k) v next)
   kept k v next Passes q e h = (refl, e)
-  kept k v next (Fails j) q e h = clash (sym h ∙ ap (λ (s : Scan). done (s .result)) e)
+  kept k v next (Fails j) q e h = clash (sym h ∙ ap (λ (s : Scanned). done (s .result)) e ∙ no-done j _)
+    where
+      no-done : (j p : ℕ) → done (outOfRange j p) ≡ false
+      no-done j p = either (λ (o : ImageResult). done o ≡ false) (ltb j landingCountRow) refl refl
 
-  took-by : (k : ℕ) (t : Bool) → done (scan n source k .result) ≡ t → (x : Number) → source k (place k) ≡ x → done (scan n source (suc k) .result) ≡ true
-      → Took k
+  went-by : (k : ℕ) → k < rowCount → (t u : Bool) → done (scan n source k .result) ≡ t → standing k ≡ u → (x : Number) → source k (place k) ≡ x
+      → done (scan n source (suc k) .result) ≡ true → Went k
   unfolding scan taken judged
-  took-by k false e x g h = clash (sym h ∙ ap (λ (s : Scan). done (s .result)) (stays n source k (scan n source k) e) ∙ e)
-  took-by k true e (number.Number.Value v next) g h =
+  went-by k l false u d e x g h =
+      let s = scan n source k in clash (sym h ∙ ap (λ (r : Scanned). done (r .result)) (stays n source k s (rw d)) ∙ d)
+  went-by k l true false d e x g h =
       let s = scan n source k in
-      let same : v ≡ value k = sym (ap valueOf g) in
-      let r = kept k v next (checked k (headerFrom (set (s .numbers) k v))) refl (takes n source k s e (number.Number.Value v next) g) h in
-      let numbers : scan n source (suc k) .numbers ≡ set (s .numbers) k v = ap (λ (x : Scan). x .numbers) (r .1) in
+      record { before = d; stood = λ q. clash (sym q ∙ e); row = λ q. clash (sym q ∙ e); over = λ q. stays n source k s (rw (d, e)) }
+  went-by k l true true d e (number.Number.Value v next) g h =
+      let s = scan n source k in
+      let r = kept k v next (checked k (set (s .numbers) k v)) refl (takes n source k s (rw (d, e)) (number.Number.Value v next) g) h in
+      let numbers : scan n source (suc k) .numbers ≡ set (s .numbers) k v = ap (λ (x : Scanned). x .numbers) (r .1) in
+      let long = scan-long n source k in
+      let same : v ≡ value n source k = sym (ap (λ (x : List ℕ). getD x k 0) numbers ∙ getD-set-same (s .numbers) k v 0 (omega arith)) in
       record {
-        before = e;
-        stood = g ∙ (λ ι. number.Number.Value (same ι) (sym (ap (λ (x : Scan). x .at) (r .1)) ι));
-        numbers = numbers ∙ ap (set (s .numbers) k) same;
-        row = ap (λ (l : List ℕ). checked k (headerFrom l)) numbers ∙ r .0;
+        before = d;
+        stood = λ _. g ∙ (λ ι. number.Number.Value (same ι) (sym (ap (λ (x : Scanned). x .at) (r .1)) ι));
+        row = λ _. ap (checked k) numbers ∙ r .0;
+        over = λ q. clash (sym e ∙ q);
       }
-  took-by k true e number.Number.EndsEarly g h =
-      clash (sym h ∙ ap (λ (s : Scan). done (s .result)) (takes n source k (scan n source k) e number.Number.EndsEarly g))
-  took-by k true e number.Number.NotShortest g h =
-      clash (sym h ∙ ap (λ (s : Scan). done (s .result)) (takes n source k (scan n source k) e number.Number.NotShortest g))
-
-  took : (k : ℕ) → done (scan n source (suc k) .result) ≡ true → Took k
-  took k h = took-by k (done (scan n source k .result)) refl (source k (place k)) refl h
+  went-by k l true true d e number.Number.EndsEarly g h =
+      clash (sym h ∙ ap (λ (s : Scanned). done (s .result)) (takes n source k (scan n source k) (rw (d, e)) number.Number.EndsEarly g))
+  went-by k l true true d e number.Number.NotShortest g h =
+      clash (sym h ∙ ap (λ (s : Scanned). done (s .result)) (takes n source k (scan n source k) (rw (d, e)) number.Number.NotShortest g))
 
   -- so was each before it
-  pub went : (k : ℕ) → done (scan n source k .result) ≡ true → (j : ℕ) → j < k → Took j
-  went zero h j l = absurd (omega arith)
-  went (suc k) h j l = let t = took k h in below-more Took k (went k (t .before)) t j (omega arith)
+  pub went : (k : ℕ) → k ≤ rowCount → done (scan n source k .result) ≡ true → (j : ℕ) → j < k → Went j
+  went zero m h j l = absurd (omega arith)
+  went (suc k) m h j l =
+      let w = went-by k (omega arith) (done (scan n source k .result)) (standing k) refl refl (source k (place k)) refl h in
+      below-more Went k (went k (omega arith) (w .before)) w j (omega arith)
 
-  -- the scan holds as many numbers as a header has
-  long : (k : ℕ) → done (scan n source k .result) ≡ true → length (scan n source k .numbers) ≡ rowCount
-  unfolding scan
-  long zero h = refl
-  long (suc k) h = let t = took k h in ap length (t .numbers) ∙ length-set (scan n source k .numbers) k (value k) ∙ long k (t .before)
+  -- ---- all numbers
 
-  -- and those read so far
-  pub number-is : (k : ℕ) → done (scan n source k .result) ≡ true → k ≤ rowCount → (j : ℕ) → j < k → getD (scan n source k .numbers) j 0 ≡ value j
-  number-is zero h m j l = absurd (omega arith)
-  number-is (suc k) h m j l =
-      let t = took k h in
-      let e = long k (t .before) in
-      below-more (λ (i : ℕ). getD (scan n source (suc k) .numbers) i 0 ≡ value i) k
-      (λ i u.
-      ap (λ (x : List ℕ). getD x i 0) (t .numbers) ∙ getD-set-other (scan n source k .numbers) k i (value k) 0 (λ q. absurd (omega arith))
-      ∙ number-is k (t .before) (omega arith) i u)
-      (ap (λ (x : List ℕ). getD x k 0) (t .numbers) ∙ getD-set-same (scan n source k .numbers) k (value k) 0 (omega arith))
-      j (omega arith)
+  abbrev all : List ℕ
+  all = scan n source rowCount .numbers
 
-  -- what holds of an accepted header
+  -- what holds of accepted numbers
   pub record Accepted : Type 0 where
-    pub good : GoodHeader (scannedHeader (scan n source rowCount))
-    pub is : (k : ℕ) → k < rowCount → getD (scan n source rowCount .numbers) k 0 ≡ value k
-    pub numbers : (k : ℕ) → k < rowCount → Stood k
+    pub good : GoodHeader (headerFrom all)
+    pub landings : GoodLandings (headerFrom all) (landingsFrom all)
+    pub numbers : (k : ℕ) → k < rowCount → stands k all ≡ true → Stood k
+    pub over : (k : ℕ) → k < rowCount → stands k all ≡ false → scan n source (suc k) ≡ scan n source k
+    pub absent : (k : ℕ) → k < rowCount → stands k all ≡ false → getD all k 0 ≡ 0
     pub fine : (k : ℕ) → k < rowCount → done (scan n source k .result) ≡ true
 
   module _ (h : done (scan n source rowCount .result) ≡ true) where
-    is : (k : ℕ) → k < rowCount → getD (scan n source rowCount .numbers) k 0 ≡ value k
-    is k l = number-is rowCount h (omega arith) k l
+    each : (k : ℕ) → k < rowCount → Went k
+    each = went rowCount (omega arith) h
 
-    -- up to any number nothing is refused
-    done-at : (k : ℕ) → k ≤ rowCount → done (scan n source k .result) ≡ true
-    done-at k l = go (eqb k rowCount) refl
-      where
-        go : (t : Bool) → eqb k rowCount ≡ t → done (scan n source k .result) ≡ true
-        go true e = let q = eqb-true k rowCount e in rw q h
-        go false e = let q = eqb-false k rowCount e in went rowCount h k (omega arith) .before
+    -- whether a number stands, by all of them
+    then : (k : ℕ) (t : Bool) → k < rowCount → stands k all ≡ t → standing k ≡ t
+    then k t l e = sym (stands-then n source k rowCount (omega arith)) ∙ e
+
+    -- one that does not is 0
+    not-there : (k : ℕ) → k < rowCount → stands k all ≡ false → getD all k 0 ≡ 0
+    not-there k l e =
+        number-is n source rowCount k l ∙ ap (λ (s : Scanned). getD (s .numbers) k 0) (each k l .over (then k false l e))
+        ∙ zero-past n source k k (omega arith)
 
     -- a row that let pass when its number was read lets all of them pass
-    row-passes : (row : ℕ) → row < rowCount → passed (checked row (scannedHeader (scan n source rowCount))) ≡ true
-    row-passes row l = ap passed (looks-back (scan n source rowCount .numbers) (scan n source (suc row) .numbers) row same ∙ went rowCount h row l .row)
+    row-passes : (row : ℕ) → row < rowCount → stands row all ≡ true → checked row all ≡ Passes
+    row-passes row l e =
+        looks-back all (scan n source (suc row) .numbers) row
+        (λ k u. number-is n source rowCount k (omega arith) ∙ sym (number-is n source (suc row) k (omega arith)))
+        ∙ each row l .row (then row true l e)
+
+    -- of a header's numbers the landing count alone may not stand, and is then 0, which every format lets pass
+    no-count : getD all landingCountRow 0 ≡ 0 → passed (headerChecked landingCountRow (headerFrom all)) ≡ true
+    unfolding headerChecked
+    no-count z = rw (le-leb (getD all landingCountRow 0) (mostOf (getD all 0 0)) (omega arith))
+
+    header-passes : (row : ℕ) → row < headerCount → passed (headerChecked row (headerFrom all)) ≡ true
+    header-passes row l =
+        test (stands row all)
+        (λ e. ap passed (sym (header-row row all l) ∙ row-passes row (omega arith) e))
+        (λ e. test (eqb row landingCountRow)
+        (λ q.
+        let r = eqb-true row landingCountRow q in
+        let z : getD all landingCountRow 0 ≡ 0 = rw r at (not-there row (omega arith) e) in
+        rw r (no-count z))
+        (λ q. clash (sym (header-stands row all l (eqb-false row landingCountRow q)) ∙ e)))
+
+    good : GoodHeader (headerFrom all)
+    unfolding accepts
+    good = accepted-good (headerFrom all) (all-pass (λ (row : ℕ). passed (headerChecked row (headerFrom all))) headerCount header-passes)
+
+    entry-passes : (i : ℕ) → i < mostLandings → entryFits (headerFrom all) (landingsFrom all) i ≡ true
+    entry-passes i l =
+        by i (headerFrom all .landings)
+        (λ u. rw (lt-ltb i (headerFrom all .landings) u) (listed u))
+        (λ u. rw (le-ltb i (headerFrom all .landings) u) (eq-eqb (getD (landingsFrom all) i 0) 0 (past u)))
       where
-        same : (k : ℕ) → k ≤ row → getD (scan n source rowCount .numbers) k 0 ≡ getD (scan n source (suc row) .numbers) k 0
-        same k u =
-            is k (omega arith)
-            ∙ sym (number-is (suc row) (done-at (suc row) (omega arith)) (omega arith) k (omega arith))
+        listed : i < headerFrom all .landings → landingFits (headerFrom all .count) (landingsFrom all) i ≡ true
+        listed u =
+            first-way passed (landingFits (headerFrom all .count) (landingsFrom all) i) refl
+            (ap passed (sym (landing-row i all) ∙ row-passes (headerCount + i) (omega arith) (landing-stands i all ∙ lt-ltb i (headerFrom all .landings) u)))
+            .0
+
+        past : headerFrom all .landings ≤ i → getD (landingsFrom all) i 0 ≡ 0
+        past u =
+            getD-drop headerCount all i 0
+            ∙ not-there (headerCount + i) (omega arith) (landing-stands i all ∙ le-ltb i (headerFrom all .landings) u)
+
+    good-landings : GoodLandings (headerFrom all) (landingsFrom all)
+    unfolding acceptsLandings
+    good-landings =
+        let m = most-of (headerFrom all .format) in
+        let g = good .landings in
+        landings-accepted (headerFrom all) (landingsFrom all) (length-drop headerCount all ∙ (let e = scan-long n source rowCount in omega arith)) (omega arith)
+        (all-pass (entryFits (headerFrom all) (landingsFrom all)) mostLandings entry-passes)
 
     pub accepted-header : Accepted
-    unfolding accepts
     accepted-header =
         record {
-          good = accepted-good (scannedHeader (scan n source rowCount))
-              (all-pass (λ (row : ℕ). passed (checked row (scannedHeader (scan n source rowCount)))) rowCount row-passes);
-          is = is;
-          numbers = λ k l. went rowCount h k l .stood;
-          fine = λ k l. went rowCount h k l .before;
+          good = good;
+          landings = good-landings;
+          numbers = λ k l e. each k l .stood (then k true l e);
+          over = λ k l e. each k l .over (then k false l e);
+          absent = not-there;
+          fine = λ k l. each k l .before;
         }
 
 -- the numbers of a header that load accepts fit their widths
 pub good-narrow : (ns : List ℕ) → GoodHeader (headerFrom ns) → Narrow ns
 good-narrow ns g =
-    let f = g .format in
     let m = g .model in
     let b = board-small slotB _ _ (g .boardB) in
     let c = board-small slotC _ _ (g .boardC) in
     let k = g .count .1 in
     let s = g .start in
-    record { format = omega arith; model = omega arith; b = omega arith; c = omega arith; start = omega arith; count = omega arith }
-
--- so do those that a scan of all numbers leaves, refused or not
-pub scan-narrow : (n : ℕ) (source : Source) → Narrow (scan n source rowCount .numbers)
-scan-narrow n source = go (done (scan n source rowCount .result)) refl
-  where
-    go : (t : Bool) → done (scan n source rowCount .result) ≡ t → Narrow (scan n source rowCount .numbers)
-    go true e = good-narrow (scan n source rowCount .numbers) (accepted-header n source e .good)
-    go false e =
-        rw (refused-empty n source rowCount e)
-        (record { format = omega arith; model = omega arith; b = omega arith; c = omega arith; start = omega arith; count = omega arith })
+    let l = g .landings in
+    let most = most-of (headerFrom ns .format) in
+    record {
+      format = ⊎-elim (λ f. omega arith) (λ f. omega arith) (g .format);
+      model = omega arith;
+      b = omega arith;
+      c = omega arith;
+      start = omega arith;
+      count = omega arith;
+      landings = omega arith;
+    }

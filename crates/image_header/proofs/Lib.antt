@@ -2,6 +2,7 @@ pub mod Numbers
 pub mod Rows
 pub mod Scanning
 pub mod Accepted
+pub mod Beside
 pub mod Places
 pub mod Read
 pub mod HeaderGood

@@ -1,27 +1,20 @@
--- The place that 3 names is where that number stands: numbers are read in their shortest form, so each stands behind the bytes of those before it.
-use mathlib.Core.Path.{_≡_, refl, ap, _∙_}
+-- The place that 3 and 21 name is where that number stands: numbers are read in their shortest form, so each stands behind the bytes of those before it.
+use mathlib.Core.Path.{_≡_, refl, sym, ap, _∙_}
 use mathlib.Core.Bool.{true}
 use mathlib.Core.List.{List}
 use Prim.Native.Nat.{ℕ, zero, suc, _+_, _<_, _≤_}
 use native.Mathlib.Omega.{arith}
 use lib.ListN.{length, getD, set}
 use lib.Seq.{getD-set-other}
+use Rattle.logic.proofs.Choice.{test}
 use Rattle.image_result.specs.ImageResult.{done}
 use Rattle.image_number.specs.Number.{numberBytes}
 use Rattle.image_number.specs.declared.Number as number
 use Rattle.image_number.proofs.RoundTrip.{number-only}
 use Rattle.image_header.specs.Rows.{rowCount}
-use Rattle.image_header.specs.Scan.{Source, fromImage, standsAt, scan}
-use Rattle.image_header.proofs.Accepted.{place, value, went, number-is}
-
--- a number's place hangs on the numbers before it alone
-same-place : (ns ms : List ℕ) (k : ℕ) → ((j : ℕ) → j < k → getD ns j 0 ≡ getD ms j 0) → standsAt ns k ≡ standsAt ms k
-unfolding standsAt
-same-place ns ms zero e = refl
-same-place ns ms (suc k) e =
-    let a = same-place ns ms k (λ j l. e j (omega arith)) in
-    let b = ap (λ (v : ℕ). length (numberBytes v)) (e k (omega arith)) in
-    omega arith
+use Rattle.image_header.specs.Scan.{Source, Scanned, fromImage, standsAt, scan}
+use Rattle.image_header.proofs.Scanning.{same-place, value, number-is, stands-then}
+use Rattle.image_header.proofs.Accepted.{place, standing, went}
 
 -- a source whose numbers are in their shortest form
 abbrev pub Shortest : Source → Type 0
@@ -35,12 +28,14 @@ module _ (n : ℕ) (source : Source) (shortest : Shortest source) (row : ℕ) (l
   unfolding standsAt scan
   stands-at zero u = refl
   stands-at (suc k) u =
-      let t = went n source row ok k (omega arith) in
+      let w = went n source row (omega arith) ok k (omega arith) in
       let e = stands-at k (omega arith) in
-      let v = number-is n source row ok (omega arith) k (omega arith) in
-      let p = shortest k (place n source k) (value n source k) (place n source (suc k)) (t .stood) in
-      let w = ap (λ (x : ℕ). length (numberBytes x)) v in
-      omega arith
+      let q = stands-then n source k row (omega arith) in
+      test (standing n source k)
+      (λ t.
+      let p = shortest k (place n source k) (value n source k) (place n source (suc k)) (w .stood t) in
+      rw (q, t, number-is n source row k (omega arith)) (ap (λ (m : ℕ). m + length (numberBytes (value n source k))) e ∙ sym p))
+      (λ t. let p = ap (λ (s : Scanned). s .at) (w .over t) in rw (q, t) (omega arith))
 
   -- once number `row` has been read, whatever it is, the place of number k is where k stands
   pub blamed-at : (v k : ℕ) → k ≤ row → standsAt (set (scan n source row .numbers) row v) k ≡ place n source k

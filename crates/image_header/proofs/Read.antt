@@ -10,11 +10,9 @@ use lib.Dec.{ltb}
 use borrow.Author.Tests.{ltb-false, le-ltb}
 use Rattle.limits.specs.Limits.{blockLength}
 use Rattle.image_result.specs.ImageResult.{done}
-use Rattle.image_header.specs.Rows.{rowCount}
-use Rattle.image_header.specs.Scan.{fromImage, scan, scannedHeader, firstRefusal, lengthResult, readWith, closed, headerOf, blocksOf}
+use Rattle.image_header.specs.Scan.{Scanned, scannedHeader, firstRefusal, lengthResult, readWith, closed, scanOf, headerOf, blocksOf}
 use Rattle.image_result.specs.declared.ImageResult.the-variants.{Done}
 use Rattle.image_result.specs.declared.ImageResult.{ImageResult}
-use Rattle.image_header.specs.declared.reader.Scan.{Scan}
 use Rattle.image_header.specs.declared.reader.HeaderRead.{HeaderRead}
 use Rattle.logic.proofs.Choice.{clash, other-way}
 
@@ -45,17 +43,17 @@ pub length-passes : (at count n : ℕ) → n ≡ at + blockLength * count → le
 unfolding lengthResult
 length-passes at count n e = rw (le-ltb n (at + blockLength * count) (omega arith), le-ltb (at + blockLength * count) n (omega arith))
 
-pub record Closed (s : Scan) (n : ℕ) : Type 0 where
+pub record Closed (s : Scanned) (n : ℕ) : Type 0 where
   pub scanned : done (s .result) ≡ true
   pub long : n ≡ s .at + blockLength * scannedHeader s .count
   pub is : closed s n ≡ record { result = Done; header = scannedHeader s; at = s .at }
 
-pub closed-is : (s : Scan) (n : ℕ) → done (s .result) ≡ true → n ≡ s .at + blockLength * scannedHeader s .count
+pub closed-is : (s : Scanned) (n : ℕ) → done (s .result) ≡ true → n ≡ s .at + blockLength * scannedHeader s .count
     → closed s n ≡ record { result = Done; header = scannedHeader s; at = s .at }
 unfolding closed readWith
 closed-is s n d e = rw (both-pass (s .result) (lengthResult (s .at) (scannedHeader s .count) n) d, length-passes (s .at) (scannedHeader s .count) n e)
 
-pub closed-fine : (s : Scan) (n : ℕ) → done (closed s n .result) ≡ true → Closed s n
+pub closed-fine : (s : Scanned) (n : ℕ) → done (closed s n .result) ≡ true → Closed s n
 unfolding closed readWith
 closed-fine s n h = go (done o) refl
   where
@@ -68,10 +66,6 @@ closed-fine s n h = go (done o) refl
         let b = neither (s .result) (lengthResult (s .at) (scannedHeader s .count) n) e in
         let l = length-right (s .at) (scannedHeader s .count) n (b .1) in
         record { scanned = b .0; long = l; is = closed-is s n (b .0) l }
-
--- the numbers of an image, all of them
-abbrev pub scanOf : List ℕ → Scan
-scanOf image = scan (length image) (fromImage image) rowCount
 
 pub read-fine : (image : List ℕ) → done (headerOf image .result) ≡ true → Closed (scanOf image) (length image)
 unfolding headerOf

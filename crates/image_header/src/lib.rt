@@ -1,5 +1,5 @@
-// The program image (document 01, "The image"): a header of six numbers and the blocks, and no byte more.
-// Crate `image_number` reads one number, reader.rt reads and judges the header; `image_writer` writes an image.
+// The program image (document 01, "The image"; change request 1): the numbers of a header, in format 2 the landing blocks, then the blocks, and no byte more.
+// Crate `image_number` reads one number, reader.rt reads and judges the header and the landing blocks; `image_writer` writes an image.
 use drive::Drive;
 
 pub mod reader;
@@ -10,4 +10,6 @@ pub struct Header {
     pub drive: Drive,
     pub start: u16,
     pub count: u16,
+    // how many landing blocks stand behind it: 0 in format 1
+    pub landings: u8,
 }

@@ -10,6 +10,8 @@ pub enum ImageResult {
     OutOfRange(usize),
     LeftOver(usize),
     NoRoom(usize),
+    // 21: a landing count or a landing block
+    BadLanding(usize),
 }
 
 impl ImageResult {
@@ -24,6 +26,7 @@ impl ImageResult {
             ImageResult::OutOfRange(_) => 3,
             ImageResult::LeftOver(_) => 4,
             ImageResult::NoRoom(_) => 14,
+            ImageResult::BadLanding(_) => 21,
         }
     }
 
@@ -38,6 +41,7 @@ impl ImageResult {
             ImageResult::OutOfRange(_) => false,
             ImageResult::LeftOver(_) => false,
             ImageResult::NoRoom(_) => false,
+            ImageResult::BadLanding(_) => false,
         }
     }
 
@@ -52,6 +56,7 @@ impl ImageResult {
             ImageResult::OutOfRange(place) => place,
             ImageResult::LeftOver(place) => place,
             ImageResult::NoRoom(place) => place,
+            ImageResult::BadLanding(place) => place,
         }
     }
 }

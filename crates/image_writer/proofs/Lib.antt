@@ -1,4 +1,5 @@
 pub mod Stores
+pub mod Words
 pub mod HeaderBytes
 pub mod Judged
 pub mod RoundTrip

@@ -1,19 +1,29 @@
-// The image writer: document 01, "Refused because of the input", its last paragraph. It judges the header's numbers as the reader
-// does, then the length of the blocks (1, 4), then the room (14); it does not judge blocks.
+// The image writers, one for each format: document 01, "Refused because of the input", its last paragraph; change request 1. They judge the numbers as the
+// reader does, then the length of the blocks (1, 4), then the room (14); they do not judge blocks.
 use image_header::reader;
-use image_header::reader::ROWS;
+use image_header::reader::BEFORE_LANDINGS;
+use image_header::reader::HEADER_ROWS;
 use image_header::reader::Scan;
 use image_result::ImageResult;
+use limits::MOST_LANDINGS;
 ghost use mathlib.Core.Path.{_≡_};
+ghost use mathlib.Core.Bool.{true};
+ghost use mathlib.Core.List.{[], _∷_, _++_};
 ghost use Prim.Native.Nat.{_+_, _<_, _≤_};
-ghost use lib.ListN.{length};
+ghost use lib.ListN.{length, getD};
 ghost use lib.Seq.{sets};
+ghost use Rattle.limits.specs.Limits.{mostLandings};
 ghost use Rattle.image_number.specs.Number.{numberLimit, numberBytes};
-ghost use Rattle.image_header.specs.Numbers.{Narrow};
-ghost use Rattle.image_header.specs.Rows.{rowCount};
-ghost use Rattle.image_header.specs.Scan.{more, scan, mostHeaderBytes};
-ghost use Rattle.image_writer.specs.Writer.{standing, givenNumbers, HaveForms, roomResult, notWritten, judgedWrite, written, firstNumbers, imageOf};
-ghost use Rattle.image_writer.specs.Writer.{overlaid, outAfter};
+ghost use Rattle.image_header.specs.Rows.{rowCount, stands};
+ghost use Rattle.image_header.specs.Scan.{more, scan, mostHeaderBytes, beside, alone, noLandings};
+ghost use Rattle.image_writer.specs.Writer.{wordsOf, landingsGiven, withLandings, givenNumbers, HaveForms, roomResult, notWritten, judgedWrite};
+ghost use Rattle.image_writer.specs.Writer.{landingsStand, judgedFor, written, bytesAt, firstNumbers, imageOf, overlaid, outAfter};
+
+// The numbers that any format has before the blocks.
+const ROWS: usize = HEADER_ROWS + MOST_LANDINGS;
+
+// A landing count that 21 refuses.
+const TOO_MANY: u32 = MOST_LANDINGS as u32 + 1;
 
 // What writing came to: the result, and the length of the image, 0 when refused.
 pub struct Written {
@@ -21,54 +31,156 @@ pub struct Written {
     pub length: usize,
 }
 
-// Writes the image of these header numbers, in the order in which they stand, and blocks to the front of out, and leaves what stands behind it. A refusal
-// leaves out as it is.
-pub fn write(numbers: [u32; ROWS], blocks: &[u8], out: &mut [u8]) -> Written
-    ensures { λ r. ⌜ r ≡ written numbers (length (now (blocks .entry))) (length (now (out .entry))) ⌝ }
-    ensures { λ _. ⌜ now (out .exit) ≡ outAfter numbers (now (blocks .entry)) (now (out .entry)) ⌝ }
+// The writer of one format: writes the image of these header numbers, in the order in which they stand, landing blocks (two bytes to each, low byte first) and
+// blocks to the front of out, and leaves what stands behind it. A refusal leaves out as it is.
+pub fn write(
+    format: u32,
+    numbers: [u32; BEFORE_LANDINGS],
+    landings: &[u8],
+    blocks: &[u8],
+    out: &mut [u8],
+) -> Written
+    ensures { λ r. ⌜ r ≡ written format (withLandings numbers (now (landings .entry))) (length (now (blocks .entry))) (length (now (out .entry))) ⌝ }
+    ensures { λ _. ⌜ now (out .exit) ≡ outAfter format (withLandings numbers (now (landings .entry))) (now (blocks .entry)) (now (out .entry)) ⌝ }
 {
-    let s = judge_rows(numbers);
+    let given = with_count(numbers, landings.len());
+    let mut list = [0; MOST_LANDINGS];
+    let s = judge(format, given, landings, &mut list);
     let w = fit(s, blocks.len(), out.len());
     let judged = w.result;
     if !judged.is_done() {
         return w;
     }
-    put_image(numbers, blocks, out);
+    put_image(given, landings, blocks, out);
     w
 }
 
+// The header's numbers, of which the landing count is the last; the landing blocks are so many bytes.
+fn with_count(n: [u32; BEFORE_LANDINGS], bytes: usize) -> [u32; HEADER_ROWS]
+    ensures { λ r. ⌜ r ≡ n ++ (landingsGiven bytes ∷ []) ⌝ }
+{
+    [
+        n[reader::FORMAT],
+        n[reader::TYPE],
+        n[reader::SLOT_B],
+        n[reader::SLOT_C],
+        n[reader::START],
+        n[reader::COUNT],
+        count_given(bytes),
+    ]
+}
+
+// How many landing blocks so many bytes name; one more than the most where their number is odd, or too great.
+fn count_given(bytes: usize) -> u32
+    ensures { λ r. ⌜ r ≡ landingsGiven bytes ⌝ }
+{
+    if bytes % 2 == 1 {
+        return TOO_MANY;
+    }
+    if 2 * MOST_LANDINGS < bytes {
+        return TOO_MANY;
+    }
+    (bytes / 2) as u32
+}
+
+// The numbers judged by the writer of one format.
+fn judge(
+    format: u32,
+    numbers: [u32; HEADER_ROWS],
+    bytes: &[u8],
+    landings: &mut [u16; MOST_LANDINGS],
+) -> Scan
+    requires { ⌜ now landings ≡ noLandings ⌝ }
+    ensures { λ r. ⌜ beside r (now (landings .exit)) ≡ judgedFor format (numbers ++ wordsOf (now (bytes .entry))) ⌝ }
+    ensures { λ _. ⌜ length (now (landings .exit)) ≡ mostLandings ⌝ }
+{
+    if numbers[reader::FORMAT] != format {
+        return reader::stop(ImageResult::OutOfRange(0), reader::begin());
+    }
+    let s = judge_numbers(numbers, bytes, landings);
+    landings_stand(numbers, s)
+}
+
+// The scan refused by 21 where landing blocks are given that have no place in the format.
+fn landings_stand(n: [u32; HEADER_ROWS], s: Scan) -> Scan
+    ensures { λ r. ⌜ alone r ≡ landingsStand n (alone s) ⌝ }
+{
+    if reader::stands(reader::LANDINGS, n) | (n[reader::LANDINGS] == 0) {
+        return s;
+    }
+    let judged = s.result;
+    reader::stop(
+        reader::first_refusal(judged, ImageResult::BadLanding(s.at)),
+        s,
+    )
+}
+
 // The numbers judged, each at the place where it would stand.
-fn judge_rows(numbers: [u32; ROWS]) -> Scan
-    ensures { λ r. ⌜ r ≡ scan 0 (givenNumbers numbers) rowCount ⌝ }
+fn judge_numbers(
+    numbers: [u32; HEADER_ROWS],
+    bytes: &[u8],
+    landings: &mut [u16; MOST_LANDINGS],
+) -> Scan
+    requires { ⌜ now landings ≡ noLandings ⌝ }
+    ensures { λ r. ⌜ beside r (now (landings .exit)) ≡ scan 0 (givenNumbers (numbers ++ wordsOf (now (bytes .entry)))) rowCount ⌝ }
+    ensures { λ _. ⌜ length (now (landings .exit)) ≡ mostLandings ⌝ }
 {
     let mut s = reader::begin();
     let mut row: usize = 0;
     while row < ROWS {
-        s = judge_row(s, row, numbers[row]);
+        s = judge_number(s, row, numbers, bytes, landings);
         row += 1;
     }
     s
 }
 
-// One number more, unless one before it was refused.
-fn judge_row(s: Scan, row: usize, v: u32) -> Scan
-    requires { ⌜ s .at ≤ mostHeaderBytes ⌝ }
-    requires { ⌜ row < rowCount ⌝ }
-    ensures { λ r. ⌜ r ≡ more 0 (λ k. standing v) row s ⌝ }
+// One number more, if it stands and none before it was refused.
+fn judge_number(
+    s: Scan,
+    row: usize,
+    numbers: [u32; HEADER_ROWS],
+    bytes: &[u8],
+    landings: &mut [u16; MOST_LANDINGS],
+) -> Scan
+    requires { ⌜ (s .at ≤ mostHeaderBytes) × (row < rowCount) ⌝ }
+    requires { ⌜ length (now landings) ≡ mostLandings ⌝ }
+    ensures { λ r. ⌜ beside r (now (landings .exit)) ≡ more 0 (givenNumbers (numbers ++ wordsOf (now (bytes .entry)))) row (beside s (now (landings .entry))) ⌝ }
+    ensures { λ _. ⌜ length (now (landings .exit)) ≡ mostLandings ⌝ }
 {
-    let result = s.result;
-    if !result.is_done() {
+    if !reader::is_next(s, row) {
         return s;
     }
-    let next = s.at + image_number::size(v);
-    reader::judge(row, s, v, next)
+    if row < HEADER_ROWS {
+        let v = numbers[row];
+        return reader::judge(row, s, v, s.at + image_number::size(v));
+    }
+    let i = row - HEADER_ROWS;
+    let block = word_at(bytes, i);
+    reader::judge_landing(
+        i,
+        s,
+        block,
+        s.at + image_number::size(reader::wide(block)),
+        landings,
+    )
+}
+
+// Landing block i of these bytes; 0 where they have none.
+fn word_at(bytes: &[u8], i: usize) -> u16
+    requires { ⌜ i < mostLandings ⌝ }
+    ensures { λ r. ⌜ r ≡ getD (wordsOf (now (bytes .entry))) i 0 ⌝ }
+{
+    let at = 2 * i;
+    if bytes.len() <= at + 1 {
+        return 0;
+    }
+    num_le::read_u16([bytes[at], bytes[at + 1]])
 }
 
 // What the judged numbers, the length of the blocks and the room come to.
 fn fit(s: Scan, blocks: usize, room: usize) -> Written
     requires { ⌜ s .at ≤ mostHeaderBytes ⌝ }
-    requires { ⌜ Narrow (s .numbers) ⌝ }
-    ensures { λ r. ⌜ r ≡ judgedWrite s blocks room ⌝ }
+    ensures { λ r. ⌜ r ≡ judgedWrite (alone s) blocks room ⌝ }
 {
     let judged = s.result;
     let numbers = s.numbers;
@@ -89,7 +201,6 @@ fn fit(s: Scan, blocks: usize, room: usize) -> Written
 // Whether the blocks are as long as the count says, and there is room for them behind the numbers.
 fn judge_room(at: usize, count: u32, blocks: usize, room: usize) -> ImageResult
     requires { ⌜ at ≤ mostHeaderBytes ⌝ }
-    requires { ⌜ count < 65536 ⌝ }
     ensures { λ r. ⌜ r ≡ roomResult at count blocks room ⌝ }
 {
     let whole = limits::BLOCK_LENGTH * (count as usize);
@@ -115,26 +226,60 @@ fn not_written(result: ImageResult) -> Written
 }
 
 // The image itself, where there is room for it.
-fn put_image(numbers: [u32; ROWS], blocks: &[u8], out: &mut [u8])
-    requires { ⌜ HaveForms numbers × (length (imageOf numbers (now blocks)) ≤ length (now out)) ⌝ }
-    ensures { λ _. ⌜ now (out .exit) ≡ overlaid (imageOf numbers (now (blocks .entry))) (now (out .entry)) ⌝ }
+fn put_image(numbers: [u32; HEADER_ROWS], landings: &[u8], blocks: &[u8], out: &mut [u8])
+    requires { ⌜ HaveForms (numbers ++ wordsOf (now landings)) ⌝ }
+    requires { ⌜ length (imageOf (numbers ++ wordsOf (now landings)) (now blocks)) ≤ length (now out) ⌝ }
+    ensures { λ _. ⌜ now (out .exit) ≡ overlaid (imageOf (numbers ++ wordsOf (now (landings .entry))) (now (blocks .entry))) (now (out .entry)) ⌝ }
 {
-    let at = put_numbers(numbers, out);
+    let at = put_numbers(numbers, landings, out);
     bytes::copy(blocks, &mut out[at..]);
 }
 
 // The numbers' bytes, one after the other; gives the place behind them.
-fn put_numbers(numbers: [u32; ROWS], out: &mut [u8]) -> usize
-    requires { ⌜ HaveForms numbers × (length (firstNumbers numbers rowCount) ≤ length (now out)) ⌝ }
-    ensures { λ r. ⌜ (r ≡ length (firstNumbers numbers rowCount)) × (now (out .exit) ≡ sets (now (out .entry)) 0 (firstNumbers numbers rowCount)) ⌝ }
+fn put_numbers(numbers: [u32; HEADER_ROWS], landings: &[u8], out: &mut [u8]) -> usize
+    requires { ⌜ HaveForms (numbers ++ wordsOf (now landings)) ⌝ }
+    requires { ⌜ length (firstNumbers (numbers ++ wordsOf (now landings)) rowCount) ≤ length (now out) ⌝ }
+    ensures { λ r. ⌜ r ≡ length (firstNumbers (numbers ++ wordsOf (now (landings .entry))) rowCount) ⌝ }
+    ensures { λ _. ⌜ now (out .exit) ≡ sets (now (out .entry)) 0 (firstNumbers (numbers ++ wordsOf (now (landings .entry))) rowCount) ⌝ }
 {
     let mut at = 0;
     let mut row: usize = 0;
     while row < ROWS {
-        at = put(out, at, numbers[row]);
+        at = put_number(numbers, landings, row, at, out);
         row += 1;
     }
     at
+}
+
+// Writes a number, if it stands, at a place, and gives the place behind it.
+fn put_number(
+    numbers: [u32; HEADER_ROWS],
+    landings: &[u8],
+    row: usize,
+    at: usize,
+    out: &mut [u8],
+) -> usize
+    requires { ⌜ row < rowCount ⌝ }
+    requires { ⌜ (stands row (numbers ++ wordsOf (now landings)) ≡ true → getD (numbers ++ wordsOf (now landings)) row 0 < numberLimit) ⌝ }
+    requires { ⌜ at + length (bytesAt (numbers ++ wordsOf (now landings)) row) ≤ length (now out) ⌝ }
+    ensures { λ r. ⌜ r ≡ at + length (bytesAt (numbers ++ wordsOf (now (landings .entry))) row) ⌝ }
+    ensures { λ _. ⌜ now (out .exit) ≡ sets (now (out .entry)) at (bytesAt (numbers ++ wordsOf (now (landings .entry))) row) ⌝ }
+{
+    if !reader::stands(row, numbers) {
+        return at;
+    }
+    put(out, at, number_given(row, numbers, landings))
+}
+
+// A number of those given.
+fn number_given(row: usize, numbers: [u32; HEADER_ROWS], landings: &[u8]) -> u32
+    requires { ⌜ row < rowCount ⌝ }
+    ensures { λ r. ⌜ r ≡ getD (numbers ++ wordsOf (now (landings .entry))) row 0 ⌝ }
+{
+    if row < HEADER_ROWS {
+        return numbers[row];
+    }
+    reader::wide(word_at(landings, row - HEADER_ROWS))
 }
 
 // Writes a number at a place, and gives the place behind it.

@@ -15,7 +15,7 @@ ghost use Rattle.text_verdict.specs.Input.{zeros};
 ghost use Rattle.images.specs.Part.{partOf};
 
 // Room for the whole input.
-const TEXT_LENGTH: usize = 262144;
+const TEXT_LENGTH: usize = 524288;
 
 const LINE_END: u8 = b'\n';
 
@@ -26,8 +26,8 @@ fn main() {
 }
 
 fn text() -> [u8; TEXT_LENGTH]
-    ensures { λ r. ⌜ 262144 ≡ length r ⌝ }
-    ensures { λ r. ⌜ r ≡ zeros 262144 ⌝ }
+    ensures { λ r. ⌜ 524288 ≡ length r ⌝ }
+    ensures { λ r. ⌜ r ≡ zeros 524288 ⌝ }
 {
     [0; TEXT_LENGTH]
 }

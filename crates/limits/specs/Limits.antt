@@ -24,6 +24,10 @@ mostBlocks = 1500
 abbrev pub blockLength : ℕ
 blockLength = 8
 
+-- the most landing blocks (change request 1: "a landing count of 0 to 64")
+abbrev pub mostLandings : ℕ
+mostLandings = 64
+
 -- the limit on depth (document 01, "depth (0 to 8)"; change request 6, "Make 5 the limit"): the most calls that a task may be inside of
 abbrev pub mostDepth : ℕ
 mostDepth = 5

@@ -19,6 +19,9 @@ pub const MOST_BLOCKS: u16 = 1500;
 
 pub const BLOCK_LENGTH: usize = 8;
 
+// The most landing blocks that a program may name (change request 1).
+pub const MOST_LANDINGS: usize = 64;
+
 // The most calls that a task may be inside of (depth), and the most blocks that its call stack (document 01: return path) holds.
 pub const MOST_DEPTH: u8 = 5;
 

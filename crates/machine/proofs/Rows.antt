@@ -1,3 +1,4 @@
+pub mod Landings
 pub mod EachRow
 pub mod InRange
 pub mod Waits

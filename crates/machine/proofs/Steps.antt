@@ -1,3 +1,4 @@
+pub mod Landings
 pub mod Reached
 pub mod Alike
 pub mod TasksAfter

@@ -1,6 +1,6 @@
--- What each command does: to the values, to the axis by a request, and to its task. One row for each code, from the command's page in 000 (its number
--- stands behind the row) and document 01, "Running". The engine's step and the reference machine both use these rows, and share nothing else of
--- what a step does. Sources are read before the target is written.
+-- What each command does: to the values, to the axis by a request, and to its task. One row for each code, from the command's page in 000 (its number stands
+-- behind the row) and document 01, "Running"; 56 and 5B are change request 1's. The engine's step and the reference machine both use these rows, and share
+-- nothing else of what a step does. Sources are read before the target is written.
 use Prim.Native.Nat.{ℕ, zero, suc, _+_, _-_, _*_, _%_}
 use mathlib.Core.Bool.{Bool, true, false, _&&_, _||_, not, cond}
 use mathlib.Core.List.{List, [], _∷_, _++_}
@@ -11,7 +11,7 @@ use lib.Signed.{leZ}
 use mir.Syntax.{w32}
 use Rattle.limits.specs.Limits.{bias, plc, mathematics, mostSpeed, mostRamp, mostTime}
 use Rattle.num_arith.specs.Wrap.{wrap}
-use Rattle.num_arith.specs.Ops.{quotient, holds, bitAt}
+use Rattle.num_arith.specs.Ops.{quotient, holds, bitAt, eqZ}
 use Rattle.num_arith.specs.declared.Quotient.{Quotient}
 use Rattle.num_arith.specs.declared.Quotient.the-variants.{Value, ByZero}
 use Rattle.drive.specs.Types.{type637Plus}
@@ -28,7 +28,7 @@ use Rattle.machine.specs.declared.Context.{Context}
 use Rattle.machine.specs.declared.Request.{Request}
 use Rattle.machine.specs.declared.Request.the-variants.{None, MoveTo, MoveBy, Forward, Backward, Stop}
 use Rattle.machine.specs.declared.Cause.{Cause}
-use Rattle.machine.specs.declared.Cause.the-variants.{ZeroDivisor, BadContent}
+use Rattle.machine.specs.declared.Cause.the-variants.{ZeroDivisor, BadContent, NoLanding}
 use Rattle.machine.specs.declared.Outcome.{Outcome}
 use Rattle.machine.specs.declared.Outcome.the-variants.{GoOn, Stay, Jump, Call, Return, Start, Restart, End, Halt}
 use Rattle.machine.specs.declared.Effect.{Effect}
@@ -138,6 +138,16 @@ waitsVariable g c v =
     cond (isSet (g .time) || within 0 mostTime (variable v (c .x)))
     (flows v (waits (timeOf (g .drive .model) (natural (variable v (c .x)))) g)) (halts BadContent v)
 
+-- a content is the number of one of these landing blocks
+abbrev pub isLanding : List ℕ → ℤ → Bool
+isLanding [] z = false
+isLanding (a ∷ landings) z = eqZ z (pos a) || isLanding landings z
+
+-- 56 and 5B: on to the landing block that the variable holds; 22 unless it holds one (change request 1)
+abbrev pub lands : List ℕ → (ℕ → Outcome) → CommandEffect
+lands landings to g c v =
+    cond (isLanding landings (variable v (c .x))) (flows v (to (natural (variable v (c .x))))) (halts NoLanding v)
+
 -- ---- the rows
 
 pub record EffectRow : Type 0 where
@@ -171,19 +181,21 @@ motionRows =
     effectRow 0x43 (λ g c v. assigns c (pos (axisOf firstAxis v .deceleration)) v) ∷  -- p. 103
     []
 
--- control
-abbrev pub controlRows : List EffectRow
-controlRows =
+-- control, with the landing blocks
+abbrev pub controlRows : List ℕ → List EffectRow
+controlRows landings =
     effectRow 0x50 (λ g c v. sets v) ∷  -- p. 122
     effectRow 0x51 (λ g c v. flows v (cond (eqb (c .x) 0) Restart End)) ∷  -- p. 123
     effectRow 0x52 (λ g c v. flows v (Call (c .word))) ∷  -- p. 124
     effectRow 0x53 (λ g c v. flows v Return) ∷  -- p. 125
     effectRow 0x54 (λ g c v. flows v (Start plc (c .word))) ∷  -- p. 126
     effectRow 0x55 (λ g c v. flows v (Jump (c .word))) ∷  -- p. 127
+    effectRow 0x56 (lands landings Jump) ∷  -- p. 128
     effectRow 0x57 (λ g c v. flows v (Start bias (c .word))) ∷  -- p. 129
     effectRow 0x58 (λ g c v. flows v (cond (arrived g (v .notes)) GoOn (Stay 0 0))) ∷  -- p. 130
     effectRow 0x59 (λ g c v. flows v (waits (2 * c .word) g)) ∷  -- p. 131
     effectRow 0x5A waitsVariable ∷  -- p. 132
+    effectRow 0x5B (lands landings (Start bias)) ∷  -- p. 133
     []
 
 -- flags and pins, with the levels of the input pins
@@ -229,9 +241,9 @@ mathematicsRows =
     effectRow 0x90 (λ g c v. flows v (Start mathematics (c .word))) ∷  -- p. 185
     []
 
--- all of them, with these input levels
-abbrev pub effectRows : List ℕ → List EffectRow
-effectRows inputs = motionRows ++ (controlRows ++ (levelRows inputs ++ (variableRows ++ mathematicsRows)))
+-- all of them, with these input levels and landing blocks
+abbrev pub effectRows : List ℕ → List ℕ → List EffectRow
+effectRows inputs landings = motionRows ++ (controlRows landings ++ (levelRows inputs ++ (variableRows ++ mathematicsRows)))
 
 -- a code that is not carried does nothing: the task stays
 abbrev pub nothing : CommandEffect
@@ -242,5 +254,5 @@ effectIn [] code = nothing
 effectIn (r ∷ rs) code = cond (eqb code (r .code)) (r .effect) (effectIn rs code)
 
 -- what a command does
-unfoldable pub effectOf : List ℕ → CommandEffect
-effectOf inputs g c v = effectIn (effectRows inputs) (c .code) g c v
+unfoldable pub effectOf : List ℕ → List ℕ → CommandEffect
+effectOf inputs landings g c v = effectIn (effectRows inputs landings) (c .code) g c v

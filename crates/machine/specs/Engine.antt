@@ -1,4 +1,4 @@
--- The engine's step on values (document 01, "Running", and 15, 18, 17, 19, 20): the tests in their order, then the command, with a call stack of
+-- The engine's step on values (document 01, "Running", and 15, 18, 17, 19, 20, 22): the tests in their order, then the command, with a call stack of
 -- bounded length for each task. 16 is the buffer's.
 use Prim.Native.Nat.{ℕ, _+_, _-_}
 use mathlib.Core.Bool.{Bool, true, false, _&&_, _||_, not, cond}
@@ -7,9 +7,8 @@ use lib.Dec.{eqb, ltb}
 use lib.ListN.{length, getD, set}
 use Rattle.limits.specs.Limits.{bias, taskCount, inputsLength}
 use Rattle.image_result.specs.ImageResult.{done}
-use Rattle.image_header.specs.Rows.{sameHeader}
-use Rattle.image_header.specs.Scan.{headerOf, blocksOf}
-use Rattle.image_header.specs.declared.Header.{Header}
+use Rattle.image_header.specs.Rows.{sameHeader, sameLandings}
+use Rattle.image_header.specs.Scan.{headerOf, landingsOf, blocksOf}
 use Rattle.image_header.specs.declared.reader.HeaderRead.{HeaderRead}
 use Rattle.walk_flow.specs.Terms.{Terms, under}
 use Rattle.walk_fault.specs.Fault.{faultNumber}
@@ -107,7 +106,7 @@ isMove (Forward axis) = true
 isMove (Backward axis) = true
 isMove (Stop mode deceleration) = false
 
--- 19 or 20
+-- 19, 20 or 22
 abbrev pub isHalt : Outcome → Bool
 isHalt GoOn = false
 isHalt (Stay time turns) = false
@@ -146,6 +145,7 @@ performed s x task e = record {
   state = record {
     values = withNotes (notesAfter (x .task) (x .start) (e .outcome) (e .request) (e .values .notes)) (e .values);
     header = s .header;
+    landings = s .landings;
     tasks = tasksAfter (s .header .start) (x .task) task (e .outcome) (s .tasks);
   };
   request = e .request;
@@ -156,11 +156,12 @@ performed s x task e = record {
 
 -- what the program of a state is judged under
 abbrev pub termsHeld : State → Terms
-termsHeld s = under (s .header)
+termsHeld s = under (s .header) (s .landings)
 
--- what was read of the lent image is the loaded header
-abbrev pub isLoaded : HeaderRead → Header → Bool
-isLoaded r h = done (r .result) && sameHeader (r .header) h
+-- what was read of the lent image, header and landing list, is what was loaded
+abbrev pub isLoaded : HeaderRead → List ℕ → Terms → Bool
+isLoaded r landings terms =
+    done (r .result) && (sameHeader (r .header) (terms .header) && sameLandings (terms .header .landings) landings (terms .landings))
 
 abbrev pub blockFits : Terms → List ℕ → ℕ → Task → Bool
 blockFits terms bs t task = eqb (blockNumber terms bs (task .block)) 0 && eqb (faultNumber (faultAt terms bs (pointOf t task))) 0
@@ -171,16 +172,16 @@ isWait code = eqb code 0x59 || eqb code 0x5A
 abbrev pub waitFits : List ℕ → Task → Bool
 waitFits bs task = not (isSet (task .time)) || isWait (commandAt bs (task .block) .code)
 
--- of an image whose header was read as r and whose blocks are bs
-abbrev pub fitsAs : HeaderRead → List ℕ → Terms → ℕ → Task → Bool
-fitsAs r bs terms t task = isLoaded r (terms .header) && (blockFits terms bs t task && waitFits bs task)
+-- of an image whose header and landing list were read as r and `landings`, and whose blocks are bs
+abbrev pub fitsAs : HeaderRead → List ℕ → List ℕ → Terms → ℕ → Task → Bool
+fitsAs r landings bs terms t task = isLoaded r landings terms && (blockFits terms bs t task && waitFits bs task)
 
 unfoldable pub fits : List ℕ → Terms → ℕ → Task → Bool
-fits image terms t task = fitsAs (headerOf image) (blocksOf image) terms t task
+fits image terms t task = fitsAs (headerOf image) (landingsOf image) (blocksOf image) terms t task
 
--- the command at the task's block
+-- the command at the task's block, with the landing blocks that the state holds
 abbrev pub carriedOut : List ℕ → State → Inputs → Task → StepOut
-carriedOut bs s x task = performed s x task (effectOf (x .levels) (contextOf s task x) (commandAt bs (task .block)) (s .values))
+carriedOut bs s x task = performed s x task (effectOf (x .levels) (termsHeld s .landings) (contextOf s task x) (commandAt bs (task .block)) (s .values))
 
 -- 18, then 17, then the command
 unfoldable pub taskStep : List ℕ → State → Inputs → Task → StepOut

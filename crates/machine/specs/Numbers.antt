@@ -4,7 +4,7 @@ use Prim.Native.Nat.{ℕ}
 use lib.IntN.{pos}
 use Rattle.state.specs.declared.Axis.{Axis}
 use Rattle.machine.specs.declared.Cause.{Cause}
-use Rattle.machine.specs.declared.Cause.the-variants.{ZeroDivisor, BadContent}
+use Rattle.machine.specs.declared.Cause.the-variants.{ZeroDivisor, BadContent, NoLanding}
 use Rattle.machine.specs.declared.Request.{Request}
 use Rattle.machine.specs.declared.Request.the-variants.{None, MoveTo, MoveBy, Forward, Backward, Stop}
 use Rattle.machine.specs.declared.Answer.{Answer}
@@ -14,6 +14,7 @@ use Rattle.machine.specs.declared.Answer.the-variants.{Done, NoTask, Inp
 abbrev pub causeNumber : Cause → ℕ
 causeNumber ZeroDivisor = 19
 causeNumber BadContent = 20
+causeNumber NoLanding = 22
 
 abbrev pub answerNumber : Answer → ℕ
 answerNumber Done = 0
@@ -23,7 +24,7 @@ answerNumber NotRunning = 18
 answerNumber (Differs p) = 17
 answerNumber (Halted q p) = causeNumber q
 
--- of 15 the task number or the inputs' length; of 17, 19 and 20 the block before the step
+-- of 15 the task number or the inputs' length; of 17, 19, 20 and 22 the block before the step
 abbrev pub answerPlace : Answer → ℕ
 answerPlace Done = 0
 answerPlace (NoTask t) = t

@@ -1,13 +1,13 @@
--- The reference machine (document 01: plain machine): for each task a list of return blocks without limit, and no test of depth or permission. It is fed
--- the image and each step's task number and inputs. It shares with the engine what a command does, the reading of the header, of levels and of
+-- The reference machine (document 01: plain machine): for each task a list of return blocks without limit, and no test of depth or permission. It is fed the
+-- image and each step's task number and inputs. It shares with the engine what a command does, the reading of the header and the landing list, of levels and of
 -- operands, whether a code has any, and the numbers of answers, and nothing else.
 use Prim.Native.Nat.{ℕ, _+_}
 use mathlib.Core.Bool.{Bool, true, false, cond}
 use mathlib.Core.List.{List, [], _∷_}
 use lib.Dec.{eqb, ltb}
-use lib.ListN.{length, getD, set, replicate}
+use lib.ListN.{length, getD, set, replicate, take}
 use lib.IntN.{pos}
-use Rattle.image_header.specs.Scan.{headerOf, blocksOf}
+use Rattle.image_header.specs.Scan.{headerOf, landingsOf, blocksOf}
 use Rattle.command_table.specs.Rows.{rowOf}
 use Rattle.walk.specs.Blocks.{commandAt}
 use Rattle.state.specs.declared.Notes.{Notes}
@@ -71,7 +71,7 @@ back thread (b ∷ bs) = threadAt b (thread .start) 0 0 bs
 abbrev pub put : ℕ → Thread → List Thread → List Thread
 put t thread l = set l t thread
 
--- 57 leaves BIAS's start where it is; 54 and 90 name the start of the task they start
+-- 57 and 5B leave BIAS's start where it is; 54 and 90 name the start of the task they start
 abbrev pub anew : ℕ → ℕ → List Thread → Thread
 anew u a l = threadAt a (cond (eqb u 0) (getD l 0 idle .start) a) 0 0 []
 
@@ -116,7 +116,7 @@ moving (Backward axis) = 1
 moving (Stop mode deceleration) = 0
 moving None = 0
 
--- a task that 19 or 20 halts has carried out nothing: what was noted of a move stands
+-- a task that 19, 20 or 22 halts has carried out nothing: what was noted of a move stands
 abbrev pub moveNote : Outcome → ℕ → ℕ → ℕ
 moveNote (Halt q) was is = was
 moveNote GoOn was is = is
@@ -160,13 +160,17 @@ lost (Halt q) l = false
 unfoldable pub tries : Machine → Inputs → Thread → Effect → ReferenceOut
 tries m x thread e = cond (lost (e .outcome) (thread .returns)) (standsStill m Done) (does m x thread e)
 
+-- the landing blocks of an image, as many as its landing count says (change request 1)
+abbrev pub landingBlocks : List ℕ → List ℕ
+landingBlocks image = take (headerOf image .header .landings) (landingsOf image)
+
 -- the command at its block; past the end, and where there is no command, it stands still
 unfoldable pub acts : List ℕ → Machine → Inputs → Thread → ReferenceOut
 acts image m x thread =
     cond (ltb (thread .block) (headerOf image .header .count))
     (cond (rowOf (commandAt (blocksOf image) (thread .block) .code) .carried)
     (tries m x thread
-    (effectOf (x .levels)
+    (effectOf (x .levels) (landingBlocks image)
     (record {
       drive = headerOf image .header .drive;
       start = level (x .start);

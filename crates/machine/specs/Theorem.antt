@@ -1,4 +1,4 @@
--- What is proved of steps on values: the theorem over every list of steps (demand 3, parts 1 to 6 and 8 in docs/PROMISES.md; part 7 is `exactly` in
+-- What is proved of steps on values: the theorem over every list of steps (demand 3, parts 1 to 6, 8 and 9 in docs/PROMISES.md; part 7 is `exactly` in
 -- walk/proofs/Verdicts/OfImage.antt), proved as `every-value-run` in proofs/Runs/EveryRun.antt; and that a step keeps good states, proved as `keeps-good` in
 -- proofs/Steps/KeepsGood.antt.
 use Prim.Native.Nat.{ℕ, _<_}
@@ -6,7 +6,7 @@ use mathlib.Core.Path.{_≡_}
 use mathlib.Core.List.{List}
 use Rattle.limits.specs.Limits.{taskCount}
 use Rattle.num_le.specs.LittleEndian.{Bytes}
-use Rattle.image_header.specs.Scan.{headerOf}
+use Rattle.image_header.specs.Scan.{headerOf, landingsOf}
 use Rattle.walk.specs.Verdict.{verdictOf}
 use Rattle.walk.specs.declared.Verdict.the-variants as verdict
 use Rattle.state.specs.State.{runs, taskAt, fresh}
@@ -21,7 +21,7 @@ use Rattle.machine.specs.StepRule.{noPast, EachStep}
 
 -- what the engine begins with; the reference machine begins with `referenceLoaded`
 abbrev pub loaded : List ℕ → State
-loaded image = fresh (headerOf image .header)
+loaded image = fresh (headerOf image .header) (landingsOf image)
 
 -- of an image and a list of steps from its load
 pub record ValueRun (image : List ℕ) (xs : List Inputs) : Type 0 where
@@ -32,8 +32,8 @@ pub record ValueRun (image : List ℕ) (xs : List Inputs) : Type 0 where
   -- 3. afterwards each task that runs is at a block of the image that is permitted to it, at its depth, which is at most the limit
   pub permitted : (t : ℕ) → t < taskCount → taskAt (stateAfter image (loaded image) xs) t .status ≡ runs
       → Permitted image t (taskAt (stateAfter image (loaded image) xs) t)
-  -- 4, 5, 6 and 8. at every step: a return goes behind its task's latest open call; a task stops by its own step alone, and for a reason; other tasks
-  -- stay; a 58 goes on exactly when its wait is over
+  -- 4, 5, 6, 8 and 9. at every step: a return goes behind its task's latest open call; a task stops by its own step alone, and for a reason; other tasks
+  -- stay; a 58 goes on exactly when its wait is over; a 56 and a 5B lead to the landing block that their variable holds
   pub steps : EachStep image noPast (loaded image) xs
   -- and the state afterwards is a good one, where the image's bytes are bytes
   pub good : Bytes image → GoodState (stateAfter image (loaded image) xs)

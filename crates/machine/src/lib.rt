@@ -22,6 +22,8 @@ pub enum Cause {
     ZeroDivisor,
     // 20: the variable's content is outside the manual's range
     BadContent,
+    // 22: the variable holds no landing block
+    NoLanding,
 }
 
 // How the task that executes a command goes on.
@@ -42,7 +44,7 @@ pub enum Outcome {
     Restart,
     // not: it has ended itself
     End,
-    // not: 19 or 20 halts it
+    // not: 19, 20 or 22 halts it
     Halt(Cause),
 }
 
@@ -64,7 +66,7 @@ pub enum Answer {
     NotRunning,
     // 17 at this point
     Differs(Point),
-    // 19 or 20 at this point
+    // 19, 20 or 22 at this point
     Halted(Cause, Point),
 }
 

@@ -14,6 +14,7 @@ use Rattle.drive.specs.Pins as pins
 use Rattle.image_number.specs.Number as number
 use Rattle.image_header.specs.Rows as header
 use Rattle.image_header.specs.Scan as scan
+use Rattle.image_writer.specs.Writer as writer
 use Rattle.command_table.specs.Rows as rows
 use Rattle.command_operands.specs.Operands as operands
 use Rattle.command_judge.specs.BlockFault as judged
@@ -44,6 +45,7 @@ quick (Question.divided a b) = ask (Question.divided a b)
 quick (Question.dividedBy a b) = ask (Question.dividedBy a b)
 quick (Question.requested bytes starts) = ask (Question.requested bytes starts)
 quick (Question.stepwise bytes steps) = trailOf bytes steps (verdictFast bytes marksLength)
+quick (Question.writes landings blocks) = ask (Question.writes landings blocks)
 
 quick-is : (q : Question) → quick q ≡ ask q
 quick-is (Question.verdict bytes) = ap answerOf (fast-is bytes marksLength)
@@ -55,6 +57,7 @@ quick-is (Question.divided a b) = refl
 quick-is (Question.dividedBy a b) = refl
 quick-is (Question.requested bytes starts) = refl
 quick-is (Question.stepwise bytes steps) = ap (trailOf bytes steps) (fast-is bytes marksLength)
+quick-is (Question.writes landings blocks) = refl
 
 -- the answers that are given, and those that the rows say
 abbrev given : List Entry → List Reply
@@ -69,8 +72,9 @@ unfolding caseTable
     types.takes types.cycleOf
     homes.inputs homes.outputsWritten homes.homeIn homes.homeOf pins.onBoard pins.presence pins.pinOf
     number.numberBytes number.secondByte number.firstByte number.numberAt
-    eachBelow header.checked header.sameHeader scan.standsAt scan.judged
-    scan.taken scan.more scan.scan scan.firstRefusal scan.lengthResult scan.readWith scan.closed scan.headerOf scan.blocksOf
+    eachBelow header.stands header.headerChecked header.checked header.sameHeader header.sameLandings scan.standsAt scan.judged
+    scan.taken scan.more scan.scan scan.firstRefusal scan.lengthResult scan.readWith scan.closed scan.headerOf scan.landingsOf scan.blocksOf
+    writer.wordsOf writer.roomResult writer.writtenWith writer.judgedWrite writer.landingsStand writer.judgedFor writer.written
     rows.rows rows.rowIn rows.rowOf
     operands.operands operands.allZero operands.unusedZero
     judged.operandFault judged.commandFault judged.rowFault judged.blockFault

@@ -1,7 +1,8 @@
 -- The example is accepted, by computation, and the theorem holds of its steps; what they come to is computed too.
+use Prim.Native.Nat.{ℕ}
 use mathlib.Core.Path.{_≡_, refl, sym, _∙_}
 use mathlib.Core.List.{List, map}
-use lib.ListN.{getD}
+use lib.ListN.{getD, take}
 use Rattle.logic.specs.Each.{eachBelow}
 use Rattle.limits.specs.Limits.{marksLength}
 use Rattle.drive.specs.Types as types
@@ -33,6 +34,7 @@ use Rattle.machine.specs.Theorem.{ValueRun, loaded}
 use Rattle.machine.specs.declared.Answer.{Answer}
 use Rattle.machine.proofs.Runs.EveryRun.{every-value-run}
 use Rattle.proved_cases.specs.Example.{program as image, steps, exampleAnswers, Place, places}
+use Rattle.proved_cases.specs.Example.{untilStart, placesAtStart, untilJump, placesAtJump}
 
 abbrev answersOf : List StepOut → List Answer
 answersOf = map (λ (o : StepOut). o .answer)
@@ -40,19 +42,25 @@ answersOf = map (λ (o : StepOut). o .answer)
 abbrev placesOf : List Task → List Place
 placesOf = map (λ (task : Task). record { status = task .status; block = task .block; depth = task .depth })
 
--- what is computed: the verdict, the answers, where the tasks are afterwards, and flag 1
+-- where the tasks are after the first n steps
+abbrev placesAfter : ℕ → List Place
+placesAfter n = placesOf (stateAfter image (loaded image) (take n steps) .tasks)
+
+-- what is computed: the verdict, the answers, where the tasks are afterwards and at two places before, and flag 1
 record Computed : Type 0 where
   verdict : verdictFast image marksLength ≡ Accepted
   exampleAnswers : answersOf (outs image (loaded image) steps) ≡ exampleAnswers
   places : placesOf (stateAfter image (loaded image) steps .tasks) ≡ places
+  atStart : placesAfter untilStart ≡ placesAtStart
+  atJump : placesAfter untilJump ≡ placesAtJump
   flag : getD (stateAfter image (loaded image) steps .values .cells .flags) 1 0 ≡ 1
 
 computed : Computed
 unfolding
     types.takes types.cycleOf
     number.numberBytes number.secondByte number.firstByte number.numberAt
-    eachBelow header.checked header.sameHeader scan.standsAt scan.judged
-    scan.taken scan.more scan.scan scan.firstRefusal scan.lengthResult scan.readWith scan.closed scan.headerOf scan.blocksOf
+    eachBelow header.stands header.headerChecked header.checked header.sameHeader header.sameLandings scan.standsAt scan.judged
+    scan.taken scan.more scan.scan scan.firstRefusal scan.lengthResult scan.readWith scan.closed scan.headerOf scan.landingsOf scan.blocksOf
     rows.rows rows.rowIn rows.rowOf
     operands.operands operands.allZero operands.unusedZero
     judged.operandFault judged.commandFault judged.rowFault judged.blockFault
@@ -69,7 +77,7 @@ unfolding
     effect.divides effect.effectIn effect.effectOf
     engine.performed engine.fits engine.taskStep engine.step
     outs stateAfter
-computed = record { verdict = refl; exampleAnswers = refl; places = refl; flag = refl }
+computed = record { verdict = refl; exampleAnswers = refl; places = refl; atStart = refl; atJump = refl; flag = refl }
 
 pub accepted : verdictOf image marksLength ≡ Accepted
 accepted = sym (fast-is image marksLength) ∙ computed .verdict
@@ -83,3 +91,9 @@ answered = computed .exampleAnswers
 
 pub placed : placesOf (stateAfter image (loaded image) steps .tasks) ≡ places
 placed = computed .places
+
+pub placed-at-start : placesAfter untilStart ≡ placesAtStart
+placed-at-start = computed .atStart
+
+pub placed-at-jump : placesAfter untilJump ≡ placesAtJump
+placed-at-jump = computed .atJump

@@ -10,6 +10,7 @@ limits-are = record {
   tasks = refl;
   blocks = refl;
   block = refl;
+  landings = refl;
   depth = refl;
   cells = refl;
   level = refl;

@@ -47,6 +47,31 @@ imageAt start blocks = header (start ∷ length blocks ∷ blockBytes blocks)
 abbrev pub image : List (List ℕ) → List ℕ
 image = imageAt 0
 
+-- format 2 (change request 1), type 2, both slots empty
+abbrev pub landingHeader : List ℕ → List ℕ
+landingHeader rest = 0x02 ∷ 0x02 ∷ 0 ∷ 0 ∷ rest
+
+-- an image of format 2 that begins at a block, with these landing blocks; start, counts and landing blocks are below 128
+abbrev pub landingImageAt : ℕ → List ℕ → List (List ℕ) → List ℕ
+landingImageAt start landings blocks = landingHeader (start ∷ length blocks ∷ length landings ∷ (landings ++ blockBytes blocks))
+
+-- one that begins at block 0
+abbrev pub landingImage : List ℕ → List (List ℕ) → List ℕ
+landingImage = landingImageAt 0
+
+-- the first n blocks, and blocks as the writer of format 2 is lent them: two bytes for each, of which the high one is 0 here
+abbrev pub firstBlocks : ℕ → List ℕ
+firstBlocks zero = []
+firstBlocks (suc n) = firstBlocks n ++ (n ∷ [])
+
+abbrev pub landingBytes : List ℕ → List ℕ
+landingBytes [] = []
+landingBytes (a ∷ landings) = a ∷ 0 ∷ landingBytes landings
+
+-- 80: variable 0 = these four bytes, low byte first
+abbrev pub assign : ℕ → ℕ → ℕ → ℕ → List ℕ
+assign a b c d = 0x80 ∷ 0 ∷ a ∷ b ∷ c ∷ d ∷ 0 ∷ 0 ∷ []
+
 -- case A's block: a jump to block 0
 abbrev pub blockA : List ℕ
 blockA = plain 0x55

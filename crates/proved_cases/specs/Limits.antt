@@ -12,6 +12,8 @@ pub record LimitsAre : Type 0 where
   -- document 01, "The image": up to 1500 blocks; "Refused because of the input": 8 bytes each
   pub blocks : limits.mostBlocks ≡ 1500
   pub block : limits.blockLength ≡ 8
+  -- change request 1: a landing count of 0 to 64
+  pub landings : limits.mostLandings ≡ 64
   -- change request 6: 5 in place of document 01's 8
   pub depth : limits.mostDepth ≡ 5
   -- document 01, "Running": 256 variables, flags and outputs; 000, the pages of 60 and 72: levels 0 and 1
@@ -28,5 +30,5 @@ pub record LimitsAre : Type 0 where
   pub marks : limits.marksLength ≡ 27000
   pub state : limits.stateLength ≡ 2048
   pub inputs : limits.inputsLength ≡ 256
-  -- include/bias.h, BIAS_MOST_IMAGE_LENGTH: header of 4 + 2 + 2 bytes, 1500 blocks
-  pub image : longestImage ≡ 12008
+  -- include/bias.h, BIAS_MOST_IMAGE_LENGTH: header of 4 + 2 + 2 + 1 + 128 bytes, 1500 blocks
+  pub image : longestImage ≡ 12137

@@ -1,14 +1,17 @@
 -- Document 01's cases as one table of questions and answers ("Examples and faults to shut out"), and the change requests'. The questions are put to
 -- the definitions that stand in the contracts.
 use Prim.Native.Nat.{ℕ}
-use mathlib.Core.List.{List, [], _∷_, map}
+use mathlib.Core.List.{List, [], _∷_, _++_, map}
 use lib.ListN.{replicate}
 use lib.IntN.{ℤ, pos, negsuc}
 use Rattle.image_number.specs.Number.{numberAt}
 use Rattle.image_number.specs.declared.Number.{Number}
 use Rattle.image_number.specs.declared.Number.the-variants.{Value, EndsEarly, NotShortest}
-use Rattle.image_result.specs.ImageResult.{resultNumber}
+use Rattle.image_result.specs.ImageResult.{resultNumber, resultPlace}
+use Rattle.image_result.specs.declared.ImageResult.{ImageResult}
 use Rattle.image_result.specs.declared.ImageResult.the-variants as result
+use Rattle.image_writer.specs.Writer.{withLandings, written}
+use Rattle.image_writer.specs.declared.Written.{Written}
 use Rattle.command_operands.specs.Operands.{command}
 use Rattle.command_operands.specs.declared.Command.{Command}
 use Rattle.walk.specs.Verdict.{verdictOf, verdictNumber, verdictPlace, verdictTask, verdictDepth}
@@ -28,22 +31,29 @@ use Rattle.machine.specs.Theorem.{loaded}
 use Rattle.machine.specs.declared.Request.{Request}
 use Rattle.machine.specs.declared.Request.the-variants.{None, MoveTo}
 use Rattle.proved_cases.specs.Images.{block, plain, toward, header, image, imageWith, imageFor, imageAt, blockA, caseA, chain}
+use Rattle.proved_cases.specs.Images.{landingHeader, landingImage, landingImageAt, firstBlocks, landingBytes, assign}
 
 -- ---- steps
 
--- a step as a row of the table has it: its task, ramp ended, in window, and how many input levels are given; they and the start input are low
+-- a step as a row of the table has it: its task, ramp ended, in window, how many input levels are given, which are low, and the start input
 pub record Turn : Type 0 where
   pub task : ℕ
   pub rampEnded : ℕ
   pub inWindow : ℕ
   pub levels : ℕ
+  pub start : ℕ
 
+-- the start input is low
 abbrev pub turn : ℕ → ℕ → ℕ → ℕ → Turn
-turn task rampEnded inWindow levels = record { task = task; rampEnded = rampEnded; inWindow = inWindow; levels = levels }
+turn task rampEnded inWindow levels = record { task = task; rampEnded = rampEnded; inWindow = inWindow; levels = levels; start = 0 }
 
 -- with both bits, and as many input levels as there are pins
 abbrev pub bothBits : ℕ → Turn
 bothBits task = turn task 1 1 256
+
+-- with this level of the start input, and neither bit
+abbrev pub startAt : ℕ → ℕ → Turn
+startAt task level = record { task = task; rampEnded = 0; inWindow = 0; levels = 256; start = level }
 
 -- ---- names
 
@@ -73,6 +83,17 @@ pub data Name : Type 0 where
   startMark : Name
   -- steps of these blocks
   inSteps : List (List ℕ) → List Turn → Name
+  -- a header of format 2 that goes on with these bytes
+  landingBegun : List ℕ → Name
+  -- these blocks in format 1
+  inFormat1 : List (List ℕ) → Name
+  -- a start, landing blocks and blocks; steps of such an image from block 0
+  landing : ℕ → List ℕ → List (List ℕ) → Name
+  landingSteps : List ℕ → List (List ℕ) → List Turn → Name
+  -- landing blocks lent in place of others
+  landingsInstead : List ℕ → List ℕ → Name
+  -- the writer of format 2, lent these bytes of landing blocks and so many of blocks
+  writer : List ℕ → ℕ → Name
 
 -- ---- questions and answers
 
@@ -94,6 +115,8 @@ pub data Question : Type 0 where
   requested : List ℕ → List ℕ → Question
   -- the load of an image, and what steps of it come to
   stepwise : List ℕ → List Turn → Question
+  -- the writer of format 2, for type 2 with both slots empty, start 0 and 200 blocks, lent these bytes of landing blocks, so many of blocks and room for 2000
+  writes : List ℕ → ℕ → Question
 
 -- a block, and T and k of the wait that is pending there (0 and 0: none)
 pub record Stand : Type 0 where
@@ -133,6 +156,9 @@ answerOf v = refusal (verdictNumber v) (verdictPlace v) (verdictTask v) (verdict
 abbrev pub stepAnswerOf : machine.Answer → Reply
 stepAnswerOf a = refusal (answerNumber a) (answerPlace a) (answerTask a) (answerDepth a)
 
+abbrev pub resultReply : ImageResult → Reply
+resultReply r = refusal (resultNumber r) (resultPlace r) 0 0
+
 abbrev pub numberReply : Number → Reply
 numberReply (Value v next) = value v
 numberReply EndsEarly = noNumber (resultNumber (result.EndsEarly 0))
@@ -144,7 +170,7 @@ low = record { drive = record { model = 2; b = 0; c = 0 }; start = 0; «ramp_end
 
 -- variable 0 after a command, where variables 1 and 2 hold these
 abbrev pub resultOf : Command → ℤ → ℤ → ℤ
-resultOf c a b = variable (effectOf [] low c (withVariable 1 a (withVariable 2 b freshValues)) .values) 0
+resultOf c a b = variable (effectOf [] [] low c (withVariable 1 a (withVariable 2 b freshValues)) .values) 0
 
 abbrev pub biasStep : ℕ → Inputs
 biasStep start = inputsOf 0 (replicate 256 0) start 0 0
@@ -160,7 +186,7 @@ abbrev pub motionsOf : List StepOut → List Request
 motionsOf = map (λ (o : StepOut). o .request)
 
 abbrev pub stepFor : Turn → Inputs
-stepFor x = inputsOf (x .task) (replicate (x .levels) 0) 0 (x .rampEnded) (x .inWindow)
+stepFor x = inputsOf (x .task) (replicate (x .levels) 0) (x .start) (x .rampEnded) (x .inWindow)
 
 abbrev pub cameOf : StepOut → Came
 cameOf o = came (answerNumber (o .answer)) (taskAt (o .state) 0 .block)
@@ -179,6 +205,7 @@ ask (divided a b) = whole (resultOf (command 0x85 0 1 0 0 b) a b)
 ask (dividedBy a b) = whole (resultOf (command 0x8D 0 1 2 0 (pos 0)) a b)
 ask (requested bytes starts) = motions (motionsOf (outs bytes (loaded bytes) (map biasStep starts)))
 ask (stepwise bytes steps) = trailOf bytes steps (verdictOf bytes 27000)
+ask (writes landings blocks) = resultReply (written 2 (withLandings (2 ∷ 2 ∷ 0 ∷ 0 ∷ 0 ∷ 200 ∷ []) landings) blocks 2000 .result)
 
 -- ---- the table
 
@@ -233,6 +260,55 @@ moveRow code =
 -- 58, 55: the wait alone, and where one step with these bits leaves it
 abbrev pub waitRow : ℕ → ℕ → ℕ → Entry
 waitRow rampEnded inWindow at = stepRow (plain 0x58 ∷ blockA ∷ []) (turn 0 rampEnded inWindow 256 ∷ []) (came 0 at ∷ [])
+
+-- change request 1: a header, an image, steps of one that is accepted, a first step with other landing blocks lent, a call of the writer
+abbrev pub begunRow : List ℕ → Reply → Entry
+begunRow bytes = entry (landingBegun bytes) (verdict (landingHeader bytes))
+
+abbrev pub landingRow : ℕ → List ℕ → List (List ℕ) → Reply → Entry
+landingRow start landings blocks = entry (landing start landings blocks) (verdict (landingImageAt start landings blocks))
+
+abbrev pub landingStepRow : List ℕ → List (List ℕ) → List Turn → List Came → Entry
+landingStepRow landings blocks steps l = entry (landingSteps landings blocks steps) (stepwise (landingImage landings blocks) steps) (trail 0 l)
+
+-- four jumps
+abbrev pub fourJumps : List ℕ → List ℕ
+fourJumps landings = landingImage landings (blockA ∷ blockA ∷ blockA ∷ blockA ∷ [])
+
+abbrev pub landingsRow : List ℕ → List ℕ → Reply → Entry
+landingsRow before after = entry (landingsInstead before after) (instead (fourJumps before) (fourJumps after))
+
+abbrev pub writerRow : List ℕ → ℕ → Reply → Entry
+writerRow landings blocks = entry (writer landings blocks) (writes landings blocks)
+
+-- a sub-program that is a 56, and the 53 that it lands at, still inside the call
+abbrev pub jumpInCall : List (List ℕ)
+jumpInCall = toward 0x52 2 ∷ toward 0x55 1 ∷ plain 0x56 ∷ plain 0x53 ∷ []
+
+-- 54 02, 55 01: BIAS starts the PLC, which starts BIAS by 5B
+abbrev pub restarter : List (List ℕ)
+restarter = toward 0x54 2 ∷ toward 0x55 1 ∷ plain 0x5B ∷ []
+
+-- 54 03, a block, 55 02, then the PLC: 80 00 02, 5B, 55 05
+abbrev pub startedAnew : List ℕ → List (List ℕ)
+startedAnew b = toward 0x54 3 ∷ b ∷ toward 0x55 2 ∷ assign 2 0 0 0 ∷ plain 0x5B ∷ toward 0x55 5 ∷ []
+
+-- three steps of BIAS, the second of which comes to this and leaves it stopped; two of the PLC, the second of which starts it at block 2; and its next one
+abbrev pub anewRow : List ℕ → ℕ → Entry
+anewRow b answered =
+    landingStepRow (2 ∷ []) (startedAnew b) (bothBits 0 ∷ bothBits 0 ∷ bothBits 0 ∷ bothBits 1 ∷ bothBits 1 ∷ bothBits 0 ∷ [])
+    (came 0 1 ∷ came answered 1 ∷ came 18 1 ∷ came 0 1 ∷ came 0 2 ∷ came 0 2 ∷ [])
+
+-- 54 04, 56, which halts by 22, a move, 55 03, then the PLC: 57 02, 55 05; with these levels of the start input at BIAS's three steps, where the last leaves it
+abbrev pub notedRow : ℕ → ℕ → ℕ → ℕ → Entry
+notedRow first second third at =
+    landingStepRow (3 ∷ []) (toward 0x54 4 ∷ plain 0x56 ∷ plain 0x00 ∷ toward 0x55 3 ∷ toward 0x57 2 ∷ toward 0x55 5 ∷ [])
+    (startAt 0 first ∷ startAt 0 second ∷ startAt 1 0 ∷ startAt 0 third ∷ []) (came 0 1 ∷ came 22 1 ∷ came 0 2 ∷ came 0 at ∷ [])
+
+-- 80 with these four bytes, 56, 55 02: two steps, the second of which comes to this
+abbrev pub contentRow : ℕ → ℕ → ℕ → ℕ → Came → Entry
+contentRow a b c d second =
+    landingStepRow (2 ∷ []) (assign a b c d ∷ plain 0x56 ∷ toward 0x55 2 ∷ []) (bothBits 0 ∷ bothBits 0 ∷ []) (came 0 1 ∷ second ∷ [])
 
 unfoldable pub caseTable : List Entry
 caseTable =
@@ -341,4 +417,61 @@ caseTable =
     stepRow (plain 0x0F ∷ plain 0x58 ∷ toward 0x55 1 ∷ []) (bothBits 0 ∷ bothBits 0 ∷ []) (came 0 1 ∷ came 0 2 ∷ []) ∷
     stepRow (toward 0x54 4 ∷ plain 0x00 ∷ plain 0x58 ∷ toward 0x55 2 ∷ toward 0x57 2 ∷ toward 0x55 5 ∷ [])
     (bothBits 0 ∷ bothBits 0 ∷ bothBits 1 ∷ bothBits 0 ∷ []) (came 0 1 ∷ came 0 1 ∷ came 0 2 ∷ came 0 3 ∷ []) ∷
+    -- change request 1, a landing count of 65, and nothing more: 21 at its byte
+    begunRow (0x00 ∷ 0x01 ∷ 0x41 ∷ []) (refusal 21 6 0 0) ∷
+    -- a landing count that is not shortest: 2; none: 1
+    begunRow (0x00 ∷ 0x01 ∷ 0x80 ∷ 0x00 ∷ []) (refusal 2 6 0 0) ∷
+    begunRow (0x00 ∷ 0x01 ∷ []) (refusal 1 6 0 0) ∷
+    -- landing blocks that are equal, or that descend: 21 at the later one
+    begunRow (0x00 ∷ 0x02 ∷ 0x02 ∷ 0x01 ∷ 0x01 ∷ []) (refusal 21 8 0 0) ∷
+    begunRow (0x00 ∷ 0x02 ∷ 0x02 ∷ 0x01 ∷ 0x00 ∷ []) (refusal 21 8 0 0) ∷
+    -- a landing block that is the count: 21
+    begunRow (0x00 ∷ 0x02 ∷ 0x01 ∷ 0x02 ∷ []) (refusal 21 7 0 0) ∷
+    -- with a start that is none: 3 comes before it
+    begunRow (0x05 ∷ 0x02 ∷ 0x01 ∷ 0x02 ∷ []) (refusal 3 4 0 0) ∷
+    -- start 128, count 129, one landing block, 129: 21 at its first byte, behind numbers of two bytes, before the length
+    begunRow (0x80 ∷ 0x01 ∷ 0x81 ∷ 0x01 ∷ 0x01 ∷ 0x81 ∷ 0x01 ∷ []) (refusal 21 9 0 0) ∷
+    -- 56 in format 1, which has no landing blocks: accepted
+    entry (inFormat1 (plain 0x56 ∷ [])) (verdict (image (plain 0x56 ∷ []))) accepted ∷
+    -- 52 02, 55 01, 56, 53 with landing block 3: accepted, the 53 is inside the call; from block 2 on it is not: 11 at block 3, depth 0
+    landingRow 0 (3 ∷ []) jumpInCall accepted ∷
+    landingRow 2 (3 ∷ []) jumpInCall (refusal 11 3 0 0) ∷
+    -- 54 02, 55 01, 5B, 55 03 with landing block 0: accepted; without the last block: 12 at block 2, task 1
+    landingRow 0 (0 ∷ []) (restarter ++ (toward 0x55 3 ∷ [])) accepted ∷
+    landingRow 0 (0 ∷ []) restarter (refusal 12 2 1 0) ∷
+    -- 5B in BIAS: 9
+    landingRow 0 (0 ∷ []) (plain 0x5B ∷ plain 0x55 ∷ []) (refusal 9 0 0 0) ∷
+    -- 5B leads BIAS to a 53 at depth 0: 11 at block 4, task 0
+    landingRow 0 (4 ∷ []) (restarter ++ (toward 0x55 3 ∷ plain 0x53 ∷ [])) (refusal 11 4 0 0) ∷
+    -- 64 landing blocks, as many as there may be: accepted
+    landingRow 0 (firstBlocks 64) (plain 0x56 ∷ replicate 63 blockA) accepted ∷
+    -- 56, 55 01 with landing block 1, where the variable is 0: accepted; the first step halts by 22 at block 0, the next is refused by 18
+    landingStepRow (1 ∷ []) (plain 0x56 ∷ toward 0x55 1 ∷ []) (bothBits 0 ∷ bothBits 0 ∷ []) (came 22 0 ∷ came 18 0 ∷ []) ∷
+    -- 80 00 02, 56, 55 02 with landing block 2: the second step lands there
+    contentRow 0x02 0 0 0 (came 0 2) ∷
+    -- with a variable of -1, or of 65536 + 2: 22
+    contentRow 0xFF 0xFF 0xFF 0xFF (came 22 1) ∷
+    contentRow 0x02 0 1 0 (came 22 1) ∷
+    -- a BIAS 56 that halts by 22 notes the start level: low, so that a move starts at a high one, or high, so that it does not
+    notedRow 1 0 1 3 ∷
+    notedRow 0 1 1 2 ∷
+    -- 5B starts a BIAS anew that has ended (51 01), and one that a 56 has halted by 22
+    anewRow (block 0x51 1 0 0) 0 ∷
+    anewRow (plain 0x56) 22 ∷
+    -- a PLC's 5B whose variable holds no landing block: 22 halts the PLC, and BIAS goes on where it is
+    landingStepRow (3 ∷ []) (restarter ++ (toward 0x55 3 ∷ [])) (bothBits 0 ∷ bothBits 1 ∷ bothBits 1 ∷ bothBits 0 ∷ [])
+    (came 0 1 ∷ came 22 1 ∷ came 18 1 ∷ came 0 1 ∷ []) ∷
+    -- an image with another landing list lent in place of the loaded one: 17, whichever entry differs; with the same: carried out
+    landingsRow (1 ∷ 2 ∷ []) (0 ∷ 2 ∷ []) (refusal 17 0 0 0) ∷
+    landingsRow (1 ∷ 2 ∷ []) (1 ∷ 3 ∷ []) (refusal 17 0 0 0) ∷
+    landingsRow (1 ∷ 2 ∷ []) (1 ∷ 2 ∷ []) accepted ∷
+    -- the writer of format 2, start 0, count 200, landing blocks 127, 128, 128: 21 where the last would stand
+    writerRow (0x7F ∷ 0 ∷ 0x80 ∷ 0 ∷ 0x80 ∷ 0 ∷ []) 1600 (refusal 21 11 0 0) ∷
+    -- 65 landing blocks, or an odd number of bytes: 21 where the landing count would stand; 64 are written
+    writerRow (landingBytes (firstBlocks 65)) 1600 (refusal 21 7 0 0) ∷
+    writerRow (landingBytes (firstBlocks 64)) 1600 accepted ∷
+    writerRow (0x7F ∷ 0 ∷ 0x80 ∷ []) 1600 (refusal 21 7 0 0) ∷
+    -- a good list of one, and blocks one byte short: 1, which tells their length; with all of them it is written
+    writerRow (0x7F ∷ 0 ∷ []) 1599 (refusal 1 1599 0 0) ∷
+    writerRow (0x7F ∷ 0 ∷ []) 1600 accepted ∷
     []

@@ -30,7 +30,7 @@ use Rattle.machine.specs.Run.{machineAfter}
 use Rattle.machine.specs.Theorem.{loaded}
 use Rattle.machine.specs.StepRule.{Past, noPast, pastAfter, StepRule}
 use Rattle.machine.specs.declared.Cause.{Cause}
-use Rattle.machine.specs.declared.Cause.the-variants.{ZeroDivisor, BadContent}
+use Rattle.machine.specs.declared.Cause.the-variants.{ZeroDivisor, BadContent, NoLanding}
 use Rattle.machine.specs.declared.Answer.{Answer}
 use Rattle.machine.specs.declared.Answer.the-variants.{Done, NoTask, Inputs as BadInputs, NotRunning, Differs, Halted}
 use Rattle.machine.proofs.Runs.Apart.{threadFor, both-run, alike-is, permitted-fits}
@@ -45,10 +45,11 @@ use Rattle.proved_demands.specs.Theorem.{refused, differs, StepOn, Every
 
 -- ---- a step of a run, by the numbers that C sees
 
--- 19 and 20 are no refusals
+-- 19, 20 and 22 are no refusals
 halt-number : (q : Cause) → 19 ≤ causeNumber q
 halt-number ZeroDivisor = omega arith
 halt-number BadContent = omega arith
+halt-number NoLanding = omega arith
 
 -- 16 is no answer of a state's step, and 17 is the one that says that the image differs
 not-17 : (a : Answer) → differs a ≡ false → 16 ≤ answerNumber a → answerNumber a ≤ 17 → ⊥

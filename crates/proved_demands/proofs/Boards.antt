@@ -14,7 +14,7 @@ use Rattle.num_le.specs.LittleEndian.{Bytes}
 use Rattle.drive.specs.Types.{type631}
 use Rattle.image_result.specs.ImageResult.{resultNumber}
 use Rattle.image_result.specs.declared.ImageResult.{ImageResult}
-use Rattle.image_result.specs.declared.ImageResult.the-variants.{Done, EndsEarly, NotShortest, OutOfRange, LeftOver, NoRoom}
+use Rattle.image_result.specs.declared.ImageResult.the-variants.{Done, EndsEarly, NotShortest, OutOfRange, LeftOver, NoRoom, BadLanding}
 use Rattle.image_header.specs.Scan.{headerOf, blocksOf}
 use Rattle.image_header.specs.declared.Header.{Header}
 use Rattle.command_judge.specs.BlockFault.{blockFaultNumber}
@@ -38,7 +38,7 @@ use Rattle.machine.specs.Inputs.{Inputs}
 use Rattle.machine.specs.Engine.{pointOf, fits, termsHeld}
 use Rattle.machine.specs.Numbers.{causeNumber}
 use Rattle.machine.specs.declared.Cause.{Cause}
-use Rattle.machine.specs.declared.Cause.the-variants.{ZeroDivisor, BadContent}
+use Rattle.machine.specs.declared.Cause.the-variants.{ZeroDivisor, BadContent, NoLanding}
 use Rattle.machine.specs.declared.Request.the-variants.{None}
 use Rattle.machine.specs.declared.Answer.the-variants.{Differs}
 use Rattle.bias_results.specs.Results.{verdictFor, answerFor}
@@ -149,6 +149,7 @@ module _ (image : List ℕ) (n : ℕ) (b : List ℕ) where
 halt-is-not : (q : Cause) → causeNumber q ≡ 23 → ⊥
 halt-is-not ZeroDivisor e = omega arith
 halt-is-not BadContent e = omega arith
+halt-is-not NoLanding e = omega arith
 
 module _ (image b : List ℕ) (bytes : Bytes image) (own : Bytes b) (x : Inputs) where
   no-way : {a : BiasAnswer} {after : List ℕ} → Way image b x a after → a .number ≡ 23 → ⊥

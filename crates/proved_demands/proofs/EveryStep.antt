@@ -12,7 +12,7 @@ use borrow.Author.Tests.{lt-ltb, eq-eqb, ne-eqb, eqb-true, eqb-false}
 use Rattle.limits.specs.Limits.{taskCount, inputsLength}
 use Rattle.num_le.specs.LittleEndian.{Bytes}
 use Rattle.logic.proofs.Choice.{clash, both}
-use Rattle.image_header.specs.Scan.{blocksOf, headerOf}
+use Rattle.image_header.specs.Scan.{blocksOf, headerOf, landingsOf}
 use Rattle.command_operands.specs.declared.Command.{Command}
 use Rattle.walk_point.specs.declared.Point.{Point}
 use Rattle.state.specs.State.{runs, halted, taskWith, taskAt, withNotes}
@@ -57,12 +57,14 @@ not-waiting c time code w e f = go (eqb time 0) refl
     go false i = clash (sym (w (ap not i)) ∙ ap isWait e ∙ f)
 
 -- 8D and 31 to 33 are none, and a 5A halts only where none is pending
-unpending : (c : Command) (v : Values) (time : ℕ) {q : Cause} → Reason c v time q → (isSet time ≡ true → isWait (c .code) ≡ true) → time ≡ 0
-unpending c v time (Reason.divisor e z) w = not-waiting c time 0x8D w e refl
-unpending c v time (Reason.speed e z) w = not-waiting c time 0x31 w e refl
-unpending c v time (Reason.acceleration e z) w = not-waiting c time 0x32 w e refl
-unpending c v time (Reason.deceleration e z) w = not-waiting c time 0x33 w e refl
-unpending c v time (Reason.waiting e t z) w = t
+unpending : (ls : List ℕ) (c : Command) (v : Values) (time : ℕ) {q : Cause} → Reason ls c v time q → (isSet time ≡ true → isWait (c .code) ≡ true) → time ≡ 0
+unpending ls c v time (Reason.divisor e z) w = not-waiting c time 0x8D w e refl
+unpending ls c v time (Reason.speed e z) w = not-waiting c time 0x31 w e refl
+unpending ls c v time (Reason.acceleration e z) w = not-waiting c time 0x32 w e refl
+unpending ls c v time (Reason.deceleration e z) w = not-waiting c time 0x33 w e refl
+unpending ls c v time (Reason.waiting e t z) w = t
+unpending ls c v time (Reason.jumping e n) w = not-waiting c time 0x56 w e refl
+unpending ls c v time (Reason.starting e n) w = not-waiting c time 0x5B w e refl
 
 -- then no turns are counted either
 no-turns : (model time turns : ℕ) → GoodWait model time turns → time ≡ 0 → turns ≡ 0
@@ -122,7 +124,7 @@ module _ (image b : List ℕ) (x : Inputs) where
 
     module _ (r : Ready image b x) where
       abbrev e : Effect
-      e = effectOf (x .levels) (contextOf s task x) (commandOf image s x) (s .values)
+      e = effectOf (x .levels) (termsHeld s .landings) (contextOf s task x) (commandOf image s x) (s .values)
 
       performs : stepped image b x ≡ handed (performed s x task e)
       unfolding taskStep
@@ -138,19 +140,19 @@ module _ (image b : List ℕ) (x : Inputs) where
       task-good : GoodState s
       task-good = good (r .runs .held .state)
 
-      rule : Law (commandOf image s x .code) (commandOf image s x) (contextOf s task x) (s .values) e
+      rule : Law (termsHeld s .landings) (commandOf image s x .code) (commandOf image s x) (contextOf s task x) (s .values) e
       rule = law image bytes s task-good x (r .runs .held .asked .task) (r .runs .running) (r .fits)
 
       reason-of : (q : Cause) → e .outcome ≡ outcome.Halt q → ReasonHere image b x q
       reason-of q i =
           let fitting = fit-here image bytes s task-good x (r .runs .held .asked .task) (r .runs .running) (r .fits) in
-          subst (Halting (commandOf image s x) (s .values) (task .time)) i (rule .outcome .halt (s .header .count) (fitting .ranges))
+          subst (Halting (termsHeld s .landings) (commandOf image s x) (s .values) (task .time)) i (rule .outcome .halt (s .header .count) (fitting .ranges))
 
       -- 17 lets a pending wait stand at a wait alone
       wait-here : isSet (task .time) ≡ true → isWait (commandOf image s x .code) ≡ true
       unfolding fits
       wait-here t =
-          let here = both (isLoaded (headerOf image) (s .header)) (blockFits (termsHeld s) (blocksOf image) (x .task) task && waitFits (blocksOf image) task)
+          let here = both (isLoaded (headerOf image) (landingsOf image) (termsHeld s)) (blockFits (termsHeld s) (blocksOf image) (x .task) task && waitFits (blocksOf image) task)
           (r .fits) in
           let waiting = both (blockFits (termsHeld s) (blocksOf image) (x .task) task) (waitFits (blocksOf image) task) (here .1) .1 in
           sym (ap (λ (u : Bool). not u || isWait (commandOf image s x .code)) t) ∙ waiting
@@ -159,7 +161,7 @@ module _ (image b : List ℕ) (x : Inputs) where
       unfolding handed performed
       halting q i =
           let still = rule .still (ap isHalt i) in
-          let time = unpending (commandOf image s x) (s .values) (task .time) (reason-of q i) wait-here in
+          let time = unpending (termsHeld s .landings) (commandOf image s x) (s .values) (task .time) (reason-of q i) wait-here in
           let turns = no-turns (s .header .drive .model) (task .time) (task .turns) (task-good .task (x .task) (r .runs .held .asked .task) .wait) time in
           given-by _ _ (performs
           ∙ (λ ι. record {
@@ -167,6 +169,7 @@ module _ (image b : List ℕ) (x : Inputs) where
             buffer = encoded (record {
               values = withNotes (notesAfter (x .task) (x .start) (i ι) (still .1 ι) (still .0 ι .notes)) (still .0 ι);
               header = s .header;
+              landings = s .landings;
               tasks =
                   tasksAfter (s .header .start) (x .task) task (i ι) (s .tasks);
             });
@@ -176,6 +179,7 @@ module _ (image b : List ℕ) (x : Inputs) where
             buffer = encoded (record {
               values = level-noted (x .task) (x .start) q None (s .values) ι;
               header = s .header;
+              landings = s .landings;
               tasks =
                   set (s .tasks) (x .task) (status-alone task time turns ι);
             });
@@ -196,7 +200,7 @@ module _ (image b : List ℕ) (x : Inputs) where
     gives _ _ (Way.notRunning h n) = put-back h NotRunning (rw (ne-eqb (task .status) runs n))
     gives _ _ (Way.differs h f) = put-back (h .held) (Differs (pointOf (x .task) task)) (rw (eq-eqb (task .status) runs (h .running), f))
     gives _ _ (Way.done r n) = going r n
-    gives _ _ (Way.halts r q h) = halting r q (halts-for (x .levels) (contextOf s task x) (commandOf image s x) (s .values) h)
+    gives _ _ (Way.halts r q h) = halting r q (halts-for (x .levels) (termsHeld s .landings) (contextOf s task x) (commandOf image s x) (s .values) h)
 
     -- ---- a step goes some way
 
@@ -211,7 +215,7 @@ module _ (image b : List ℕ) (x : Inputs) where
     executed-way : Ready image b x → Some
     executed-way r =
         ⊎-elim (λ h. goes (Way.halts r (h .0) (reason-of r (h .0) (h .1))))
-        (λ h. goes (Way.done r (λ q w. clash (ap isHalt (sym (halts-for (x .levels) (contextOf s task x) (commandOf image s x) (s .values) w)) ∙ h .1))))
+        (λ h. goes (Way.done r (λ q w. clash (ap isHalt (sym (halts-for (x .levels) (termsHeld s .landings) (contextOf s task x) (commandOf image s x) (s .values) w)) ∙ h .1))))
         (halt-or-done (e r .outcome) (pointOf (x .task) task))
 
     running-way : Running b x → (t : Bool) → fits image (termsHeld s) (x .task) task ≡ t → Some

@@ -12,7 +12,7 @@ use borrow.Author.Tests.{eqb-true, eqb-false}
 use Rattle.limits.specs.Limits.{marksLength, stateLength}
 use Rattle.image_result.specs.ImageResult.{resultNumber, done}
 use Rattle.image_result.specs.declared.ImageResult.{ImageResult}
-use Rattle.image_result.specs.declared.ImageResult.the-variants.{Done, EndsEarly, NotShortest, OutOfRange, LeftOver, NoRoom}
+use Rattle.image_result.specs.declared.ImageResult.the-variants.{Done, EndsEarly, NotShortest, OutOfRange, LeftOver, NoRoom, BadLanding}
 use Rattle.image_header.specs.Scan.{headerOf, blocksOf}
 use Rattle.image_header.specs.Longest.{longestImage}
 use Rattle.image_header.proofs.Longest.{longest-image}
@@ -72,6 +72,7 @@ module _ (image : List ℕ) (n : ℕ) (b : List ℕ) where
   not-zero (OutOfRange p) d e = omega arith
   not-zero (LeftOver p) d e = omega arith
   not-zero (NoRoom p) d e = omega arith
+  not-zero (BadLanding p) d e = omega arith
 
   bad-number : (f : Fault) → isBad f ≡ true → faultNumber f ≡ 0 → ⊥
   bad-number fault.Fine d e = clash (sym d)

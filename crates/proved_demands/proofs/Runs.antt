@@ -24,7 +24,7 @@ use Rattle.state_layout.proofs.RoundTrip.{decode-encode, good-state}
 use Rattle.machine.specs.Inputs.{Inputs, level}
 use Rattle.machine.specs.Engine.{contextOf, fits, pointOf, answerTo, performed, taskStep, step, termsHeld}
 use Rattle.machine.specs.Effect.{effectOf}
-use Rattle.machine.specs.Reference.{Thread, Machine, ReferenceOut, idle, referenceLoaded, replies, does, lost, tries, acts, referenceStep}
+use Rattle.machine.specs.Reference.{Thread, Machine, ReferenceOut, idle, referenceLoaded, replies, does, lost, tries, acts, referenceStep, landingBlocks}
 use Rattle.machine.specs.Alike.{Alike}
 use Rattle.machine.specs.Run.{outs, referenceOuts, stateAfter, machineAfter, SameHanded, Permitted}
 use Rattle.machine.specs.StepRule.{Past, noPast, pastAfter, StepRule, EachStep}
@@ -94,7 +94,7 @@ refused-stays image s x =
     Stays o = refused (o .answer) ≡ true → o .state ≡ s
 
     effect : Effect
-    effect = effectOf (x .levels) (contextOf s (taskAt s (x .task)) x) (commandAt (blocksOf image) (taskAt s (x .task) .block)) (s .values)
+    effect = effectOf (x .levels) (termsHeld s .landings) (contextOf s (taskAt s (x .task)) x) (commandAt (blocksOf image) (taskAt s (x .task) .block)) (s .values)
 
 -- the reference machine never says that the image differs
 reply-same : (o : Outcome) (t : ℕ) (thread : Thread) → differs (replies o t thread) ≡ false
@@ -129,7 +129,7 @@ turn-same image m x =
 
     effect : Effect
     effect =
-        effectOf (x .levels)
+        effectOf (x .levels) (landingBlocks image)
         (record {
           drive = headerOf image .header .drive;
           start = level (x .start);

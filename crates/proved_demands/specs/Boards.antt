@@ -14,7 +14,7 @@ use Rattle.walk.specs.Blocks.{blockFaultAt}
 use Rattle.walk.specs.IsVerdict.{BlockPasses}
 
 pub record FirstFault (image : List ℕ) (n : ℕ) (b : List ℕ) (k : ℕ) (f : BlockFault) : Type 0 where
-  -- 13, 16 and 1 to 4 let the load pass
+  -- 13, 16, 1 to 4 and 21 let the load pass
   pub marks : marksLength ≤ n
   pub buffer : length b ≡ stateLength
   pub header : done (headerOf image .result) ≡ true

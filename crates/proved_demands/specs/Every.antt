@@ -24,7 +24,7 @@ use Rattle.bias_results.specs.Results.{noStateAnswer, answerFor}
 use Rattle.bias_results.specs.declared.BiasAnswer.{BiasAnswer}
 use Rattle.bias.specs.Step.{stepped}
 
--- ---- what 19 and 20 leave
+-- ---- what 19, 20 and 22 leave
 
 -- block, start, call stack and wait stay
 abbrev pub withStatus : ℕ → Task → Task
@@ -35,6 +35,7 @@ abbrev pub haltedState : State → Inputs → State
 haltedState s x = record {
   values = levelNoted (x .task) (x .start) (s .values);
   header = s .header;
+  landings = s .landings;
   tasks = set (s .tasks) (x .task) (withStatus halted (taskAt s (x .task)));
 }
 
@@ -62,7 +63,7 @@ pub record Ready (image b : List ℕ) (x : Inputs) : Type 0 where
 
 -- the command has this reason to halt its task
 abbrev pub ReasonHere : List ℕ → List ℕ → Inputs → Cause → Type 0
-ReasonHere image b x = Reason (commandOf image (decoded b) x) (decoded b .values) (taskAt (decoded b) (x .task) .time)
+ReasonHere image b x = Reason (termsHeld (decoded b) .landings) (commandOf image (decoded b) x) (decoded b .values) (taskAt (decoded b) (x .task) .time)
 
 -- ---- the ways of a step, each with its answer and the buffer after it
 
@@ -82,7 +83,7 @@ pub data Way (image b : List ℕ) (x : Inputs) : BiasAnswer → List ℕ → Typ
   done : Ready image b x → ((q : Cause) → ReasonHere image b x q → ⊥)
       → Way image b x (answerFor (carriedOut (blocksOf image) (decoded b) x (taskAt (decoded b) (x .task)) .request) Done)
       (encoded (carriedOut (blocksOf image) (decoded b) x (taskAt (decoded b) (x .task)) .state))
-  -- 19 or 20, at the task's point, with no motion
+  -- 19, 20 or 22, at the task's point, with no motion
   halts : Ready image b x → (q : Cause) → ReasonHere image b x q
       → Way image b x (answerFor None (Halted q (pointOf (x .task) (taskAt (decoded b) (x .task))))) (encoded (haltedState (decoded b) x))
 

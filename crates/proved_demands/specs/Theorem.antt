@@ -1,4 +1,4 @@
--- Demand 3, of the functions that C calls (docs/PROMISES.md numbers its parts), as one claim, `Demand`: parts 1 to 6 and 8 are `EveryRun`, part 7 is
+-- Demand 3, of the functions that C calls (docs/PROMISES.md numbers its parts), as one claim, `Demand`: parts 1 to 6, 8 and 9 are `EveryRun`, part 7 is
 -- `EveryLoad`, with the user's own sentence beside it. Proved as `demand` in proofs/Demand.antt.
 use Prim.Native.Nat.{ℕ, _<_, _≤_}
 use mathlib.Core.Path.{_≡_}
@@ -56,7 +56,7 @@ differs (Halted q p) = false
 pub record StepOn (image : List ℕ) (past : Past) (b : List ℕ) (x : Inputs) : Type 0 where
   -- the buffer is a state
   pub held : isState b ≡ true
-  -- parts 4, 5, 6 and 8 (machine/specs/StepRule.antt), of the state that the buffer holds
+  -- parts 4, 5, 6, 8 and 9 (machine/specs/StepRule.antt), of the state that the buffer holds
   pub parts : StepRule image past (decoded b) x
   -- which are of this step: what it hands out is the answer, and the state after it is what the buffer holds then
   pub answer : stepped image b x .answer ≡ answerFor (step image (decoded b) x .request) (step image (decoded b) x .answer)
@@ -83,7 +83,7 @@ pub record Run (image b : List ℕ) (xs : List Inputs) : Type 0 where
   -- 3. afterwards each task that runs is at a block of the image that is permitted to it, at its depth, which is at most the limit
   pub permitted : (t : ℕ) → t < taskCount → taskAt (decoded (bufferAfter image b xs)) t .status ≡ runs
       → Permitted image t (taskAt (decoded (bufferAfter image b xs)) t)
-  -- 4, 5, 6 and 8. at every step
+  -- 4, 5, 6, 8 and 9. at every step
   pub steps : EveryStepOn image noPast b xs
   -- and the buffer afterwards is a state
   pub held : isState (bufferAfter image b xs) ≡ true
@@ -113,7 +113,7 @@ EveryLoad = (image : List ℕ) (n : ℕ) (b : List ℕ) → LoadOf image n b
 
 -- header, blocks and lent lengths are well formed
 pub record WellFormed (image : List ℕ) (n : ℕ) (b : List ℕ) : Type 0 where
-  -- 13, 16, 1 to 4 and, of each block by itself, 5 to 8 and 23 let them pass
+  -- 13, 16, 1 to 4, 21 and, of each block by itself, 5 to 8 and 23 let them pass
   pub marks : marksLength ≤ n
   pub buffer : length b ≡ stateLength
   pub header : done (headerOf image .result) ≡ true

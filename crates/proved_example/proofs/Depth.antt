@@ -7,7 +7,7 @@ use mathlib.Core.Bool.{Bool, true, false}
 use mathlib.Core.List.{List, [], _∷_}
 use lib.ListN.{length}
 use Rattle.limits.specs.Limits.{bias, taskCount, mostDepth, inputsLength}
-use Rattle.image_header.specs.GoodHeader.{GoodHeader}
+use Rattle.image_header.specs.GoodHeader.{GoodHeader, GoodLandings}
 use Rattle.image_header.specs.declared.Header.{Header}
 use Rattle.num_le.specs.LittleEndian.{Bytes}
 use Rattle.state.specs.State.{runs, taskWith, emptyStack, neverStarted, freshValues, fresh, taskAt}
@@ -46,20 +46,21 @@ run-within image n b bytes z xs t l r = block-fits demand image n b bytes z xs t
 
 -- ---- the other way: as load leaves it, but BIAS inside 5 calls, each of which returns to block 0
 
-module _ (h : Header) (g : GoodHeader h) where
+module _ (h : Header) (g : GoodHeader h) (landings : List ℕ) (l : GoodLandings h landings) where
   abbrev fiveDeep : State
   fiveDeep = record {
     values = freshValues;
     header = h;
+    landings = landings;
     tasks = taskWith runs (h .start) (h .start) 5 emptyStack 0 0 ∷ neverStarted ∷ neverStarted ∷ [];
   }
 
   good : GoodState fiveDeep
   unfolding fresh
-  good = record { header = g; values = values-good; three = refl; task = tasks; first = refl }
+  good = record { header = g; landings = l; values = values-good; three = refl; task = tasks; first = refl }
     where
       tasks : (t : ℕ) → t < taskCount → GoodTask h (taskAt fiveDeep t)
-      tasks zero l =
+      tasks zero below =
           record {
             status = omega arith;
             block = g .start;
@@ -70,7 +71,7 @@ module _ (h : Header) (g : GoodHeader h) where
             above = λ i c. getD-replicate {A = ℕ} mostDepth 0 i;
             wait = GoodWait.none;
           }
-      tasks (suc t) l = fresh-good h g .task (suc t) l
+      tasks (suc t) below = fresh-good h g landings l .task (suc t) below
 
   -- its bytes are a state, of depth 5
   pub five-is-one : (isState (encoded fiveDeep) ≡ true) × (taskAt (decoded (encoded fiveDeep)) bias .depth ≡ 5)

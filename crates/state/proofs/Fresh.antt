@@ -1,14 +1,14 @@
 -- What load leaves is a good state.
 use Prim.Native.Nat.{ℕ, zero, suc, _<_}
 use mathlib.Core.Path.{_≡_, refl}
-use mathlib.Core.List.{[], _∷_}
+use mathlib.Core.List.{List, [], _∷_}
 use native.Mathlib.Omega.{arith}
 use lib.ListN.{getD, replicate}
 use lib.IntN.{pos}
 use mir.Syntax.{w32}
 use mir.Val.{SFits}
 use Rattle.limits.specs.Limits.{taskCount, mostDepth, cells}
-use Rattle.image_header.specs.GoodHeader.{GoodHeader}
+use Rattle.image_header.specs.GoodHeader.{GoodHeader, GoodLandings}
 use Rattle.image_header.specs.declared.Header.{Header}
 use Rattle.state.specs.State.{noTask, fresh, freshValues, running, neverStarted}
 use Rattle.state.specs.GoodState.{GoodWait, GoodTask, GoodValues, GoodState}
@@ -70,9 +70,9 @@ module _ (h : Header) (g : GoodHeader h) where
     wait = GoodWait.none;
   }
 
-  pub fresh-good : GoodState (fresh h)
+  pub fresh-good : (landings : List ℕ) → GoodLandings h landings → GoodState (fresh h landings)
   unfolding fresh
-  fresh-good = record { header = g; values = values-good; three = refl; task = tasks; first = refl }
+  fresh-good landings k = record { header = g; landings = k; values = values-good; three = refl; task = tasks; first = refl }
     where
       tasks : (t : ℕ) → t < taskCount → GoodTask h (getD (running (h .start) ∷ neverStarted ∷ neverStarted ∷ []) t noTask)
       tasks zero l = started

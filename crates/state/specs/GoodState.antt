@@ -8,7 +8,7 @@ use lib.IntN.{pos}
 use mir.Syntax.{w32}
 use mir.Val.{SFits}
 use Rattle.limits.specs.Limits.{bias, taskCount, mostDepth, cells, mostLevel, mostSpeed, mostRamp, longestWait}
-use Rattle.image_header.specs.GoodHeader.{GoodHeader}
+use Rattle.image_header.specs.GoodHeader.{GoodHeader, GoodLandings}
 use Rattle.image_header.specs.declared.Header.{Header}
 use Rattle.state.specs.State.{halted, noTask}
 use Rattle.state.specs.Wait.{due}
@@ -74,6 +74,7 @@ pub record GoodValues (v : Values) : Type 0 where
 -- BIAS's start is the program start: the buffer does not hold it apart
 pub record GoodState (s : State) : Type 0 where
   pub header : GoodHeader (s .header)
+  pub landings : GoodLandings (s .header) (s .landings)
   pub values : GoodValues (s .values)
   pub three : length (s .tasks) ≡ taskCount
   pub task : (t : ℕ) → t < taskCount → GoodTask (s .header) (getD (s .tasks) t noTask)

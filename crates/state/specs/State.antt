@@ -67,8 +67,8 @@ unfoldable pub freshValues : Values
 freshValues = record { cells = startCells; motion = startMotion; notes = startNotes }
 
 -- BIAS at the program start, the PLC and mathematics never started
-unfoldable pub fresh : Header → State
-fresh h = record { values = freshValues; header = h; tasks = running (h .start) ∷ neverStarted ∷ neverStarted ∷ [] }
+unfoldable pub fresh : Header → List ℕ → State
+fresh h landings = record { values = freshValues; header = h; landings = landings; tasks = running (h .start) ∷ neverStarted ∷ neverStarted ∷ [] }
 
 -- ---- setters of the values: each but that of the notes makes one change
 

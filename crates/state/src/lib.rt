@@ -3,6 +3,7 @@
 use drive::Drive;
 use image_header::Header;
 use limits::CELLS;
+use limits::MOST_LANDINGS;
 use limits::STACK_LENGTH;
 use limits::TASKS;
 ghost use mathlib.Core.Path.{_≡_};
@@ -11,7 +12,7 @@ ghost use Rattle.state.specs.State.{neverStarted, running, freshValues, 
 ghost use Rattle.state.specs.Change.{cellsOf, cellsAfter, motionAfter};
 ghost use Rattle.state.specs.State.{withPosition, withSpeed, withAcceleration, withDeceleration};
 
-// What a task does: it was never started, it runs, it ended itself by 51, or 19 or 20 halted it.
+// What a task does: it was never started, it runs, it ended itself by 51, or 19, 20 or 22 halted it.
 pub const NEVER_STARTED: u8 = 0;
 
 pub const RUNNING: u8 = 1;
@@ -79,9 +80,11 @@ pub enum Change {
     Mark(u8),
 }
 
+// The landing list has room for the most landing blocks: the header says how many of it there are.
 pub struct State {
     pub values: Values,
     pub header: Header,
+    pub landings: [u16; MOST_LANDINGS],
     pub tasks: [Task; TASKS],
 }
 
@@ -226,8 +229,8 @@ pub fn make_change<'a>(
 
 impl State {
     // As load leaves it: BIAS at the program start, the other tasks not started.
-    pub fn fresh(header: Header) -> State
-        ensures { λ r. ⌜ r ≡ fresh header ⌝ }
+    pub fn fresh(header: Header, landings: [u16; MOST_LANDINGS]) -> State
+        ensures { λ r. ⌜ r ≡ fresh header landings ⌝ }
     {
         let values = Values::fresh();
         let bias = Task::running(header.start);
@@ -236,6 +239,7 @@ impl State {
         State {
             values: values,
             header: header,
+            landings: landings,
             tasks: tasks,
         }
     }

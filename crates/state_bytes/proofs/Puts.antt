@@ -5,8 +5,9 @@ use native.Mathlib.Omega.{arith}
 use native.Mathlib.Nat.{add-zero, mul-suc}
 use native.Mathlib.Numerals.{add-one}
 use mathlib.Core.List.{List, [], _∷_, _++_, append-nil}
-use lib.ListN.{length, getD, set, take, drop, length-append}
-use lib.Seq.{drop-length, sets, length-sets, sets-eq, take-suc, take-all, length-take-le}
+use lib.ListN.{length, getD, set, take, drop, length-append, length-set}
+use lib.Seq.{getD-set-same, getD-set-other, drop-length, sets, length-sets, sets-eq, take-suc, take-all, length-take-le}
+use Rattle.logic.proofs.Has.{Has, head, tail, nil, cons}
 use Rattle.num_le.specs.LittleEndian.{leBytes}
 use Rattle.state_bytes.specs.Bytes.{puts, concatenated}
 
@@ -94,3 +95,43 @@ module _ (f : ℕ → List ℕ) (m : ℕ) (each : (k : ℕ) → length (f k) ≡
 pub concatenated-all : (f : ℕ → List ℕ) (s : List ℕ) (at i n : ℕ) (l : List ℕ) → i ≤ n → n ≤ i → l ≡ puts s at (concatenated i f)
     → l ≡ puts s at (concatenated n f)
 concatenated-all f s at i n l a b e = let g : i ≡ n = omega arith in rw g at e
+
+-- ---- where they stand already, and behind them
+
+set-same : (l : List ℕ) (k : ℕ) → set l k (getD l k 0) ≡ l
+set-same [] k = refl
+set-same (x ∷ l) zero = refl
+set-same (x ∷ l) (suc k) = ap (λ (m : List ℕ). x ∷ m) (set-same l k)
+
+-- bytes put where they stand change nothing
+pub puts-same : (vs l : List ℕ) (at : ℕ) → Has l at vs → puts l at vs ≡ l
+unfolding puts
+puts-same [] l at h = refl
+puts-same (v ∷ vs) l at h =
+    let e : set l at v ≡ l = ap (set l at) (sym (head h)) ∙ set-same l at in
+    ap (λ (m : List ℕ). puts m (at + 1) vs) e ∙ puts-same vs l (at + 1) (tail h)
+
+-- what stands behind the bytes that are put stays
+pub puts-behind : (vs l : List ℕ) (at k : ℕ) → at + length vs ≤ k → getD (puts l at vs) k 0 ≡ getD l k 0
+unfolding puts
+puts-behind [] l at k h = refl
+puts-behind (v ∷ vs) l at k h =
+    puts-behind vs (set l at v) (at + 1) k (omega arith) ∙ getD-set-other l at k v 0 (λ q. absurd (omega arith))
+
+pub stays-behind : (vs l : List ℕ) (at : ℕ) (xs : List ℕ) (p : ℕ) → at + length vs ≤ p → Has l p xs → Has (puts l at vs) p xs
+stays-behind vs l at xs p h x = record { is = λ k lt. puts-behind vs l at (p + k) (omega arith) ∙ x .is k lt }
+
+puts-before : (vs l : List ℕ) (at k : ℕ) → k < at → getD (puts l at vs) k 0 ≡ getD l k 0
+unfolding puts
+puts-before [] l at k h = refl
+puts-before (v ∷ vs) l at k h =
+    puts-before vs (set l at v) (at + 1) k (omega arith) ∙ getD-set-other l at k v 0 (λ q. absurd (omega arith))
+
+-- bytes that are put stand there, where there is room
+pub puts-has : (vs l : List ℕ) (at : ℕ) → at + length vs ≤ length l → Has (puts l at vs) at vs
+unfolding puts
+puts-has [] l at h = nil
+puts-has (v ∷ vs) l at h =
+    let e = length-set l at v in
+    cons (puts-before vs (set l at v) (at + 1) at (omega arith) ∙ getD-set-same l at v 0 (omega arith))
+    (puts-has vs (set l at v) (at + 1) (omega arith))

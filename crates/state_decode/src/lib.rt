@@ -2,6 +2,7 @@
 use drive::Drive;
 use image_header::Header;
 use limits::CELLS;
+use limits::MOST_LANDINGS;
 use limits::STACK_LENGTH;
 use limits::TASKS;
 use state::Axis;
@@ -9,12 +10,12 @@ use state::Motion;
 use state::Notes;
 use state::Task;
 ghost use mathlib.Core.Path.{_≡_};
-ghost use Prim.Native.Nat.{_+_, _*_, _<_, _≤_};
-ghost use lib.ListN.{length};
-ghost use Rattle.limits.specs.Limits.{taskCount, mostDepth, stateLength};
+ghost use Prim.Native.Nat.{ℕ, _+_, _*_, _<_, _≤_};
+ghost use lib.ListN.{length, getD};
+ghost use Rattle.limits.specs.Limits.{taskCount, mostDepth, mostLandings, stateLength};
 ghost use Rattle.state.specs.State.{taskAt};
-ghost use Rattle.state_layout.specs.Codecs.{levelsLength, levelsIn, headerIn, motionIn, notesIn, stackIn, taskLength, taskIn};
-ghost use Rattle.state_layout.specs.Layout.{headerAt, motionAt, notesAt, cellsIn, biasIn, plcIn, mathematicsIn, tasksIn, decoded};
+ghost use Rattle.state_layout.specs.Codecs.{levelsLength, levelsIn, headerIn, landingsIn, motionIn, notesIn, stackIn, taskLength, taskIn};
+ghost use Rattle.state_layout.specs.Layout.{headerAt, landingsAt, motionAt, notesAt, cellsIn, biasIn, plcIn, mathematicsIn, tasksIn, decoded};
 
 // The three tasks.
 pub fn tasks_in(b: &[u8]) -> [Task; TASKS]
@@ -141,7 +142,25 @@ pub fn header_in(b: &[u8]) -> Header
         drive: drive,
         start: state_bytes::word(b, state_layout::START_AT),
         count: state_bytes::word(b, state_layout::HEADER_AT + 6),
+        landings: state_bytes::byte(b, state_layout::HEADER_AT + 8),
     }
+}
+
+// The landing list, of which the first `count` are landing blocks: no others are read, as 16 has found them 0.
+pub fn landings_in(b: &[u8], count: u8) -> [u16; MOST_LANDINGS]
+    requires { ⌜ length (now b) ≡ stateLength ⌝ }
+    requires { ⌜ count ≤ mostLandings ⌝ }
+    requires { ⌜ ((k : ℕ) → count ≤ k → getD (landingsIn (now b) landingsAt) k 0 ≡ 0) ⌝ }
+    ensures { λ r. ⌜ r ≡ landingsIn (now (b .entry)) landingsAt ⌝ }
+{
+    let n = count as usize;
+    let mut r = [0u16; MOST_LANDINGS];
+    let mut k: usize = 0;
+    while k < n {
+        r[k] = state_bytes::word(b, state_layout::LANDINGS_AT + 2 * k);
+        k += 1;
+    }
+    r
 }
 
 // The axis and the start mark.

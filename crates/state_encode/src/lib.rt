@@ -1,7 +1,6 @@
 // A state written as a buffer, section by section.
 use image_header::Header;
 use limits::CELLS;
-use limits::STACK_LENGTH;
 use limits::STATE_LENGTH;
 use limits::TASKS;
 use state::Motion;
@@ -10,14 +9,14 @@ use state::State;
 use state::Task;
 ghost use mathlib.Core.Path.{_≡_};
 ghost use mathlib.Core.List.{[], _∷_};
-ghost use Prim.Native.Nat.{_+_, _*_, _≤_};
-ghost use lib.ListN.{length, replicate};
-ghost use Rattle.limits.specs.Limits.{mostDepth, stateLength};
+ghost use Prim.Native.Nat.{ℕ, _+_, _*_, _<_, _≤_};
+ghost use lib.ListN.{length, getD, replicate};
+ghost use Rattle.limits.specs.Limits.{stateLength};
 ghost use Rattle.state_bytes.specs.Bytes.{puts};
 ghost use Rattle.state_sections.specs.Records.{recordBytes};
-ghost use Rattle.state_layout.specs.Codecs.{variablesLength, variableBytes, layoutBytes, headerBytes, motionBytes, notesBytes, startWidths, stackBytes};
+ghost use Rattle.state_layout.specs.Codecs.{variablesLength, variableBytes, layoutBytes, headerBytes, landingsIn, motionBytes, notesBytes, startWidths, wordBytes};
 ghost use Rattle.state_layout.specs.Codecs.{taskLength, taskBytes};
-ghost use Rattle.state_layout.specs.Layout.{layoutAt, headerAt, motionAt, notesAt, startsAt, unusedAt, unusedLength, stateOf, encoded};
+ghost use Rattle.state_layout.specs.Layout.{layoutAt, headerAt, landingsAt, motionAt, notesAt, startsAt, unusedAt, unusedLength, stateOf, encoded};
 
 const UNUSED_AT: usize = state_layout::UNUSED_AT;
 
@@ -30,7 +29,9 @@ pub fn encode(b: &mut [u8], s: State)
 {
     let values = s.values;
     let header = s.header;
+    let landings = s.landings;
     let tasks = s.tasks;
+    put_words(b, state_layout::LANDINGS_AT, &landings);
     encode_parts(
         b,
         &values.cells.variables,
@@ -43,7 +44,8 @@ pub fn encode(b: &mut [u8], s: State)
     );
 }
 
-// The same of a state whose parts these are; the cells are lent, so that they are copied once.
+// The same of a state whose parts these are; the cells are lent, so that they are copied once. The landing list that stands in the buffer stays: no step
+// changes it.
 pub fn encode_parts<'a>(
     b: &mut [u8],
     variables: &'a [i32; CELLS],
@@ -56,7 +58,8 @@ pub fn encode_parts<'a>(
 )
     requires { ⌜ length (now b) ≡ stateLength ⌝ }
     ensures { λ _. ⌜ now (b .exit)
-        ≡ encoded (stateOf (now (variables .entry)) (now (flags .entry)) (now (outputs .entry)) header motion notes tasks) ⌝ }
+        ≡ encoded (stateOf (now (variables .entry)) (now (flags .entry)) (now (outputs .entry)) header (landingsIn (now (b .entry)) landingsAt) motion
+        notes tasks) ⌝ }
 {
     let bias = tasks[0];
     let plc = tasks[1];
@@ -120,6 +123,7 @@ fn put_header(b: &mut [u8], h: Header)
     state_bytes::put_byte(b, state_layout::HEADER_AT + 3, h.drive.c);
     state_bytes::put_word(b, state_layout::HEADER_AT + 4, h.start);
     state_bytes::put_word(b, state_layout::HEADER_AT + 6, h.count);
+    state_bytes::put_byte(b, state_layout::HEADER_AT + 8, h.landings);
 }
 
 // The axis and the start mark.
@@ -159,18 +163,20 @@ fn put_task(b: &mut [u8], at: usize, task: Task)
     state_bytes::put_byte(b, at, task.status);
     state_bytes::put_byte(b, at + 1, task.depth);
     state_bytes::put_word(b, at + 2, task.block);
-    put_stack(b, at + state_layout::STACK_AT, &task.stack);
+    put_words(b, at + state_layout::STACK_AT, &task.stack);
     state_bytes::put_long(b, at + state_layout::TIME_AT, task.time);
     state_bytes::put_long(b, at + state_layout::TURNS_AT, task.turns);
 }
 
-fn put_stack(b: &mut [u8], at: usize, stack: &[u16; STACK_LENGTH])
-    requires { ⌜ at + 2 * mostDepth ≤ length (now b) ⌝ }
-    ensures { λ _. ⌜ now (b .exit) ≡ puts (now (b .entry)) at (stackBytes (now (stack .entry))) ⌝ }
+// Blocks: a call stack, or the landing list.
+fn put_words(b: &mut [u8], at: usize, words: &[u16])
+    requires { ⌜ at + 2 * length (now words) ≤ length (now b) ⌝ }
+    ensures { λ _. ⌜ now (b .exit) ≡ puts (now (b .entry)) at (wordBytes (length (now (words .entry))) (now (words .entry))) ⌝ }
+    ensures { λ _. ⌜ ((k : ℕ) → getD (now (words .entry)) k 0 < 65536) ⌝ }
 {
     let mut i: usize = 0;
-    while i < STACK_LENGTH {
-        state_bytes::put_word(b, at + 2 * i, stack[i]);
+    while i < words.len() {
+        state_bytes::put_word(b, at + 2 * i, words[i]);
         i += 1;
     }
 }

@@ -1,1 +1,2 @@
 mod Union
+pub mod Landings

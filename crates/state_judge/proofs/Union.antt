@@ -17,7 +17,7 @@ use Rattle.state_layout.specs.Layout.{unusedAt}
 use Rattle.state_layout.specs.IsState.{allOf, levelIs, unusedBytesZero}
 use Rattle.state_judge.specs.Together.{together}
 
-each-of : (P : ℕ → Bool) → P 0 ≡ true → ((x y : ℕ) → P (bitOr x y) ≡ (P x && P y)) → (b : List ℕ) (at n : ℕ)
+pub each-of : (P : ℕ → Bool) → P 0 ≡ true → ((x y : ℕ) → P (bitOr x y) ≡ (P x && P y)) → (b : List ℕ) (at n : ℕ)
     → P (together b at n) ≡ eachBelow (λ (k : ℕ). P (getD b (at + k) 0)) n
 unfolding together eachBelow
 each-of P none union b at zero = none
@@ -46,7 +46,7 @@ up-to k x y = go (leb x (2 ^ k - 1)) (leb y (2 ^ k - 1)) refl refl
     go false u e f = let a = leb-false x (2 ^ k - 1) e in lt-leb (bitOr x y) (2 ^ k - 1) (omega (arith, left))
 
 -- 0 is when both parts are
-zero-when : (x y : ℕ) → eqb (bitOr x y) 0 ≡ (eqb x 0 && eqb y 0)
+pub zero-when : (x y : ℕ) → eqb (bitOr x y) 0 ≡ (eqb x 0 && eqb y 0)
 zero-when x y = go (eqb x 0) (eqb y 0) refl refl
   where
     left : x ≤ bitOr x y
@@ -60,7 +60,7 @@ zero-when x y = go (eqb x 0) (eqb y 0) refl refl
     go true false e f = let b = eqb-false y 0 f in ne-eqb (bitOr x y) 0 (λ z. b (omega (arith, right)))
     go false u e f = let a = eqb-false x 0 e in ne-eqb (bitOr x y) 0 (λ z. a (omega (arith, left)))
 
-same-tests : (f g : ℕ → Bool) (n : ℕ) → ((k : ℕ) → k < n → f k ≡ g k) → eachBelow f n ≡ eachBelow g n
+pub same-tests : (f g : ℕ → Bool) (n : ℕ) → ((k : ℕ) → k < n → f k ≡ g k) → eachBelow f n ≡ eachBelow g n
 unfolding eachBelow
 same-tests f g zero e = refl
 same-tests f g (suc n) e = ap₂ _&&_ (same-tests f g n (λ k h. e k (omega arith))) (e n (omega arith))

@@ -3,6 +3,7 @@ use drive::Drive;
 use image_header::Header;
 use image_header::reader;
 use limits::CELLS;
+use limits::MOST_LANDINGS;
 use limits::STACK_LENGTH;
 use limits::STATE_LENGTH;
 use state::Motion;
@@ -12,8 +13,9 @@ ghost use mathlib.Core.Path.{_≡_};
 ghost use Prim.Native.Nat.{_+_, _≤_};
 ghost use lib.ListN.{length};
 ghost use Rattle.limits.specs.Limits.{mostDepth, cells, stateLength};
-ghost use Rattle.state_layout.specs.Codecs.{levelsLength, levelsIn};
-ghost use Rattle.state_layout.specs.Layout.{unusedLength, valuesIn, decoded};
+ghost use Rattle.image_header.specs.Rows.{acceptsLandings};
+ghost use Rattle.state_layout.specs.Codecs.{levelsLength, levelsIn, landingsIn};
+ghost use Rattle.state_layout.specs.Layout.{landingsAt, unusedLength, valuesIn, decoded};
 ghost use Rattle.state_layout.specs.IsState.{allOf, levelIs, entryIs, waitIs, taskIs, motionIs, notesAre, valuesAre, stateIs};
 ghost use Rattle.state_layout.specs.IsState.{unusedBytesZero, frameIs, isState};
 ghost use Rattle.state_judge.specs.Together.{together};
@@ -22,7 +24,8 @@ const UNUSED_AT: usize = state_layout::UNUSED_AT;
 
 const UNUSED_LENGTH: usize = STATE_LENGTH - UNUSED_AT;
 
-// Whether a buffer is a state. It is judged where it is lent: nothing is decoded but the header, the axis, the notes and the tasks.
+// Whether a buffer is a state. It is judged where it is lent: nothing is decoded but the header, the axis, the notes and the tasks, and of the landing list
+// what stands below its count.
 pub fn is_state(b: &[u8]) -> bool
     ensures { λ r. ⌜ r ≡ isState (now (b .entry)) ⌝ }
 {
@@ -69,10 +72,37 @@ fn state_is(b: &[u8]) -> bool
 {
     let header = state_decode::header_in(b);
     reader::accepts(header)
-        & (values_are(b)
-            & (task_is(header, state_decode::bias_in(b))
-                & (task_is(header, state_decode::plc_in(b))
-                    & task_is(header, state_decode::mathematics_in(b)))))
+        & (landings_are(b, header)
+            & (values_are(b)
+                & (task_is(header, state_decode::bias_in(b))
+                    & (task_is(header, state_decode::plc_in(b))
+                        & task_is(header, state_decode::mathematics_in(b))))))
+}
+
+// Whether the landing list is one that load accepts with this header: as many blocks as it says, each judged beside the one before it, and zeros.
+fn landings_are(b: &[u8], header: Header) -> bool
+    requires { ⌜ length (now b) ≡ stateLength ⌝ }
+    ensures { λ r. ⌜ r ≡ acceptsLandings header (landingsIn (now (b .entry)) landingsAt) ⌝ }
+{
+    let mut pass = true;
+    let mut before: u16 = 0;
+    let mut i: usize = 0;
+    while i < MOST_LANDINGS {
+        if i >= header.landings as usize {
+            return pass
+                & (together(
+                    b,
+                    state_layout::LANDINGS_AT + 2 * i,
+                    2 * (MOST_LANDINGS - i),
+                )
+                    == 0);
+        }
+        let block = state_bytes::word(b, state_layout::LANDINGS_AT + 2 * i);
+        pass = pass & reader::landing_fits(header.count as u32, i, before, block);
+        before = block;
+        i += 1;
+    }
+    pass
 }
 
 // Cells, motion and notes: flags and outputs 0 or 1, and so both notes.

@@ -11,10 +11,10 @@ use lib.ListN.{length, getD, List·getD-eq-default}
 use borrow.Author.Tests.{ltb-true, leb-true, eqb-true, not-true, lt-ltb, le-leb, eq-eqb}
 use mir.Syntax.{w32}
 use mir.Val.{SFits}
-use Rattle.limits.specs.Limits.{bias, plc, mathematics, taskCount, mostDepth, cells, mostLevel, mostSpeed, mostRamp, longestWait, upTo}
-use Rattle.image_header.specs.Rows.{accepts}
+use Rattle.limits.specs.Limits.{bias, plc, mathematics, taskCount, mostDepth, mostLandings, cells, mostLevel, mostSpeed, mostRamp, longestWait, upTo}
+use Rattle.image_header.specs.Rows.{accepts, acceptsLandings}
 use Rattle.image_header.specs.declared.Header.{Header}
-use Rattle.image_header.proofs.Rows.{accepted-good, good-accepted}
+use Rattle.image_header.proofs.Rows.{accepted-good, good-accepted, landings-accepted, good-landings-accepted, most-of}
 use Rattle.logic.proofs.Choice.{by, both}
 use Rattle.logic.proofs.Each.{each-passes, all-pass}
 use Rattle.state.specs.GoodState.{GoodWait, GoodTask, InRange, GoodCells, GoodMotion, GoodValues, GoodState}
@@ -160,6 +160,7 @@ pub record Shaped (s : State) : Type 0 where
   pub signed : (i : ℕ) → SFits w32 (getD (s .values .cells .variables) i (pos 0))
   pub flags : length (s .values .cells .flags) ≡ cells
   pub outputs : length (s .values .cells .outputs) ≡ cells
+  pub landings : length (s .landings) ≡ mostLandings
   pub position : SFits w32 (s .values .motion .axis .position)
   pub three : length (s .tasks) ≡ taskCount
   pub stack : (t : ℕ) → t < taskCount → length (taskAt s t .stack) ≡ mostDepth
@@ -210,6 +211,7 @@ unfolding stateIs
 good-judged s g =
     rw (
       good-accepted (s .header) (g .header),
+      good-landings-accepted (s .header) (s .landings) (g .landings),
       values-judged (s .values) (g .values),
       task-judged (s .header) (taskAt s bias) (g .task bias (omega arith)),
       task-judged (s .header) (taskAt s plc) (g .task plc (omega arith)),
@@ -220,12 +222,17 @@ pub judged-good : (s : State) → Shaped s → stateIs s ≡ true → GoodState 
 unfolding stateIs
 judged-good s x e =
     let r1 = both (accepts (s .header)) _ e in
-    let r2 = both (valuesAre (s .values)) _ (r1 .1) in
+    let k = both (acceptsLandings (s .header) (s .landings)) _ (r1 .1) in
+    let r2 = both (valuesAre (s .values)) _ (k .1) in
+    let g = accepted-good (s .header) (r1 .0) in
+    let few = most-of (s .header .format) in
+    let most = g .landings in
     let r3 = both (taskIs (s .header) (taskAt s bias)) _ (r2 .1) in
     let r4 = both (taskIs (s .header) (taskAt s plc)) (taskIs (s .header) (taskAt s mathematics)) (r3 .1) in
     let task : (t : ℕ) → t < taskCount → GoodTask (s .header) (taskAt s t) = each (r3 .0) (r4 .0) (r4 .1) in
     record {
-      header = accepted-good (s .header) (r1 .0);
+      header = g;
+      landings = landings-accepted (s .header) (s .landings) (x .landings) (omega arith) (k .0);
       values = judged-values s x (r2 .0);
       three = x .three;
       task = task;

@@ -12,7 +12,7 @@ use borrow.Author.Tests.{eqb-true, eq-eqb}
 use mir.Syntax.{w32}
 use mir.Val.{SFits}
 use Rattle.logic.proofs.Each.{each-passes, all-pass}
-use Rattle.limits.specs.Limits.{bias, plc, mathematics, taskCount, mostDepth, cells, stateLength}
+use Rattle.limits.specs.Limits.{bias, plc, mathematics, taskCount, mostDepth, mostLandings, cells, stateLength}
 use Rattle.num_le.specs.LittleEndian.{Bytes}
 use Rattle.logic.proofs.Choice.{by, both}
 use Rattle.state_bytes.specs.Bytes.{leNumberAt, signedAt}
@@ -27,14 +27,14 @@ use Rattle.state.specs.GoodState.{GoodState}
 use Rattle.state.specs.State.{noTask, taskAt}
 use Rattle.state.specs.declared.State.{State}
 use Rattle.state_layout.specs.Codecs.{layoutNumber, layoutWidths, layoutBytes, headerWidths, notesWidths, startWidths, variablesIn, headerIn, startsIn}
-use Rattle.state_layout.specs.Codecs.{stackIn, taskPart}
-use Rattle.state_layout.specs.Layout.{lengths, sections, variablesAt, flagsAt, outputsAt, layoutAt, headerAt, motionAt, notesAt, startsAt, taskPlace}
+use Rattle.state_layout.specs.Codecs.{taskPart}
+use Rattle.state_layout.specs.Layout.{lengths, sections, variablesAt, flagsAt, outputsAt, layoutAt, headerAt, landingsAt, motionAt, notesAt, startsAt, taskPlace}
 use Rattle.state_layout.specs.Layout.{unusedAt, unusedLength}
 use Rattle.state_layout.specs.Layout.{encoded, decoded}
 use Rattle.state_layout.specs.IsState.{stateIs, layoutIs, unusedBytesZero, frameIs, isState}
 use Rattle.state_layout.proofs.Bounds.{TaskFits, task-fits}
 use Rattle.state_layout.proofs.Codecs.{variables-back, variables-has, levels-long, levels-back, levels-has, header-back, motion-back, motion-has}
-use Rattle.state_layout.proofs.Codecs.{notes-back, starts-back, task-back, task-has}
+use Rattle.state_layout.proofs.Codecs.{words-count, words-has, landings-back, notes-back, starts-back, task-back, task-has}
 use Rattle.state_layout.proofs.Buffer.{long, encoded-long}
 use Rattle.state_layout.proofs.Judged.{Shaped, good-judged, judged-good}
 
@@ -82,16 +82,17 @@ module _ (s : State) (g : GoodState s) where
       let flags = levels-back l flagsAt (v .cells .flags) (c .flags) (section-at 1 (omega arith)) in
       let outputs = levels-back l outputsAt (v .cells .outputs) (c .outputs) (section-at 2 (omega arith)) in
       let header = header-back l headerAt (s .header) (g .header) (section-at 4 (omega arith)) in
-      let motion = motion-back l motionAt (v .motion) (g .values .motion) (section-at 5 (omega arith)) in
-      let notes = notes-back l notesAt (v .notes) (g .values .notes) (section-at 6 (omega arith)) in
-      let starts = starts-back l startsAt s (fits plc (omega arith) .start) (fits mathematics (omega arith) .start) (section-at 7 (omega arith)) in
+      let landings = landings-back l landingsAt (s .header) (s .landings) (g .header) (g .landings) (section-at 5 (omega arith)) in
+      let motion = motion-back l motionAt (v .motion) (g .values .motion) (section-at 6 (omega arith)) in
+      let notes = notes-back l notesAt (v .notes) (g .values .notes) (section-at 7 (omega arith)) in
+      let starts = starts-back l startsAt s (fits plc (omega arith) .start) (fits mathematics (omega arith) .start) (section-at 8 (omega arith)) in
       let first : (k : ℕ) → getD (startsIn l startsAt) k 0 ≡ getD (taskAt s plc .start ∷ taskAt s mathematics .start ∷ []) k 0 =
       λ k. ap (λ (ns : List ℕ). getD ns k 0) starts in
       let t0 = task-back l (taskPlace bias) (taskAt s bias) (headerIn l headerAt .start) (ap (λ h. h .start) header ∙ sym (g .first)) (fits bias (omega arith))
-      (section-at 8 (omega arith)) in
-      let t1 = task-back l (taskPlace plc) (taskAt s plc) (getD (startsIn l startsAt) 0 0) (first 0) (fits plc (omega arith)) (section-at 9 (omega arith)) in
+      (section-at 9 (omega arith)) in
+      let t1 = task-back l (taskPlace plc) (taskAt s plc) (getD (startsIn l startsAt) 0 0) (first 0) (fits plc (omega arith)) (section-at 10 (omega arith)) in
       let t2 = task-back l (taskPlace mathematics) (taskAt s mathematics) (getD (startsIn l startsAt) 1 0) (first 1) (fits mathematics (omega arith))
-      (section-at 10 (omega arith)) in
+      (section-at 11 (omega arith)) in
       let tasks = (λ ι. t0 ι ∷ t1 ι ∷ t2 ι ∷ []) ∙ sym (three (s .tasks) noTask (g .three)) in
       λ ι.
       record {
@@ -101,6 +102,7 @@ module _ (s : State) (g : GoodState s) where
           notes = notes ι;
         };
         header = header ι;
+        landings = landings ι;
         tasks = tasks ι;
       }
 
@@ -138,10 +140,6 @@ module _ (b : List ℕ) (bytes : Bytes b) where
       let long = length-variables in
       subst (SFits w32) (sym (List·getD-eq-default (variablesIn b variablesAt) (pos 0) {n = i} (omega arith))) (record { sfits = omega arith }))
 
-  length-stack : (at : ℕ) → length (stackIn b at) ≡ mostDepth
-  unfolding stackIn
-  length-stack at = length-table mostDepth (λ (i : ℕ). leNumberAt 2 b (at + 2 * i))
-
   shaped : Shaped (decoded b)
   unfolding decoded
   shaped =
@@ -150,6 +148,7 @@ module _ (b : List ℕ) (bytes : Bytes b) where
         signed = variables-fit;
         flags = levels-long b flagsAt;
         outputs = levels-long b outputsAt;
+        landings = words-count mostLandings b landingsAt;
         position = signed-fits b motionAt bytes;
         three = refl;
         stack = stacks;
@@ -157,9 +156,9 @@ module _ (b : List ℕ) (bytes : Bytes b) where
       }
     where
       stacks : (t : ℕ) → t < taskCount → length (taskAt (decoded b) t .stack) ≡ mostDepth
-      stacks zero l = length-stack (taskPlace bias + taskPart 3)
-      stacks (suc zero) l = length-stack (taskPlace plc + taskPart 3)
-      stacks (suc (suc zero)) l = length-stack (taskPlace mathematics + taskPart 3)
+      stacks zero l = words-count mostDepth b (taskPlace bias + taskPart 3)
+      stacks (suc zero) l = words-count mostDepth b (taskPlace plc + taskPart 3)
+      stacks (suc (suc zero)) l = words-count mostDepth b (taskPlace mathematics + taskPart 3)
       stacks (suc (suc (suc t))) l = absurd (omega arith)
 
   -- the layout number, where it is this release's
@@ -200,13 +199,14 @@ module _ (b : List ℕ) (bytes : Bytes b) where
         (part (levels-has b outputsAt)
         (part (layout-has (passed .layout))
         (part (record-has headerWidths b headerAt bytes)
+        (part (words-has mostLandings b landingsAt bytes)
         (part (motion-has b motionAt bytes)
         (part (record-has notesWidths b notesAt bytes)
         (part (record-has startWidths b startsAt bytes)
         (part (task-has b (taskPlace bias) (headerIn b headerAt .start) bytes)
         (part (task-has b (taskPlace plc) (getD (startsIn b startsAt) 0 0) bytes)
         (part (task-has b (taskPlace mathematics) (getD (startsIn b startsAt) 1 0) bytes)
-        end)))))))))))
+        end))))))))))))
         (λ k low high.
         (let q : k ≡ unusedAt + (k - unusedAt) = omega arith in ap (λ (j : ℕ). getD b j 0) q)
         ∙ passed-zeros b unusedLength (passed .unused) (k - unusedAt) (omega arith))

@@ -5,7 +5,7 @@ use lib.ListN.{getD}
 use lib.IntN.{ℤ, pos}
 use mir.Syntax.{w32}
 use mir.Val.{toZ}
-use Rattle.limits.specs.Limits.{plc, mathematics, mostDepth, cells}
+use Rattle.limits.specs.Limits.{plc, mathematics, mostDepth, mostLandings, cells}
 use Rattle.num_arith.specs.Wrap.{word}
 use Rattle.num_le.specs.LittleEndian.{leBytes}
 use Rattle.image_header.specs.Numbers.{numbersOf, headerFrom}
@@ -43,7 +43,7 @@ levelsIn s at = table cells (λ (k : ℕ). getD s (at + k) 0)
 -- release with another layout is none. The two layouts before the third had no number: they had the header here, whose first byte is the format, 1.
 
 abbrev pub layoutNumber : ℕ
-layoutNumber = 4
+layoutNumber = 5
 
 abbrev pub layoutWidths : List ℕ
 layoutWidths = 1 ∷ []
@@ -51,16 +51,34 @@ layoutWidths = 1 ∷ []
 abbrev pub layoutBytes : List ℕ
 layoutBytes = recordBytes layoutWidths (layoutNumber ∷ [])
 
--- ---- the header: format, type, slot B, slot C, start, count
+-- ---- the header: format, type, slot B, slot C, start, count, landing count
 
 abbrev pub headerWidths : List ℕ
-headerWidths = 1 ∷ 1 ∷ 1 ∷ 1 ∷ 2 ∷ 2 ∷ []
+headerWidths = 1 ∷ 1 ∷ 1 ∷ 1 ∷ 2 ∷ 2 ∷ 1 ∷ []
 
 abbrev pub headerBytes : Header → List ℕ
 headerBytes h = recordBytes headerWidths (numbersOf h)
 
 abbrev pub headerIn : List ℕ → ℕ → Header
 headerIn s at = headerFrom (recordIn headerWidths s at)
+
+-- ---- n blocks, two bytes each: the landing list, or a call stack
+
+unfoldable pub wordBytes : ℕ → List ℕ → List ℕ
+wordBytes n l = concatenated n (λ (i : ℕ). leBytes 2 (getD l i 0))
+
+unfoldable pub wordsIn : ℕ → List ℕ → ℕ → List ℕ
+wordsIn n s at = table n (λ (i : ℕ). leNumberAt 2 s (at + 2 * i))
+
+-- the landing list has room for the most landing blocks
+abbrev pub landingsLength : ℕ
+landingsLength = 2 * mostLandings
+
+abbrev pub landingBytes : List ℕ → List ℕ
+landingBytes l = wordBytes mostLandings l
+
+abbrev pub landingsIn : List ℕ → ℕ → List ℕ
+landingsIn s at = wordsIn mostLandings s at
 
 -- ---- motion: position, speed, acceleration, deceleration, start mark
 
@@ -109,11 +127,11 @@ startsIn s at = recordIn startWidths s at
 
 -- ---- a task: status, depth, block; its call stack; the wait's T and k
 
-unfoldable pub stackBytes : List ℕ → List ℕ
-stackBytes l = concatenated mostDepth (λ (i : ℕ). leBytes 2 (getD l i 0))
+abbrev pub stackBytes : List ℕ → List ℕ
+stackBytes l = wordBytes mostDepth l
 
-unfoldable pub stackIn : List ℕ → ℕ → List ℕ
-stackIn s at = table mostDepth (λ (i : ℕ). leNumberAt 2 s (at + 2 * i))
+abbrev pub stackIn : List ℕ → ℕ → List ℕ
+stackIn s at = wordsIn mostDepth s at
 
 abbrev pub taskLengths : List ℕ
 taskLengths = 1 ∷ 1 ∷ 2 ∷ (2 * mostDepth) ∷ 4 ∷ 4 ∷ []

@@ -7,7 +7,7 @@ use lib.Dec.{eqb, ltb, leb}
 use lib.ListN.{length, getD}
 use Rattle.logic.specs.Each.{eachBelow}
 use Rattle.limits.specs.Limits.{bias, plc, mathematics, mostDepth, cells, mostLevel, mostSpeed, mostRamp, longestWait, stateLength, upTo}
-use Rattle.image_header.specs.Rows.{accepts}
+use Rattle.image_header.specs.Rows.{accepts, acceptsLandings}
 use Rattle.image_header.specs.declared.Header.{Header}
 use Rattle.state.specs.State.{halted, taskAt}
 use Rattle.state.specs.Wait.{due}
@@ -56,8 +56,8 @@ valuesAre v = cellsAre (v .cells) && (motionIs (v .motion) && notesAre (v .notes
 
 unfoldable pub stateIs : State → Bool
 stateIs s =
-    accepts (s .header) && (valuesAre (s .values)
-    && (taskIs (s .header) (taskAt s bias) && (taskIs (s .header) (taskAt s plc) && taskIs (s .header) (taskAt s mathematics))))
+    accepts (s .header) && (acceptsLandings (s .header) (s .landings) && (valuesAre (s .values)
+    && (taskIs (s .header) (taskAt s bias) && (taskIs (s .header) (taskAt s plc) && taskIs (s .header) (taskAt s mathematics)))))
 
 -- the unused bytes are 0
 abbrev pub unusedBytesZero : List ℕ → ℕ → Bool

@@ -15,7 +15,7 @@ use Rattle.state.specs.declared.Task.{Task}
 use Rattle.state.specs.declared.Values.{Values}
 use Rattle.state.specs.declared.State.{State}
 use Rattle.state_layout.specs.Codecs.{variablesLength, variableBytes, variablesIn, levelsLength, levelsIn, layoutWidths, layoutBytes}
-use Rattle.state_layout.specs.Codecs.{headerWidths, headerBytes, headerIn, motionWidths, motionBytes, motionIn, notesWidths, notesBytes, notesIn}
+use Rattle.state_layout.specs.Codecs.{headerWidths, headerBytes, headerIn, landingsLength, landingBytes, landingsIn, motionWidths, motionBytes, motionIn, notesWidths, notesBytes, notesIn}
 use Rattle.state_layout.specs.Codecs.{startWidths, startBytes, startsIn, taskLength, taskBytes, taskIn}
 
 abbrev pub lengths : List ℕ
@@ -25,6 +25,7 @@ lengths =
     ∷ levelsLength
     ∷ total layoutWidths
     ∷ total headerWidths
+    ∷ landingsLength
     ∷ total motionWidths
     ∷ total notesWidths
     ∷ total startWidths
@@ -40,6 +41,7 @@ sections s =
     ∷ s .values .cells .outputs
     ∷ layoutBytes
     ∷ headerBytes (s .header)
+    ∷ landingBytes (s .landings)
     ∷ motionBytes (s .values .motion)
     ∷ notesBytes (s .values .notes)
     ∷ startBytes s
@@ -65,17 +67,20 @@ layoutAt = offset lengths 3
 abbrev pub headerAt : ℕ
 headerAt = offset lengths 4
 
+abbrev pub landingsAt : ℕ
+landingsAt = offset lengths 5
+
 abbrev pub motionAt : ℕ
-motionAt = offset lengths 5
+motionAt = offset lengths 6
 
 abbrev pub notesAt : ℕ
-notesAt = offset lengths 6
+notesAt = offset lengths 7
 
 abbrev pub startsAt : ℕ
-startsAt = offset lengths 7
+startsAt = offset lengths 8
 
 abbrev pub tasksAt : ℕ
-tasksAt = offset lengths 8
+tasksAt = offset lengths 9
 
 abbrev pub taskPlace : ℕ → ℕ
 taskPlace t = tasksAt + taskLength * t
@@ -90,10 +95,11 @@ unusedLength = stateLength - unusedAt
 -- ---- the buffer of a state
 
 -- a state by its parts
-abbrev pub stateOf : List ℤ → List ℕ → List ℕ → Header → Motion → Notes → List Task → State
-stateOf variables flags outputs header motion notes tasks = record {
+abbrev pub stateOf : List ℤ → List ℕ → List ℕ → Header → List ℕ → Motion → Notes → List Task → State
+stateOf variables flags outputs header landings motion notes tasks = record {
   values = record { cells = record { variables = variables; flags = flags; outputs = outputs }; motion = motion; notes = notes };
   header = header;
+  landings = landings;
   tasks = tasks;
 }
 
@@ -122,4 +128,4 @@ abbrev pub tasksIn : List ℕ → List Task
 tasksIn b = biasIn b ∷ plcIn b ∷ mathematicsIn b ∷ []
 
 unfoldable pub decoded : List ℕ → State
-decoded b = record { values = valuesIn b; header = headerIn b headerAt; tasks = tasksIn b }
+decoded b = record { values = valuesIn b; header = headerIn b headerAt; landings = landingsIn b landingsAt; tasks = tasksIn b }

@@ -1,4 +1,4 @@
--- Nothing is told as changed exactly where every byte but the layout number's, the header's and the unused ones is the same.
+-- Nothing is told as changed exactly where every byte but the layout number's, the header's, the landing list's and the unused ones is the same.
 use Prim.Native.Nat.{ℕ, zero, suc, _+_, _*_, _<_, _≤_}
 use native.Mathlib.Omega.{arith}
 use mathlib.Core.Path.{_≡_, refl}

@@ -28,7 +28,7 @@ sameAxis a b =
 unfoldable pub sameStarts : List ℕ → List ℕ → Bool
 sameStarts a b = same a b startsAt 2 && same a b (startsAt + 2) 2
 
--- all but the layout number, the header and the unused bytes, which no step changes
+-- all but the layout number, the header, the landing list and the unused bytes, which no step changes
 unfoldable pub unchanged : List ℕ → List ℕ → Bool
 unchanged a b =
     sameCells a b variablesAt 4 cells && (sameCells a b flagsAt 1 cells && (sameCells a b outputsAt 1 cells && (sameAxis a b && (sameStarts a b

@@ -1,7 +1,7 @@
 -- The verdict on an image, and its blocks where it is accepted, are those of its first bytes, however many, if they are more than the longest image has: the
--- header stands in the first twelve, and a longer image is refused by its header, or by 4 at a place that its header fixes.
+-- numbers before its blocks stand in the first `mostHeaderBytes`, and a longer image is refused by one of their numbers, or by 4 at a place that they fix.
 use mathlib.Core.Path.{_≡_, refl, sym, ap, _∙_}
-use mathlib.Core.Bool.{Bool, true, false, cond}
+use mathlib.Core.Bool.{Bool, true, false, _&&_, cond}
 use mathlib.Core.List.{List}
 use Prim.Native.Nat.{ℕ, zero, suc, _+_, _*_, _<_, _≤_}
 use native.Mathlib.Omega.{arith}
@@ -12,13 +12,12 @@ use borrow.Author.Tests.{lt-ltb, le-ltb}
 use Rattle.limits.specs.Limits.{blockLength}
 use Rattle.image_result.specs.ImageResult.{done}
 use Rattle.image_number.specs.Number.{numberAt, firstByte, secondByte}
-use Rattle.image_header.specs.Rows.{rowCount}
-use Rattle.image_header.specs.Scan.{fromImage, taken, more, scan, mostHeaderBytes, firstRefusal, lengthResult, readWith, closed, headerOf, blocksOf}
-use Rattle.image_header.specs.Scan.{scannedHeader}
+use Rattle.image_header.specs.Rows.{rowCount, landingsFrom, stands}
+use Rattle.image_header.specs.Scan.{Scanned, fromImage, taken, more, scan, mostHeaderBytes, firstRefusal, lengthResult, scannedHeader, readWith, closed}
+use Rattle.image_header.specs.Scan.{headerOf, landingsOf, blocksOf}
 use Rattle.image_result.specs.declared.ImageResult.the-variants.{LeftOver}
 use Rattle.image_number.specs.declared.Number.{Number}
 use Rattle.image_number.specs.declared.Number.the-variants.{Value}
-use Rattle.image_header.specs.declared.reader.Scan.{Scan}
 use Rattle.logic.proofs.Choice.{by, either}
 use Rattle.image_header.proofs.Accepted.{accepted-header}
 use Rattle.image_header.proofs.Scanning.{at-most, image-near}
@@ -37,7 +36,7 @@ unfolding numberAt firstByte twoBytes
 inside s at h = rw (lt-ltb at (length s) (omega arith), lt-ltb (at + 1) (length s) h)
 
 -- there the image's length plays no part
-length-free : (n m row : ℕ) (s : Scan) (at b c : ℕ) → taken n row s (twoBytes at b c) ≡ taken m row s (twoBytes at b c)
+length-free : (n m row : ℕ) (s : Scanned) (at b c : ℕ) → taken n row s (twoBytes at b c) ≡ taken m row s (twoBytes at b c)
 unfolding taken twoBytes secondByte
 length-free n m row s at b c =
     either P (ltb b 128) refl (either P (eqb c 0) refl (either P (ltb c 128) refl refl))
@@ -48,14 +47,14 @@ length-free n m row s at b c =
 -- two images that are longer than any image let pass, with the same bytes where the header stands
 module _ (a b : List ℕ) (long-a : longestImage < length a) (long-b : longestImage < length b)
     (same : (k : ℕ) → k < mostHeaderBytes → getD a k 0 ≡ getD b k 0) where
-  same-taken : (row : ℕ) (s : Scan) → s .at + 1 < mostHeaderBytes → taken (length a) row s (numberAt a (s .at)) ≡ taken (length b) row s (numberAt b (s .at))
+  same-taken : (row : ℕ) (s : Scanned) → s .at + 1 < mostHeaderBytes → taken (length a) row s (numberAt a (s .at)) ≡ taken (length b) row s (numberAt b (s .at))
   same-taken row s h =
       rw (inside a (s .at) (omega arith), inside b (s .at) (omega arith), same (s .at) (omega arith), same (s .at + 1) h)
       (length-free (length a) (length b) row s (s .at) (getD b (s .at) 0) (getD b (s .at + 1) 0))
 
-  same-more : (row : ℕ) (s : Scan) → s .at + 1 < mostHeaderBytes → more (length a) (fromImage a) row s ≡ more (length b) (fromImage b) row s
+  same-more : (row : ℕ) (s : Scanned) → s .at + 1 < mostHeaderBytes → more (length a) (fromImage a) row s ≡ more (length b) (fromImage b) row s
   unfolding more
-  same-more row s h = ap (λ (x : Scan). cond (done (s .result)) x s) (same-taken row s h)
+  same-more row s h = ap (λ (x : Scanned). cond (done (s .result) && stands row (s .numbers)) x s) (same-taken row s h)
 
   same-scan : (k : ℕ) → k ≤ rowCount → scan (length a) (fromImage a) k ≡ scan (length b) (fromImage b) k
   unfolding scan
@@ -63,7 +62,7 @@ module _ (a b : List ℕ) (long-a : longestImage < length a) (long-b : longestIm
   same-scan (suc k) h =
       let e = same-scan k (omega arith) in
       let near = at-most (length a) (fromImage a) (image-near a) k in
-      same-more k (scan (length a) (fromImage a) k) (omega arith) ∙ ap (λ (s : Scan). more (length b) (fromImage b) k s) e
+      same-more k (scan (length a) (fromImage a) k) (omega arith) ∙ ap (λ (s : Scanned). more (length b) (fromImage b) k s) e
 
   -- the numbers of a, where the scan let them pass, leave room for no byte more
   within : done (scan (length a) (fromImage a) rowCount .result) ≡ true
@@ -74,7 +73,7 @@ module _ (a b : List ℕ) (long-a : longestImage < length a) (long-b : longestIm
   unfolding lengthResult
   left-over at count n h l = rw (le-ltb n (at + blockLength * count) (omega arith), lt-ltb (at + blockLength * count) n (omega arith))
 
-  same-length : (s : Scan) → (done (s .result) ≡ true → s .at + blockLength * scannedHeader s .count ≤ longestImage) → closed s (length a) ≡ closed s (length b)
+  same-length : (s : Scanned) → (done (s .result) ≡ true → s .at + blockLength * scannedHeader s .count ≤ longestImage) → closed s (length a) ≡ closed s (length b)
   unfolding closed firstRefusal
   same-length s h = ap (readWith s) (go (done (s .result)) refl)
     where
@@ -88,7 +87,11 @@ module _ (a b : List ℕ) (long-a : longestImage < length a) (long-b : longestIm
   unfolding headerOf
   same-header =
       same-length (scan (length a) (fromImage a) rowCount) within
-      ∙ ap (λ (s : Scan). closed s (length b)) (same-scan rowCount (omega arith))
+      ∙ ap (λ (s : Scanned). closed s (length b)) (same-scan rowCount (omega arith))
+
+  same-landings : landingsOf a ≡ landingsOf b
+  unfolding landingsOf
+  same-landings = ap (λ (s : Scanned). landingsFrom (s .numbers)) (same-scan rowCount (omega arith))
 
   -- it is refused, and has no blocks
   refused : (t : Bool) → done (headerOf a .result) ≡ t → t ≡ false
@@ -107,7 +110,7 @@ module _ (a b : List ℕ) (long-a : longestImage < length a) (long-b : longestIm
 
   same-verdict : (marks : ℕ) → verdictOf a marks ≡ verdictOf b marks
   unfolding verdictOf
-  same-verdict marks = rw (same-header, same-blocks)
+  same-verdict marks = rw (same-header, same-landings, same-blocks)
 
   same-accepted : (marks : ℕ) → acceptedBlocks a marks ≡ acceptedBlocks b marks
   unfolding acceptedBlocks

@@ -57,8 +57,8 @@ computed : lineOf (verdictFast caseB marksLength) ≡ documented
 unfolding lineOf decimalOf digitsOf
     types.takes
     number.numberBytes number.secondByte number.firstByte number.numberAt
-    eachBelow header.checked header.sameHeader scan.standsAt scan.judged
-    scan.taken scan.more scan.scan scan.firstRefusal scan.lengthResult scan.readWith scan.closed scan.headerOf scan.blocksOf
+    eachBelow header.stands header.headerChecked header.checked scan.standsAt scan.judged
+    scan.taken scan.more scan.scan scan.firstRefusal scan.lengthResult scan.readWith scan.closed scan.headerOf scan.landingsOf scan.blocksOf
     rows.rows rows.rowIn rows.rowOf
     operands.operands operands.allZero operands.unusedZero
     judged.operandFault judged.commandFault judged.rowFault judged.blockFault

@@ -2,6 +2,7 @@
 use image_header::reader;
 use libc::STDOUT_FILENO;
 use limits::MARKS_LENGTH;
+use limits::MOST_LANDINGS;
 use walk::Verdict;
 ghost use mathlib.Core.Path.{_≡_};
 ghost use Prim.Native.Nat.{_≤_};
@@ -13,9 +14,9 @@ ghost use Rattle.text.specs.Put.{Put};
 ghost use Rattle.text_verdict.specs.Input.{inputLength, zeros};
 ghost use Rattle.text_verdict.specs.Line.{lineOf, lineRoom, Holds};
 
-// The most bytes that a header's six numbers take, of which start and count alone may take two, and one byte more than the longest image has: of a longer
-// input no other byte counts (proofs/Beginning.antt).
-pub const HEADER_BYTES: usize = reader::ROWS + 2;
+// The most bytes that a header's numbers take, of which start and count alone may take two, and its landing blocks, two to each; and one byte more than the
+// longest image has: of a longer input no other byte counts (proofs/Beginning.antt).
+pub const HEADER_BYTES: usize = reader::HEADER_ROWS + 2 + 2 * MOST_LANDINGS;
 
 pub const BLOCK_BYTES: usize = limits::BLOCK_LENGTH * limits::MOST_BLOCKS as usize;
 

@@ -56,8 +56,8 @@ quick-is (i ∷ is) = ap (λ (v : Verdict). length (by i v)) (sym (fast-is i mar
 computed : map quick images ≡ 8 ∷ 16 ∷ 0 ∷ 0 ∷ 0 ∷ 0 ∷ []
 unfolding types.takes homes.outputsWritten homes.homeIn homes.homeOf pins.onBoard pins.presence pins.pinOf
     number.numberBytes number.secondByte number.firstByte number.numberAt
-    eachBelow header.checked header.sameHeader scan.standsAt scan.judged
-    scan.taken scan.more scan.scan scan.firstRefusal scan.lengthResult scan.readWith scan.closed scan.headerOf scan.blocksOf
+    eachBelow header.stands header.headerChecked header.checked scan.standsAt scan.judged
+    scan.taken scan.more scan.scan scan.firstRefusal scan.lengthResult scan.readWith scan.closed scan.headerOf scan.landingsOf scan.blocksOf
     rows.rows rows.rowIn rows.rowOf
     operands.operands operands.allZero operands.unusedZero
     judged.operandFault judged.commandFault judged.rowFault judged.blockFault

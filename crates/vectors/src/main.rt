@@ -9,6 +9,7 @@ use image_number::Number;
 use image_result::ImageResult;
 use image_writer::Written;
 use libc::STDOUT_FILENO;
+use limits::MOST_LANDINGS;
 use num_arith::Quotient;
 ghost use mathlib.Core.Path.{_≡_};
 ghost use mathlib.Core.List.{[], _∷_};
@@ -22,9 +23,9 @@ ghost use Rattle.num_le.specs.LittleEndian.{leBytes};
 ghost use Rattle.image_number.specs.Number.{numberAt};
 ghost use Rattle.image_header.specs.Scan.{headerOf};
 ghost use Rattle.walk.specs.Verdict.{acceptedBlocks};
-ghost use Rattle.image_writer.specs.Writer.{written, outAfter};
+ghost use Rattle.image_writer.specs.Writer.{withLandings, written, outAfter};
 ghost use Rattle.drive_pins.specs.declared.PinKind.the-variants.{Input, OutputWritten, OutputRead};
-ghost use Rattle.image_result.specs.declared.ImageResult.the-variants.{Done, EndsEarly, NotShortest, OutOfRange, LeftOver, NoRoom};
+ghost use Rattle.image_result.specs.declared.ImageResult.the-variants.{Done, EndsEarly, NotShortest, OutOfRange, LeftOver, NoRoom, BadLanding};
 ghost use Rattle.image_number.specs.declared.Number.{Number};
 ghost use Rattle.vectors.specs.Pins.{presentPins, shownPin};
 
@@ -34,8 +35,10 @@ fn main() {
     number_rows();
     case_rows();
     range_rows();
+    landing_rows();
     block_rows();
     write_rows();
+    landing_write_rows();
     room_rows();
     pin_rows();
 }
@@ -127,8 +130,8 @@ fn range_rows() -> [ImageResult; 11]
     [
         // Type 2 in two bytes.
         header_result(b"\x01\x82\x00\x00\x00\x00\x01\x55\x00\x00\x00\x00\x00\x00\x00"),
-        // Format 2, type 5.
-        header_result(b"\x02\x02\x00\x00\x00\x01\x55\x00\x00\x00\x00\x00\x00\x00"),
+        // Format 3, type 5.
+        header_result(b"\x03\x02\x00\x00\x00\x01\x55\x00\x00\x00\x00\x00\x00\x00"),
         header_result(b"\x01\x05\x00\x00\x00\x01\x55\x00\x00\x00\x00\x00\x00\x00"),
         // RP-2C8 on type 3, a board in each slot of a 631, RP-2C8 and RP-SBT on type 4.
         header_result(b"\x01\x03\x02\x00\x00\x01\x55\x00\x00\x00\x00\x00\x00\x00"),
@@ -140,6 +143,29 @@ fn range_rows() -> [ImageResult; 11]
         header_result(b"\x01\x02\x00\x00\x00\xdd\x0b\x55\x00\x00\x00\x00\x00\x00\x00"),
         header_result(b"\x01\x02\x00\x00\x80\x01\x01\x55\x00\x00\x00\x00\x00\x00\x00"),
         header_result(b"\x01\x02\x00\x00\x80\x01\xdc\x0b"),
+    ]
+}
+
+// Headers of format 2 (change request 1): one that is accepted, then landing counts and landing blocks that are refused. Behind the others stands no block.
+fn landing_rows() -> [ImageResult; 9]
+    ensures { λ r. ⌜ r ≡ Done ∷ BadLanding 6 ∷ NotShortest 6 ∷ EndsEarly 6 ∷ BadLanding 8 ∷ BadLanding 8 ∷ BadLanding 7 ∷ OutOfRange 4 ∷ BadLanding 9 ∷ [] ⌝ }
+{
+    [
+        // A landing block, and two blocks.
+        header_result(
+            b"\x02\x02\x00\x00\x00\x02\x01\x01\x56\x00\x00\x00\x00\x00\x00\x00\x55\x01\x00\x00\x00\x00\x00\x00",
+        ),
+        // A landing count of 65, of 0 in two bytes, and none.
+        header_result(b"\x02\x02\x00\x00\x00\x01\x41"),
+        header_result(b"\x02\x02\x00\x00\x00\x01\x80\x00"),
+        header_result(b"\x02\x02\x00\x00\x00\x01"),
+        // Landing blocks 1 and 1, 1 and 0; 2 of two blocks, and behind a start that is refused before it.
+        header_result(b"\x02\x02\x00\x00\x00\x02\x02\x01\x01"),
+        header_result(b"\x02\x02\x00\x00\x00\x02\x02\x01\x00"),
+        header_result(b"\x02\x02\x00\x00\x00\x02\x01\x02"),
+        header_result(b"\x02\x02\x00\x00\x05\x02\x01\x02"),
+        // Landing block 129 of as many blocks, with start and count of two bytes.
+        header_result(b"\x02\x02\x00\x00\x80\x01\x81\x01\x01\x81\x01"),
     ]
 }
 
@@ -162,26 +188,52 @@ fn block_rows() -> [usize; 6]
     ]
 }
 
-// Case A, then headers and lengths of blocks that are refused.
+// Case A, then headers and lengths of blocks that the writer of format 1 refuses.
 fn write_rows() -> [ImageResult; 8]
     ensures { λ r. ⌜ r ≡ Done ∷ OutOfRange 0 ∷ OutOfRange 2 ∷ OutOfRange 6 ∷ OutOfRange 5 ∷ OutOfRange 4 ∷ EndsEarly 7 ∷ LeftOver 16 ∷ [] ⌝ }
 {
     let a = b"\x55\x00\x00\x00\x00\x00\x00\x00";
     [
-        write_result([1, 2, 0, 0, 0, 1], a),
+        write_result(reader::FORMAT_1, [1, 2, 0, 0, 0, 1], b"", a),
         // Format 2; RP-2C8 on type 3.
-        write_result([2, 2, 0, 0, 0, 1], a),
-        write_result([1, 3, 2, 0, 0, 1], a),
+        write_result(reader::FORMAT_1, [2, 2, 0, 0, 0, 1], b"", a),
+        write_result(reader::FORMAT_1, [1, 3, 2, 0, 0, 1], b"", a),
         // Count 0 behind a start of two bytes and of one; a start that no number of two bytes is.
-        write_result([1, 2, 0, 0, 200, 0], a),
-        write_result([1, 2, 0, 0, 5, 0], a),
-        write_result([1, 2, 0, 0, 70000, 1], a),
+        write_result(reader::FORMAT_1, [1, 2, 0, 0, 200, 0], b"", a),
+        write_result(reader::FORMAT_1, [1, 2, 0, 0, 5, 0], b"", a),
+        write_result(reader::FORMAT_1, [1, 2, 0, 0, 70000, 1], b"", a),
         // Blocks of 7 and of 16 bytes.
-        write_result([1, 2, 0, 0, 0, 1], b"\x55\x00\x00\x00\x00\x00\x00"),
         write_result(
+            reader::FORMAT_1,
             [1, 2, 0, 0, 0, 1],
+            b"",
+            b"\x55\x00\x00\x00\x00\x00\x00",
+        ),
+        write_result(
+            reader::FORMAT_1,
+            [1, 2, 0, 0, 0, 1],
+            b"",
             b"\x55\x00\x00\x00\x00\x00\x00\x00\x55\x00\x00\x00\x00\x00\x00\x00",
         ),
+    ]
+}
+
+// The writer of format 2 (change request 1): a landing block of case A's program; format 1; then, of 200 blocks, landing blocks 127, 128 and 128, 65 landing
+// blocks, an odd length, and blocks that are a byte short.
+fn landing_write_rows() -> [ImageResult; 6]
+    ensures { λ r. ⌜ r ≡ Done ∷ OutOfRange 0 ∷ BadLanding 11 ∷ BadLanding 7 ∷ BadLanding 7 ∷ EndsEarly 1599 ∷ [] ⌝ }
+{
+    let a = b"\x55\x00\x00\x00\x00\x00\x00\x00";
+    let most = [0u8; 2 * MOST_LANDINGS + 2];
+    let short = [0u8; 1599];
+    let two = reader::FORMAT_2;
+    [
+        write_result(two, [2, 2, 0, 0, 0, 1], b"\x00\x00", a),
+        write_result(two, [1, 2, 0, 0, 0, 1], b"\x00\x00", a),
+        write_result(two, [2, 2, 0, 0, 0, 200], b"\x7f\x00\x80\x00\x80\x00", a),
+        write_result(two, [2, 2, 0, 0, 0, 200], &most, a),
+        write_result(two, [2, 2, 0, 0, 0, 200], b"\x01\x00\x02", a),
+        write_result(two, [2, 2, 0, 0, 0, 200], b"\xc7\x00", &short),
     ]
 }
 
@@ -192,8 +244,8 @@ fn room_rows() -> [ImageResult; 2]
     let mut short = [0xaau8; 13];
     let mut exact = [0xaau8; 14];
     let a = b"\x55\x00\x00\x00\x00\x00\x00\x00";
-    let refused = write_row([1, 2, 0, 0, 0, 1], a, &mut short);
-    let accepted = write_row([1, 2, 0, 0, 0, 1], a, &mut exact);
+    let refused = write_row(reader::FORMAT_1, [1, 2, 0, 0, 0, 1], b"", a, &mut short);
+    let accepted = write_row(reader::FORMAT_1, [1, 2, 0, 0, 0, 1], b"", a, &mut exact);
     let first = refused.result;
     let second = accepted.result;
     [first, second]
@@ -327,7 +379,8 @@ fn header_result(image: &[u8]) -> ImageResult
 fn header_row(image: &[u8]) -> HeaderRead
     ensures { λ r. ⌜ r ≡ headerOf (now (image .entry)) ⌝ }
 {
-    let r = reader::read(image);
+    let mut landings = [0; MOST_LANDINGS];
+    let r = reader::read(image, &mut landings);
     show_header(r);
     text_print::show(b" blocks ", reader::block_part(image).len() as u64);
     io::write_all(STDOUT_FILENO, b"\n");
@@ -391,20 +444,26 @@ fn show_drive(d: Drive) -> Drive
 }
 
 // What comes of writing into a buffer of 16 bytes, each AA.
-fn write_result(numbers: [u32; 6], blocks: &[u8]) -> ImageResult
-    ensures { λ r. ⌜ r ≡ written numbers (length (now (blocks .entry))) 16 .result ⌝ }
+fn write_result(format: u32, numbers: [u32; 6], landings: &[u8], blocks: &[u8]) -> ImageResult
+    ensures { λ r. ⌜ r ≡ written format (withLandings numbers (now (landings .entry))) (length (now (blocks .entry))) 16 .result ⌝ }
 {
     let mut out = [0xaau8; 16];
-    let w = write_row(numbers, blocks, &mut out);
+    let w = write_row(format, numbers, landings, blocks, &mut out);
     w.result
 }
 
-// What the writer answers, and the buffer's bytes after it.
-fn write_row(numbers: [u32; 6], blocks: &[u8], out: &mut [u8]) -> Written
-    ensures { λ r. ⌜ r ≡ written numbers (length (now (blocks .entry))) (length (now (out .entry))) ⌝ }
-    ensures { λ _. ⌜ now (out .exit) ≡ outAfter numbers (now (blocks .entry)) (now (out .entry)) ⌝ }
+// What the writer of a format answers, and the buffer's bytes after it.
+fn write_row(
+    format: u32,
+    numbers: [u32; 6],
+    landings: &[u8],
+    blocks: &[u8],
+    out: &mut [u8],
+) -> Written
+    ensures { λ r. ⌜ r ≡ written format (withLandings numbers (now (landings .entry))) (length (now (blocks .entry))) (length (now (out .entry))) ⌝ }
+    ensures { λ _. ⌜ now (out .exit) ≡ outAfter format (withLandings numbers (now (landings .entry))) (now (blocks .entry)) (now (out .entry)) ⌝ }
 {
-    let w = image_writer::write(numbers, blocks, out);
+    let w = image_writer::write(format, numbers, landings, blocks, out);
     show_written(w);
     show_buffer(out);
     io::write_all(STDOUT_FILENO, b"\n");

@@ -1,3 +1,4 @@
 pub mod Order
+pub mod Bounds
 pub mod Index
 pub mod Within

@@ -1,12 +1,12 @@
--- The verdict on an image with marks of some length, computed: 13, then 1 to 4, then 5 to 8 and 23 of the blocks, then the least foreign 51 (7), then the least
--- bad point (9 to 12). That it is what walks say is proved in proofs/Verdicts/OfWalks.antt.
+-- The verdict on an image with marks of some length, computed: 13, then 1 to 4 and 21, then 5 to 8 and 23 of the blocks, then the least foreign 51 (7), then
+-- the least bad point (9 to 12). That it is what walks say is proved in proofs/Verdicts/OfWalks.antt.
 use Prim.Native.Nat.{ℕ, zero, suc, _+_, _*_}
 use mathlib.Core.Bool.{Bool, true, false, cond}
 use mathlib.Core.List.{List, [], _∷_}
 use lib.Dec.{eqb, ltb}
-use Rattle.limits.specs.Limits.{bias, mostBlocks, marksLength}
+use Rattle.limits.specs.Limits.{bias, mostBlocks, mostLandings, marksLength}
 use Rattle.image_result.specs.ImageResult.{resultNumber, resultPlace, done}
-use Rattle.image_header.specs.Scan.{headerOf, blocksOf}
+use Rattle.image_header.specs.Scan.{headerOf, landingsOf, blocksOf}
 use Rattle.walk_flow.specs.Terms.{Terms, termsIn}
 use Rattle.image_header.specs.declared.reader.HeaderRead.{HeaderRead}
 use Rattle.command_judge.specs.BlockFault.{blockFaultNumber}
@@ -26,9 +26,9 @@ use Rattle.walk.specs.declared.Verdict.the-variants as verdict
 abbrev pub rootOf : Terms → ℕ
 rootOf terms = indexOf (point bias (terms .header .start) 0)
 
--- the most points that follow one
+-- the most points that follow one: the next block, and every landing block
 abbrev pub mostFollowing : ℕ
-mostFollowing = 2
+mostFollowing = mostLandings + 1
 
 -- a step for each point, one for each that may follow it, and one for the first
 abbrev pub fuel : ℕ
@@ -61,12 +61,12 @@ blocksVerdict terms bs b (suc n) = cond (eqb (blockNumber terms bs b) 0) (blocks
 
 -- ---- the image
 
-unfoldable pub readVerdict : HeaderRead → List ℕ → Verdict
-readVerdict r bs = cond (done (r .result)) (blocksVerdict (termsIn r) bs 0 (r .header .count)) (verdict.Image (r .result))
+unfoldable pub readVerdict : HeaderRead → List ℕ → List ℕ → Verdict
+readVerdict r landings bs = cond (done (r .result)) (blocksVerdict (termsIn r landings) bs 0 (r .header .count)) (verdict.Image (r .result))
 
 -- the verdict on an image, with marks of n bytes
 unfoldable pub verdictOf : List ℕ → ℕ → Verdict
-verdictOf image n = cond (ltb n marksLength) (verdict.MarksShort n) (readVerdict (headerOf image) (blocksOf image))
+verdictOf image n = cond (ltb n marksLength) (verdict.MarksShort n) (readVerdict (headerOf image) (landingsOf image) (blocksOf image))
 
 -- ---- document 01's number and place
 

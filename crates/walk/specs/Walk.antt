@@ -1,5 +1,5 @@
--- Walks, as document 01 has them ("Walks"): one constructor for each way that its sentences name; 53, and 51 in the modes that end, have none. A
--- walk is a path, the points passed so far with the latest first; its own history, the latest 54 and 90 among them, tells where a return to a
+-- Walks, as document 01 ("Walks") and change request 1 have them: one constructor for each way that their sentences name; 53, and 51 in the modes that end,
+-- have none. A walk is a path, the points passed so far with the latest first; its own history, the latest 54 and 90 among them, tells where a return to a
 -- start leads.
 use Prim.Native.Nat.{ℕ, _+_}
 use mathlib.Core.Path.{_≡_}
@@ -13,6 +13,7 @@ use Rattle.walk_point.specs.PointFault.{point}
 use Rattle.walk_point.specs.declared.Point.{Point}
 use Rattle.walk_fault.specs.declared.Fault.the-variants.{Fine}
 use Rattle.walk.specs.Blocks.{commandAt, faultAt}
+use Rattle.walk.specs.Graph.{In}
 
 -- ---- which codes do what, by the manual
 
@@ -28,13 +29,17 @@ jumps = oneOf (0x55 ∷ 0x61 ∷ 0x6E ∷ 0x70 ∷ 0x71 ∷ 0x81 ∷ 0x89 ∷ []
 abbrev pub stays : ℕ → Bool
 stays = oneOf (0x00 ∷ 0x01 ∷ 0x03 ∷ 0x04 ∷ 0x58 ∷ 0x59 ∷ 0x5A ∷ [])
 
--- 57, 54 and 90 start BIAS, the PLC and mathematics
+-- 57, 54 and 90 start BIAS, the PLC and mathematics at the block that they name
 abbrev pub starts : ℕ → ℕ → Bool
 starts code task = (eqb code 0x57 && eqb task bias) || ((eqb code 0x54 && eqb task plc) || (eqb code 0x90 && eqb task mathematics))
 
--- what may go on with the next block at the same depth, 52 apart: all but 51, 53, 55 and a start of the own task
+-- a command starts this task anew: so does 5B BIAS, at the block that a variable holds (change request 1)
+abbrev pub startsAnew : ℕ → ℕ → Bool
+startsAnew code task = starts code task || (eqb code 0x5B && eqb task bias)
+
+-- what may go on with the next block at the same depth, 52 apart: all but 51, 53, 55, 56 and a start of the own task
 abbrev pub goesOn : ℕ → ℕ → Bool
-goesOn code task = not (oneOf (0x51 ∷ 0x52 ∷ 0x53 ∷ 0x55 ∷ []) code || starts code task)
+goesOn code task = not (oneOf (0x51 ∷ 0x52 ∷ 0x53 ∷ 0x55 ∷ 0x56 ∷ []) code || startsAnew code task)
 
 -- ---- the start of a task
 
@@ -69,6 +74,10 @@ pub data WalkStep (terms : Terms) (bs : List ℕ) (path : List Point) (p : Point
   start : (u : ℕ) → starts (c .code) u ≡ true → (u ≡ p .task → ⊥) → WalkStep terms bs path p c (point u (c .word) 0)
   -- that start their own: to the named block at depth 0, and nowhere else. (Forbidden by 9 today, as the boxes stand.)
   own : starts (c .code) (p .task) ≡ true → WalkStep terms bs path p c (point (p .task) (c .word) 0)
+  -- 56: to every landing block, at its own depth (change request 1)
+  land : (a : ℕ) → c .code ≡ 0x56 → In a (terms .landings) → WalkStep terms bs path p c (point (p .task) a (p .depth))
+  -- 5B: to every landing block of BIAS, at depth 0 (and on, by `next`)
+  landBias : (a : ℕ) → c .code ≡ 0x5B → In a (terms .landings) → WalkStep terms bs path p c (point bias a 0)
   -- mode 0 of 51 returns to the task's start at depth 0
   restart : (a : ℕ) → c .code ≡ 0x51 → c .x ≡ 0 → startOf terms bs (p .task) path ≡ at a → WalkStep terms bs path p c (point (p .task) a 0)
 

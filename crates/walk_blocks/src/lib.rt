@@ -11,7 +11,7 @@ ghost use mathlib.Core.Path.{_≡_};
 ghost use Prim.Native.Nat.{_+_, _≤_};
 ghost use lib.ListN.{length, getD};
 ghost use Rattle.limits.specs.Limits.{blockLength};
-ghost use Rattle.walk_flow.specs.Terms.{under};
+ghost use Rattle.walk_flow.specs.Terms.{byHeader};
 ghost use Rattle.walk.specs.Blocks.{bytesFrom, blockAt, blockFaultAt, faultAt};
 ghost use Rattle.walk_blocks.specs.Instructions.{instructionOf, instructionAt};
 
@@ -23,7 +23,7 @@ pub struct Instruction {
 
 // What the command at a point breaks there.
 pub fn fault_at(header: Header, blocks: &[u8], p: Point) -> Fault
-    ensures { λ r. ⌜ r ≡ faultAt (under header) (now (blocks .entry)) p ⌝ }
+    ensures { λ r. ⌜ r ≡ faultAt (byHeader header) (now (blocks .entry)) p ⌝ }
 {
     let i = instruction_at(blocks, p.block);
     p.fault(header, i.row, i.command)
@@ -96,7 +96,7 @@ fn byte_at(bytes: &[u8], at: usize) -> u8
 
 // What is wrong with a block by itself, by 5 to 8 or 23.
 pub fn block_fault_at(header: Header, blocks: &[u8], b: u16) -> BlockFault
-    ensures { λ r. ⌜ r ≡ blockFaultAt (under header) (now (blocks .entry)) b ⌝ }
+    ensures { λ r. ⌜ r ≡ blockFaultAt (byHeader header) (now (blocks .entry)) b ⌝ }
 {
     command_judge::judge(header, block_at(blocks, b))
 }

@@ -10,7 +10,7 @@ use Rattle.command_table.specs.declared.FlowKind.the-variants as kind
 use Rattle.command_operands.specs.declared.Command.{Command}
 use Rattle.walk_flow.specs.Terms.{Terms}
 use Rattle.walk_flow.specs.declared.Flow.{Flow}
-use Rattle.walk_flow.specs.declared.Flow.the-variants.{Next, Wait, Jump, Branch, Call, Return, Start, Restart, End}
+use Rattle.walk_flow.specs.declared.Flow.the-variants.{Next, Wait, Jump, Branch, Call, Return, Start, Restart, End, ComputedJump, ComputedStart}
 
 -- 51, by its mode
 abbrev pub endingBy : ℕ → Flow
@@ -29,13 +29,15 @@ flowBy kind.StartBias x word = Start bias word
 flowBy kind.StartPlc x word = Start plc word
 flowBy kind.StartMathematics x word = Start mathematics word
 flowBy kind.Ending x word = endingBy x
+flowBy kind.ComputedJump x word = ComputedJump
+flowBy kind.ComputedStartBias x word = ComputedStart bias
 
 unfoldable pub flowOf : Terms → Command → Flow
 flowOf terms c = flowBy (rowOf (c .code) .flow) (c .x) (c .word)
 
--- The blocks that a command at block b of a task may continue with, each of which 12 judges. The block behind a call counts at the call, a start
--- block where it is named. Starting its own task, a command has nothing behind it: it goes on at the named block alone. (By the boxes no command
--- may do that today.)
+-- The blocks that a command at block b of a task may continue with, each of which 12 judges. The block behind a call counts at the call, a start block where it
+-- is named. A landing block is not among them: 21 has judged it already. Starting its own task, a command has nothing behind it: it goes on at the named block
+-- alone. (By the boxes no command may do that today.)
 abbrev pub continues : ℕ → ℕ → Flow → List ℕ
 continues task b Next = (b + 1) ∷ []
 continues task b Wait = (b + 1) ∷ b ∷ []
@@ -46,3 +48,5 @@ continues task b Return = []
 continues task b (Start u a) = cond (eqb u task) (a ∷ []) (a ∷ (b + 1) ∷ [])
 continues task b Restart = []
 continues task b End = []
+continues task b ComputedJump = []
+continues task b (ComputedStart u) = cond (eqb u task) [] ((b + 1) ∷ [])

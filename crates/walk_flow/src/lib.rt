@@ -5,7 +5,7 @@ use command_table::Row;
 use image_header::Header;
 ghost use mathlib.Core.Path.{_≡_};
 ghost use Rattle.command_table.specs.Rows.{rowOf};
-ghost use Rattle.walk_flow.specs.Terms.{under};
+ghost use Rattle.walk_flow.specs.Terms.{byHeader};
 ghost use Rattle.walk_flow.specs.Flow.{flowBy, endingBy, flowOf};
 ghost use Rattle.walk_flow.specs.Permission.{foreign, permitted};
 
@@ -29,13 +29,17 @@ pub enum Flow {
     Restart,
     // nothing
     End,
+    // any landing block
+    ComputedJump,
+    // the next block; the task of this number starts at any landing block
+    ComputedStart(u8),
 }
 
 impl Flow {
     // All that a command, whose code has this row, may continue with in a program with this header.
     pub fn of(header: Header, row: Row, c: Command) -> Flow
         requires { ⌜ row ≡ rowOf (c .code) ⌝ }
-        ensures { λ r. ⌜ r ≡ flowOf (under header) c ⌝ }
+        ensures { λ r. ⌜ r ≡ flowOf (byHeader header) c ⌝ }
     {
         let kind = row.flow;
         flow_by(kind, c.x, c.word)
@@ -61,7 +65,7 @@ pub fn foreign(task: u8, row: Row, c: Command) -> bool
 // Whether the boxes of the manual let a task use a command, whose code has this row, in a program with this header.
 pub fn permitted(header: Header, row: Row, c: Command, task: u8) -> bool
     requires { ⌜ row ≡ rowOf (c .code) ⌝ }
-    ensures { λ r. ⌜ r ≡ permitted (under header) (c .code) task ⌝ }
+    ensures { λ r. ⌜ r ≡ permitted (byHeader header) (c .code) task ⌝ }
 {
     let tasks = row.tasks;
     match task {
@@ -87,6 +91,8 @@ fn flow_by(kind: FlowKind, x: u8, word: u16) -> Flow
         FlowKind::StartPlc => Flow::Start(limits::PLC, word),
         FlowKind::StartMathematics => Flow::Start(limits::MATHEMATICS, word),
         FlowKind::Ending => ending(x),
+        FlowKind::ComputedJump => Flow::ComputedJump,
+        FlowKind::ComputedStartBias => Flow::ComputedStart(limits::BIAS),
     }
 }
 

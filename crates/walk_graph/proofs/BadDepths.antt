@@ -8,7 +8,7 @@ use native.Mathlib.Omega.{arith}
 use borrow.Author.Tests.{lt-leb, le-leb, eq-eqb, ne-eqb}
 use Rattle.limits.specs.Limits.{mostDepth}
 use Rattle.walk_flow.specs.declared.Flow.{Flow}
-use Rattle.walk_flow.specs.declared.Flow.the-variants.{Next, Wait, Jump, Branch, Call, Return, Start, Restart, End}
+use Rattle.walk_flow.specs.declared.Flow.the-variants.{Next, Wait, Jump, Branch, Call, Return, Start, Restart, End, ComputedJump, ComputedStart}
 use Rattle.walk_fault.specs.Fault.{isBad}
 use Rattle.walk_fault.specs.declared.Fault.{Fault}
 use Rattle.walk_fault.specs.declared.Fault.the-variants.{Fine, TooDeep, NoCall, PastEnd}
@@ -28,6 +28,8 @@ broken-within false (Branch a) s = omega arith
 broken-within false (Start u a) s = omega arith
 broken-within false Restart s = omega arith
 broken-within false End s = omega arith
+broken-within false ComputedJump s = omega arith
+broken-within false (ComputedStart u) s = omega arith
 
 -- what 10, 11 and 12 say of a flow at a depth
 abbrev pub faultBy : Bool → Flow → ℕ → Fault
@@ -106,3 +108,5 @@ split false (Branch a) s d l = plain (Branch a) s d refl refl
 split false (Start u a) s d l = plain (Start u a) s d refl refl
 split false Restart s d l = plain Restart s d refl refl
 split false End s d l = plain End s d refl refl
+split false ComputedJump s d l = plain ComputedJump s d refl refl
+split false (ComputedStart u) s d l = plain (ComputedStart u) s d refl refl

@@ -11,7 +11,7 @@ use Rattle.walk_flow.specs.Terms.{Terms}
 use Rattle.walk_flow.specs.Flow.{flowOf, continues}
 use Rattle.walk_flow.specs.Permission.{foreign, permitted}
 use Rattle.walk_flow.specs.declared.Flow.{Flow}
-use Rattle.walk_flow.specs.declared.Flow.the-variants.{Next, Wait, Jump, Branch, Call, Return, Start, Restart, End}
+use Rattle.walk_flow.specs.declared.Flow.the-variants.{Next, Wait, Jump, Branch, Call, Return, Start, Restart, End, ComputedJump, ComputedStart}
 use Rattle.walk_point.specs.PointFault.{anyPast}
 use Rattle.walk.specs.Blocks.{commandAt}
 use Rattle.walk_graph.specs.Depths.{deepest, ground, deeper}
@@ -29,11 +29,16 @@ blockOf p = p / taskCount
 
 -- a 51 that ends another task hands nothing on
 abbrev pub onwardForeign : Onward
-onwardForeign = record { foreign = true; bad = 0; named = 0; into = 0; behind = 0 }
+onwardForeign = record { foreign = true; bad = 0; named = 0; into = 0; behind = 0; lander = 0; landing = 0 }
 
 -- bad depths, a named pair with those handed to it, and those handed to the block behind
 abbrev pub onwardTo : ℕ → ℕ → ℕ → ℕ → Onward
-onwardTo bad named into behind = record { foreign = false; bad = bad; named = named; into = into; behind = behind }
+onwardTo bad named into behind = record { foreign = false; bad = bad; named = named; into = into; behind = behind; lander = 0; landing = 0 }
+
+-- bad depths, those handed to the block behind, and a task with those handed to it at every landing block
+abbrev pub onwardLanding : ℕ → ℕ → ℕ → ℕ → Onward
+onwardLanding bad behind lander landing =
+    record { foreign = false; bad = bad; named = 0; into = 0; behind = behind; lander = lander; landing = landing }
 
 -- nothing is handed on
 abbrev pub onwardNone : ℕ → Onward
@@ -50,12 +55,14 @@ brokenBy (Branch a) s = 0
 brokenBy (Start u a) s = 0
 brokenBy Restart s = 0
 brokenBy End s = 0
+brokenBy ComputedJump s = 0
+brokenBy (ComputedStart u) s = 0
 
 -- the depths of s at which a flow breaks 10, 11 or 12: all of them where it may go past the end
 abbrev pub broken : Bool → Flow → ℕ → ℕ
 broken past f s = cond past s (brokenBy f s)
 
--- where a flow hands the depths s of a task on: to the block that it names, and to the block behind
+-- where a flow hands the depths s of a task on: to the block that it names, to the block behind, and to every landing block
 abbrev pub handedOn : ℕ → Flow → ℕ → ℕ → Onward
 handedOn task Next bad s = onwardTo bad 0 0 s
 handedOn task Wait bad s = onwardTo bad 0 0 s
@@ -66,6 +73,8 @@ handedOn task Return bad s = onwardNone bad
 handedOn task (Start u a) bad s = onwardTo bad (pairOf u a) (ground s) (cond (eqb u task) 0 s)
 handedOn task Restart bad s = onwardNone bad
 handedOn task End bad s = onwardNone bad
+handedOn task ComputedJump bad s = onwardLanding bad 0 task s
+handedOn task (ComputedStart u) bad s = onwardLanding bad (cond (eqb u task) 0 s) u (ground s)
 
 -- of a flow at a block of a task, in an image of this many blocks
 unfoldable pub flowOnward : ℕ → ℕ → ℕ → Flow → ℕ → Onward

@@ -6,9 +6,9 @@ use walk_flow::Flow;
 ghost use mathlib.Core.Path.{_≡_};
 ghost use mathlib.Core.Bool.{cond};
 ghost use Rattle.command_table.specs.Rows.{rowOf};
-ghost use Rattle.walk_flow.specs.Terms.{under};
+ghost use Rattle.walk_flow.specs.Terms.{byHeader};
 ghost use Rattle.walk_graph.specs.Depths.{ground, deeper, leastDepth};
-ghost use Rattle.walk_graph.specs.Onward.{pairOf, onwardForeign, onwardNone, onwardTo, broken, handedOn, flowOnward, commandOnward, onwardOf};
+ghost use Rattle.walk_graph.specs.Onward.{pairOf, onwardForeign, onwardNone, onwardTo, onwardLanding, broken, handedOn, flowOnward, commandOnward, onwardOf};
 
 // What the command at a pair breaks at some depths, and where it hands the others on. A set of depths has a binary digit for each depth.
 pub struct Onward {
@@ -21,6 +21,9 @@ pub struct Onward {
     pub into: u8,
     // the depths handed to the pair of the block behind
     pub behind: u8,
+    // a task, and the depths handed to it at every landing block
+    pub lander: u8,
+    pub landing: u8,
 }
 
 // The set of the greatest depth alone.
@@ -35,7 +38,7 @@ pub fn pair_of(task: u8, block: u16) -> u32
 
 // What the command at a block breaks in a task at the depths s, and where it hands the others on.
 pub fn onward_of(header: Header, blocks: &[u8], task: u8, block: u16, s: u8) -> Onward
-    ensures { λ r. ⌜ r ≡ onwardOf (under header) (now (blocks .entry)) task block s ⌝ }
+    ensures { λ r. ⌜ r ≡ onwardOf (byHeader header) (now (blocks .entry)) task block s ⌝ }
 {
     of_instruction(
         header,
@@ -48,7 +51,7 @@ pub fn onward_of(header: Header, blocks: &[u8], task: u8, block: u16, s: u8) -> 
 
 fn of_instruction(header: Header, i: Instruction, task: u8, block: u16, s: u8) -> Onward
     requires { ⌜ i .row ≡ rowOf (i .command .code) ⌝ }
-    ensures { λ r. ⌜ r ≡ commandOnward (under header) (i .command) task block s ⌝ }
+    ensures { λ r. ⌜ r ≡ commandOnward (byHeader header) (i .command) task block s ⌝ }
 {
     let row = i.row;
     let c = i.command;
@@ -71,6 +74,8 @@ fn foreign() -> Onward
         named: 0,
         into: 0,
         behind: 0,
+        lander: 0,
+        landing: 0,
     }
 }
 
@@ -106,10 +111,12 @@ fn broken(past: bool, f: Flow, s: u8) -> u8
         Flow::Start(_, _) => 0,
         Flow::Restart => 0,
         Flow::End => 0,
+        Flow::ComputedJump => 0,
+        Flow::ComputedStart(_) => 0,
     }
 }
 
-// Where a flow hands the depths s of a task on: to the block that it names, and to the block behind.
+// Where a flow hands the depths s of a task on: to the block that it names, to the block behind, and to every landing block.
 fn hand_on(task: u8, f: Flow, bad: u8, s: u8) -> Onward
     ensures { λ r. ⌜ r ≡ handedOn task f bad s ⌝ }
 {
@@ -123,6 +130,8 @@ fn hand_on(task: u8, f: Flow, bad: u8, s: u8) -> Onward
         Flow::Start(u, a) => to(bad, pair_of(u, a), ground(s), not_own(u == task, s)),
         Flow::Restart => nowhere(bad),
         Flow::End => nowhere(bad),
+        Flow::ComputedJump => to_landings(bad, 0, task, s),
+        Flow::ComputedStart(u) => to_landings(bad, not_own(u == task, s), u, ground(s)),
     }
 }
 
@@ -135,6 +144,22 @@ fn to(bad: u8, named: u32, into: u8, behind: u8) -> Onward
         named: named,
         into: into,
         behind: behind,
+        lander: 0,
+        landing: 0,
+    }
+}
+
+fn to_landings(bad: u8, behind: u8, lander: u8, landing: u8) -> Onward
+    ensures { λ r. ⌜ r ≡ onwardLanding bad behind lander landing ⌝ }
+{
+    Onward {
+        foreign: false,
+        bad: bad,
+        named: 0,
+        into: 0,
+        behind: behind,
+        lander: lander,
+        landing: landing,
     }
 }
 

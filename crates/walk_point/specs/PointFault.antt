@@ -11,7 +11,7 @@ use Rattle.walk_flow.specs.Flow.{flowOf, continues}
 use Rattle.walk_flow.specs.Permission.{foreign, permitted}
 use Rattle.walk_point.specs.declared.Point.{Point}
 use Rattle.walk_flow.specs.declared.Flow.{Flow}
-use Rattle.walk_flow.specs.declared.Flow.the-variants.{Next, Wait, Jump, Branch, Call, Return, Start, Restart, End}
+use Rattle.walk_flow.specs.declared.Flow.the-variants.{Next, Wait, Jump, Branch, Call, Return, Start, Restart, End, ComputedJump, ComputedStart}
 use Rattle.walk_fault.specs.declared.Fault.{Fault}
 use Rattle.walk_fault.specs.declared.Fault.the-variants.{Fine, Foreign, Forbidden, TooDeep, NoCall, PastEnd}
 
@@ -30,6 +30,8 @@ tooDeep Return depth = false
 tooDeep (Start u a) depth = false
 tooDeep Restart depth = false
 tooDeep End depth = false
+tooDeep ComputedJump depth = false
+tooDeep (ComputedStart u) depth = false
 
 -- 11: a return at depth 0
 abbrev pub noCall : Flow → ℕ → Bool
@@ -42,6 +44,8 @@ noCall (Call a) depth = false
 noCall (Start u a) depth = false
 noCall Restart depth = false
 noCall End depth = false
+noCall ComputedJump depth = false
+noCall (ComputedStart u) depth = false
 
 -- 12: one of the blocks that it may go on with is not below the count
 abbrev pub anyPast : ℕ → List ℕ → Bool

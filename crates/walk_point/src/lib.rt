@@ -8,7 +8,7 @@ ghost use mathlib.Core.Path.{_≡_};
 ghost use mathlib.Core.Bool.{cond};
 ghost use mathlib.Core.List.{[], _∷_};
 ghost use Rattle.command_table.specs.Rows.{rowOf};
-ghost use Rattle.walk_flow.specs.Terms.{under};
+ghost use Rattle.walk_flow.specs.Terms.{byHeader};
 ghost use Rattle.walk_flow.specs.Flow.{continues};
 ghost use Rattle.walk_point.specs.PointFault.{tooDeep, noCall, anyPast, flowFault, faultOf};
 
@@ -23,7 +23,7 @@ impl Point {
     // What a command, whose code has this row, breaks at this point of an image with this header.
     pub fn fault(self, header: Header, row: Row, c: Command) -> Fault
         requires { ⌜ row ≡ rowOf (c .code) ⌝ }
-        ensures { λ r. ⌜ r ≡ faultOf (under header) c self ⌝ }
+        ensures { λ r. ⌜ r ≡ faultOf (byHeader header) c self ⌝ }
     {
         let task = self.task;
         if walk_flow::foreign(task, row, c) {
@@ -66,6 +66,8 @@ fn too_deep(f: Flow, depth: u8) -> bool
         Flow::Start(_, _) => false,
         Flow::Restart => false,
         Flow::End => false,
+        Flow::ComputedJump => false,
+        Flow::ComputedStart(_) => false,
     }
 }
 
@@ -83,6 +85,8 @@ fn no_call(f: Flow, depth: u8) -> bool
         Flow::Start(_, _) => false,
         Flow::Restart => false,
         Flow::End => false,
+        Flow::ComputedJump => false,
+        Flow::ComputedStart(_) => false,
     }
 }
 
@@ -102,6 +106,8 @@ pub fn past_end(count: u16, task: u8, block: u16, f: Flow) -> bool
         Flow::Start(u, a) => start_past(count, u == task, a as u32, next),
         Flow::Restart => false,
         Flow::End => false,
+        Flow::ComputedJump => false,
+        Flow::ComputedStart(u) => other_past(count, u == task, next),
     }
 }
 
@@ -113,6 +119,16 @@ fn start_past(count: u16, own: bool, named: u32, next: u32) -> bool
         return past(count, named);
     }
     either_past(count, named, next)
+}
+
+// Where the task that is started is another, a command goes on with the next block.
+fn other_past(count: u16, own: bool, next: u32) -> bool
+    ensures { λ r. ⌜ r ≡ anyPast count (cond own [] (next ∷ [])) ⌝ }
+{
+    if own {
+        return false;
+    }
+    past(count, next)
 }
 
 fn either_past(count: u16, a: u32, b: u32) -> bool

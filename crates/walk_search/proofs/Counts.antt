@@ -2,7 +2,7 @@
 use Prim.Native.Nat.{ℕ, zero, suc, _+_, _-_, _*_, _<_, _≤_}
 use mathlib.Core.Path.{_≡_, refl, sym}
 use mathlib.Core.Bool.{Bool, true, false, cond}
-use native.Mathlib.Nat.{not-suc-le-zero}
+use native.Mathlib.Nat.{not-suc-le-zero, mul-suc}
 use native.Mathlib.Decide.{ℕ-discrete}
 use native.Mathlib.Omega.{arith}
 use lib.Dec.{eqb}
@@ -30,7 +30,7 @@ odd-most h s = go (eqb h s)
     go false = omega arith
 
 -- a sum over the pairs below m, of what a function has at each
-total : (ℕ → ℕ) → ℕ → ℕ
+pub total : (ℕ → ℕ) → ℕ → ℕ
 total f zero = 0
 total f (suc m) = f m + total f m
 
@@ -40,7 +40,7 @@ total-ext zero f g a = refl
 total-ext (suc m) f g a = rw (a m (omega arith), total-ext m f g (λ p h. a p (omega arith)))
 
 -- where two functions differ at i alone, so do their sums
-total-set : (m : ℕ) (f g : ℕ → ℕ) (i : ℕ) → i < m → ((p : ℕ) → (p ≡ i → ⊥) → g p ≡ f p) → total g m + f i ≡ total f m + g i
+pub total-set : (m : ℕ) (f g : ℕ → ℕ) (i : ℕ) → i < m → ((p : ℕ) → (p ≡ i → ⊥) → g p ≡ f p) → total g m + f i ≡ total f m + g i
 unfolding total
 total-set zero f g i h a = absurd (not-suc-le-zero h)
 total-set (suc m) f g i h a = go (ℕ-discrete i m) (λ j. total-set m f g i j a)
@@ -48,6 +48,12 @@ total-set (suc m) f g i h a = go (ℕ-discrete i m) (λ j. total-set m f g i j a
     go : Dec (i ≡ m) → (i < m → total g m + f i ≡ total f m + g i) → g m + total g m + f i ≡ f m + total f m + g i
     go (yes e) r = rw e (omega (arith, total-ext m f g (λ p k. a p (λ z. omega arith))))
     go (no n) r = omega (arith, a m (λ z. n (sym z)), r (omega arith))
+
+-- where none is more than k
+pub total-most : (m : ℕ) (f : ℕ → ℕ) (k : ℕ) → ((p : ℕ) → f p ≤ k) → total f m ≤ k * m
+unfolding total
+total-most zero f k a = omega arith
+total-most (suc m) f k a = omega (arith, a m, total-most m f k a, mul-suc k m)
 
 -- ---- pending pairs
 
@@ -111,6 +117,5 @@ left-less m hs i v h l =
 
 -- never more than all points of the pairs
 pub left-most : (m : ℕ) (hs : ℕ → ℕ) → left m hs ≤ depths * m
-unfolding left total
-left-most zero hs = omega arith
-left-most (suc m) hs = omega (arith, left-most m hs)
+unfolding left
+left-most m hs = total-most m (λ p. depths - size (hs p)) depths (λ p. omega arith)

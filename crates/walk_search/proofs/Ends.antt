@@ -1,35 +1,40 @@
 -- A search begins with the first point alone, and ends with what walks reach and the least of it.
 use Prim.Native.Nat.{ℕ, zero, suc, _+_, _-_, _*_, _/_, _%_, _<_, _≤_}
 use mathlib.Core.Path.{_≡_, refl, sym, ap, _∙_}
-use mathlib.Core.Bool.{false}
+use mathlib.Core.Bool.{Bool, true, false, cond}
 use mathlib.Core.List.{List}
 use native.Mathlib.Decide.{ℕ-discrete, decLt}
+use native.Mathlib.Nat.{mul-le-mul}
 use native.Mathlib.Omega.{arith}
 use lib.ListN.{length, getD, length-set, replicate, length-replicate, getD-replicate, List·getD-eq-default}
 use lib.Seq.{ext-getD}
-use Rattle.limits.specs.Limits.{bias, taskCount, mostBlocks, depths}
+use borrow.Author.Tests.{eqb-true, eqb-false}
+use Rattle.limits.specs.Limits.{bias, taskCount, mostBlocks, mostLandings, depths}
 use Rattle.logic.proofs.Choice.{clash, test}
 use Rattle.walk_flow.specs.Terms.{Terms}
 use Rattle.walk.specs.Graph.{In, Reach, has}
 use Rattle.walk.specs.Index.{indexOf}
-use Rattle.walk.specs.Successors.{nextOf}
+use Rattle.walk.specs.Successors.{nextOf, WalkBounds}
 use Rattle.walk.specs.Verdict.{rootOf, reached}
 use Rattle.walk.proofs.Membership.{has-in, in-has}
 use Rattle.walk.proofs.Verdicts.OfWalks.{exact}
 use Rattle.walk_graph.specs.Depths.{sets, digit, Has}
 use Rattle.walk_graph.specs.Onward.{pairOf}
+use Rattle.walk_graph.specs.declared.Onward.{Onward}
 use Rattle.walk_graph.proofs.Depths.{digit-two, none, ground-is, ground-of}
-use Rattle.walk_search.specs.Search.{WalkBounds, pairMarks, pairs, seenIn, handedIn, listIn, withSeen}
-use Rattle.walk_search.specs.Search.{fresh, Board, beginning, visited, visits, Seen}
-use Rattle.walk_search.specs.Search.{Listed, Sound, Going, Searched, found}
+use Rattle.walk_search.specs.Search.{pairMarks, pairs, seenIn, handedIn, listIn, withSeen, fresh, Board, noneLanded, beginning, allLanded, landedWith}
+use Rattle.walk_search.specs.Search.{onwardFrom, lastOf, listing, visited, visits, landsBy, landingVisits, Seen, Listed, Landed, Sound, Going}
+use Rattle.walk_search.specs.Search.{Searched, found}
 use Rattle.walk_search.proofs.Stores.{put, put-same, at-put, seen-set, handed-seen, list-seen, list-set, seen-list, handed-list, entry-long}
 use Rattle.walk_search.proofs.Counts.{odd-same, odd-other, busy-seen, busy-same, left, left-most}
-use Rattle.walk_search.proofs.Visits.{visit-keeps, visit-less, seen-before, handed₃, depths-some, all-handed, all-seen}
+use Rattle.walk_search.proofs.Touches.{listed-of}
+use Rattle.walk_search.proofs.Landings.{land-known, noted, noted-most, noted-more}
+use Rattle.walk_search.proofs.Visits.{visit-keeps, visit-less, seen-before, handed₄, depths-some, lands-in, all-handed, all-seen}
 use Rattle.walk_search.proofs.Minima.{Minima, minima-visit, minima-begun, minima-are}
 
 -- what holds all through a search
 pub record Running (h : Terms) (bs : List ℕ) (b : Board) : Type 0 where
-  pub going : Going h bs (b .marks) (b .found .pending)
+  pub going : Going h bs (b .marks) (b .landed) (b .found .pending)
   pub least : Minima h bs (handedIn (b .marks)) (b .found .foreign) (b .found .bad)
 
 minima-of : (h : Terms) (bs : List ℕ) {hs hs′ : ℕ → ℕ} {foreign bad : ℕ} → hs′ ≡ hs → Minima h bs hs foreign bad → Minima h bs hs′ foreign bad
@@ -76,9 +81,6 @@ module _ (next : ℕ → List ℕ) (m first : ℕ) (hs ss list : ℕ → ℕ) (f
 sound-of : {next : ℕ → List ℕ} {root root′ : ℕ} {hs hs′ ss ss′ : ℕ → ℕ} → root′ ≡ root → hs′ ≡ hs → ss′ ≡ ss → Sound next root hs ss → Sound next root′ hs′ ss′
 sound-of a b c x = rw (a, b, c) x
 
-listed-of : {m n : ℕ} {hs hs′ ss ss′ ws ws′ : ℕ → ℕ} → hs′ ≡ hs → ss′ ≡ ss → ws′ ≡ ws → Listed m hs ss ws n → Listed m hs′ ss′ ws′ n
-listed-of a b c x = rw (a, b, c) x
-
 zeros : (n k : ℕ) → getD {A = ℕ} (replicate n 0) k 0 ≡ 0
 zeros n k = go (decLt k n)
   where
@@ -89,6 +91,14 @@ zeros n k = go (decLt k n)
 -- marks that are 0 below their length are all 0
 pub cleared : (l : List ℕ) (n : ℕ) → length l ≡ n → ((k : ℕ) → k < n → getD l k 0 ≡ 0) → l ≡ replicate n 0
 cleared l n e f = ext-getD 0 l (replicate n 0) (e ∙ sym (length-replicate {A = ℕ} n 0)) (λ k h. f k (omega arith) ∙ sym (zeros n k))
+
+-- nothing is noted of landing blocks
+none-landed : (ls : List ℕ) (ss : ℕ → ℕ) → Landed ls noneLanded ss
+none-landed ls ss = record {
+  long = length-replicate {A = ℕ} taskCount 0;
+  small = λ t. rw (zeros taskCount t) (omega arith);
+  seen = λ t d a l k i. absurd (none d (rw (zeros taskCount t) at k));
+}
 
 module _ (h : Terms) (bs : List ℕ) (r : WalkBounds h) where
   abbrev first : ℕ
@@ -125,9 +135,10 @@ module _ (h : Terms) (bs : List ℕ) (r : WalkBounds h) where
   pub fresh-long : length (fresh n first) ≡ n
   fresh-long = entry-long 0 first (withSeen first 1 clean) ∙ long₁
 
-  going-begun : Going h bs (fresh n first) 1
+  going-begun : Going h bs (fresh n first) noneLanded 1
   going-begun = record {
     long = fresh-long;
+    lands = none-landed (h .landings) (seenIn (fresh n first));
     graph = sound-of root-is handed-is seen-is
         (first-seen (nextOf h bs) (pairs h) first (handedIn clean) (seenIn clean) (listIn clean) few first-in (λ p. zeros n (pairMarks * p + 1)) (λ p. zeros n
         (pairMarks * p)));
@@ -148,18 +159,18 @@ module _ (h : Terms) (bs : List ℕ) (r : WalkBounds h) where
     keeps-running : Running h bs (visited h bs b)
     unfolding visited
     keeps-running = record {
-      going = visit-keeps h bs r (b .marks) (b .found .pending) (w .going) some;
+      going = visit-keeps h bs r (b .marks) (b .landed) (b .found .pending) (w .going) some;
       least =
           let p = listIn (b .marks) (b .found .pending - 1) in
-          let d = depths-some h bs r (b .marks) (b .found .pending) (w .going) some in
-          let held = seen-before h bs r (b .marks) (b .found .pending) (w .going) some in
-          minima-of h bs (handed₃ h bs r (b .marks) (b .found .pending) (w .going) some)
+          let d = depths-some h bs r (b .marks) (b .landed) (b .found .pending) (w .going) some in
+          let held = seen-before h bs r (b .marks) (b .landed) (b .found .pending) (w .going) some in
+          minima-of h bs (handed₄ h bs r (b .marks) (b .landed) (b .found .pending) (w .going) some)
           (minima-visit h bs (handedIn (b .marks)) p (seenIn (b .marks) p) (held p) (d .0) (d .1) (b .found .foreign) (b .found .bad) (w .least));
     }
 
     leaves-less : left (pairs h) (handedIn (visited h bs b .marks)) < left (pairs h) (handedIn (b .marks))
     unfolding visited
-    leaves-less = visit-less h bs r (b .marks) (b .found .pending) (w .going) some
+    leaves-less = visit-less h bs r (b .marks) (b .landed) (b .found .pending) (w .going) some
 
     -- the same of what a visit is found to leave
     pub running-after : (b′ : Board) → b′ ≡ visited h bs b → Running h bs b′
@@ -180,17 +191,49 @@ module _ (h : Terms) (bs : List ℕ) (r : WalkBounds h) where
   pub visits-few : (v : ℕ) → ((k : ℕ) → k < v → 0 < visits k h bs (beginning h) .found .pending) → v ≤ depths * pairs h
   visits-few v some = omega (arith, visits-left v (beginning h) begun some, left-most (pairs h) (handedIn (beginning h .marks)))
 
+  -- a visit that touches landing blocks notes a depth more
+  notes-more : (b : Board) → Running h bs b → 0 < b .found .pending
+      → landsBy (onwardFrom h bs (lastOf b) b) (b .landed) + noted (b .landed) ≤ noted (visited h bs b .landed)
+  unfolding visited
+  notes-more b w some = go (allLanded (b .landed) (o .lander) (o .landing)) refl
+    where
+      o : Onward
+      o = onwardFrom h bs (lastOf b) b
+
+      go : (t : Bool) → allLanded (b .landed) (o .lander) (o .landing) ≡ t
+          → cond t 0 1 + noted (b .landed) ≤ noted (landedWith (b .landed) (o .lander) (o .landing))
+      go true e =
+          let same = land-known (h .landings) (b .landed) (o .lander) (o .landing) (listing (b .marks) 0) (eqb-true _ _ e) .1 in
+          omega (arith, ap noted same)
+      go false e =
+          let known = w .going .lands in
+          let k = lands-in h bs r (b .marks) (b .landed) (b .found .pending) (w .going) some in
+          omega (arith, noted-more (b .landed) (o .lander) (o .landing) (known .long) (k .0) (known .small (o .lander)) (k .1) (eqb-false _ _ e))
+
+  landing-visits-left : (v : ℕ) (b : Board) → Running h bs b → ((k : ℕ) → k < v → 0 < visits k h bs b .found .pending)
+      → landingVisits v h bs b + noted (b .landed) ≤ depths * taskCount
+  unfolding visits landingVisits
+  landing-visits-left zero b w some = omega (arith, noted-most (b .landed))
+  landing-visits-left (suc v) b w some =
+      let one = some 0 (omega arith) in
+      omega (arith, landing-visits-left v (visited h bs b) (keeps-running b w one) (λ k l. some (suc k) (omega arith)), notes-more b w one)
+
+  -- so a search touches landing blocks at most as many times as there are depths of tasks at the most landing blocks (change request 1: 3 x 6 x 64)
+  pub landings-few : (v : ℕ) → ((k : ℕ) → k < v → 0 < visits k h bs (beginning h) .found .pending)
+      → landingVisits v h bs (beginning h) * length (h .landings) ≤ depths * taskCount * mostLandings
+  landings-few v some = mul-le-mul {n₂ = depths * taskCount} {m₂ = mostLandings} (omega (arith, landing-visits-left v (beginning h) begun some)) (r .few)
+
   -- ---- the end
 
   module _ (b : Board) (w : Running h bs b) (over : b .found .pending ≡ 0) where
-    done : Going h bs (b .marks) 0
+    done : Going h bs (b .marks) (b .landed) 0
     done = rw over at (w .going)
 
     handed-sound : (i : ℕ) → Seen (handedIn (b .marks)) i → Reach (nextOf h bs) (rootOf h) i
     handed-sound i k = w .going .graph .sound i (w .going .graph .held i k)
 
     handed-whole : (i : ℕ) → Reach (nextOf h bs) (rootOf h) i → Seen (handedIn (b .marks)) i
-    handed-whole i k = rw (all-handed h bs (b .marks) done (i / depths)) (all-seen h bs (b .marks) done i k)
+    handed-whole i k = rw (all-handed h bs (b .marks) (b .landed) done (i / depths)) (all-seen h bs (b .marks) (b .landed) done i k)
 
     pub found-is : b .found ≡ found h bs
     unfolding found
@@ -203,15 +246,15 @@ module _ (h : Terms) (bs : List ℕ) (r : WalkBounds h) where
       long = w .going .long;
       seen = λ i. test (has (reached h bs) i) (λ e. rw e (in-reach i (has-in (reached h bs) i e))) (λ e. rw e (not-reach i e));
       small = w .going .listed .small;
-      settled = all-handed h bs (b .marks) done;
+      settled = all-handed h bs (b .marks) (b .landed) done;
     }
       where
         in-reach : (i : ℕ) → In i (reached h bs) → Seen (seenIn (b .marks)) i
-        in-reach i k = all-seen h bs (b .marks) done i (exact h bs (r .most) (r .begins) .sound i k)
+        in-reach i k = all-seen h bs (b .marks) (b .landed) done i (exact h bs r .sound i k)
 
         not-reach : (i : ℕ) → has (reached h bs) i ≡ false → digit (seenIn (b .marks) (i / depths)) (i % depths) ≡ 0
         not-reach i e = go (ℕ-discrete (digit (seenIn (b .marks) (i / depths)) (i % depths)) 1)
           where
             go : Dec (Seen (seenIn (b .marks)) i) → digit (seenIn (b .marks) (i / depths)) (i % depths) ≡ 0
-            go (yes k) = clash (sym (in-has (reached h bs) i (exact h bs (r .most) (r .begins) .whole i (w .going .graph .sound i k))) ∙ e)
+            go (yes k) = clash (sym (in-has (reached h bs) i (exact h bs r .whole i (w .going .graph .sound i k))) ∙ e)
             go (no k) = omega (arith, digit-two (seenIn (b .marks) (i / depths)) (i % depths))

@@ -5,6 +5,8 @@ mod Stores
 mod Sizes
 mod Counts
 mod Touches
+mod Landings
+mod ByHeader
 mod Visits
 mod Minima
 pub mod Ends

@@ -15,7 +15,7 @@ use Rattle.walk_fault.specs.Fault.{isForeign, isBad}
 use Rattle.walk.specs.Blocks.{faultAt}
 use Rattle.walk.specs.Index.{pointAt}
 use Rattle.walk.specs.Graph.{Reach, lesser, least}
-use Rattle.walk.specs.Successors.{nextOf}
+use Rattle.walk.specs.Successors.{nextOf, WalkBounds}
 use Rattle.walk.specs.Verdict.{rootOf, reached, leastForeign, leastBad}
 use Rattle.walk.proofs.Points.Index.{has-point}
 use Rattle.walk.proofs.Graph.Least.{lesser-first, lesser-second, least-only}
@@ -26,7 +26,7 @@ use Rattle.walk_graph.specs.Onward.{taskOf, blockOf, onwardOf}
 use Rattle.walk_graph.specs.declared.Onward.{Onward}
 use Rattle.walk_graph.proofs.Depths.{none, some-depth, least-has, least-least}
 use Rattle.walk_graph.proofs.Handing.{foreign-at, bad-of, bad-has, bad-small}
-use Rattle.walk_search.specs.Search.{WalkBounds, foreignWith, badWith, Seen}
+use Rattle.walk_search.specs.Search.{foreignWith, badWith, Seen}
 use Rattle.walk_search.proofs.Stores.{put, put-same, put-other}
 
 -- a number of these that passes a test, with this key
@@ -172,8 +172,8 @@ module _ (h : Terms) (bs : List ℕ) where
     least-is : (test : ℕ → Bool) (key : ℕ → ℕ) (none : ℕ) → ((p : ℕ) → p < marksLength → key p ≤ none) → (m : ℕ)
         → LeastOf (Seen hs) test key none m → m ≡ least test key none (reached h bs)
     least-is test key none bound m s =
-        let x = exact h bs (r .most) (r .begins) in
-        least-only test key none (reached h bs) (λ p k. bound p (number-inside h bs (r .most) (r .begins) p (x .sound p k))) m
+        let x = exact h bs r in
+        least-only test key none (reached h bs) (λ p k. bound p (number-inside h bs r p (x .sound p k))) m
         (λ p k t. s .below p (whole p (x .sound p k)) t)
         (⊎-elim (λ e. inl e)
         (λ k. inr (record { at = k .at; member = x .whole (k .at) (sound (k .at) (k .one)); passes = k .passes; key-is = k .key-is }))

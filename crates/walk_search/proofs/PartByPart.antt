@@ -9,31 +9,32 @@ use lib.Seq.{take-length}
 use borrow.Author.Tests.{le-ltb}
 use Rattle.limits.specs.Limits.{marksLength}
 use Rattle.image_result.specs.ImageResult.{done}
-use Rattle.image_header.specs.Scan.{headerOf, blocksOf}
+use Rattle.image_header.specs.Scan.{headerOf, landingsOf, blocksOf}
+use Rattle.image_header.specs.GoodHeader.{GoodHeader, GoodLandings}
 use Rattle.image_header.specs.declared.reader.HeaderRead.{HeaderRead}
-use Rattle.image_header.proofs.HeaderGood.{header-good}
+use Rattle.image_header.proofs.HeaderGood.{header-good, landings-good}
 use Rattle.walk_flow.specs.Terms.{termsIn}
 use Rattle.walk.specs.Verdict.{blocksVerdict, readVerdict, verdictOf, isAccepted, acceptedBlocks}
 use Rattle.logic.proofs.Choice.{either}
 use Rattle.walk.specs.declared.Verdict.{Verdict}
 use Rattle.walk.specs.declared.Verdict.the-variants.{Image}
 use Rattle.image_result.proofs.Done.{is-done}
-use Rattle.walk_search.specs.Search.{WalkBounds}
 
 module _ (image : List ℕ) where
   pub refused-image : (n : ℕ) (r : HeaderRead) → r ≡ headerOf image → done (r .result) ≡ false → marksLength ≤ n → Image (r .result) ≡ verdictOf image n
   unfolding verdictOf readVerdict
   refused-image n r e f l = rw (le-ltb n marksLength l, ← e, f)
 
-  pub ready : (r : HeaderRead) → r ≡ headerOf image → done (r .result) ≡ true → WalkBounds (termsIn r)
-  ready r e f =
-      let g = header-good image (sym (ap (λ (q : HeaderRead). q .result) e) ∙ is-done (r .result) f) in
-      rw e (record { most = g .count .1; begins = g .start })
+  pub ready : (r : HeaderRead) (ls : List ℕ) → r ≡ headerOf image → ls ≡ landingsOf image → done (r .result) ≡ true
+      → GoodHeader (r .header) × GoodLandings (r .header) ls
+  ready r ls e k f =
+      let ok = sym (ap (λ (q : HeaderRead). q .result) e) ∙ is-done (r .result) f in
+      rw (e, k) (header-good image ok, landings-good image ok)
 
-  pub judged-image : (n : ℕ) (r : HeaderRead) (bs : List ℕ) (v : Verdict) → r ≡ headerOf image → bs ≡ blocksOf image → done (r .result) ≡ true → marksLength ≤ n
-      → v ≡ blocksVerdict (termsIn r) bs 0 (r .header .count) → v ≡ verdictOf image n
+  pub judged-image : (n : ℕ) (r : HeaderRead) (ls bs : List ℕ) (v : Verdict) → r ≡ headerOf image → ls ≡ landingsOf image → bs ≡ blocksOf image
+      → done (r .result) ≡ true → marksLength ≤ n → v ≡ blocksVerdict (termsIn r ls) bs 0 (r .header .count) → v ≡ verdictOf image n
   unfolding verdictOf readVerdict
-  judged-image n r bs v e k f l j = rw (le-ltb n marksLength l, ← e, ← k, f) j
+  judged-image n r ls bs v e i k f l j = rw (le-ltb n marksLength l, ← e, ← i, ← k, f) j
 
 -- what is kept of a part is no more than the part
 pub kept-within : (v : Verdict) (n : ℕ) {k : ℕ} → k ≡ cond (isAccepted v) n 0 → k ≤ n

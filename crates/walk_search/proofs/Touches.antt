@@ -20,7 +20,7 @@ use Rattle.walk_search.proofs.Counts.{odd, odd-same, odd-other, busy-se
 pub record Grown (m : ℕ) (hs ss ss′ list′ : ℕ → ℕ) (n′ q s : ℕ) : Type 0 where
   pub listed : Listed m hs ss′ list′ n′
   pub covers : (e : ℕ) → Has s e → Has (ss′ q) e
-  pub kept : (i : ℕ) → Seen ss i → Seen ss′ i
+  pub kept : (p e : ℕ) → Has (ss p) e → Has (ss′ p) e
   pub only : (i : ℕ) → Seen ss′ i → Seen ss i ⊎ ((i / depths ≡ q) × Has s (i % depths))
 
 module _ (m : ℕ) (hs ss list : ℕ → ℕ) (n : ℕ) (g : Listed m hs ss list n) where
@@ -32,7 +32,7 @@ module _ (m : ℕ) (hs ss list : ℕ → ℕ) (n : ℕ) (g : Listed m hs ss list
 
   -- depths that were all seen
   known : (q s : ℕ) → union (ss q) s ≡ ss q → Grown m hs ss ss list n q s
-  known q s o = record { listed = g; covers = λ e k. rw o at (union-right (ss q) s e k); kept = λ i k. k; only = λ i k. inl k }
+  known q s o = record { listed = g; covers = λ e k. rw o at (union-right (ss q) s e k); kept = λ p e k. k; only = λ i k. inl k }
 
   module _ (q s : ℕ) (h : q < m) (us : s < sets) (o : union (ss q) s ≡ ss q → ⊥) where
     abbrev new : ℕ
@@ -44,8 +44,8 @@ module _ (m : ℕ) (hs ss list : ℕ → ℕ) (n : ℕ) (g : Listed m hs ss list
     covered : (e : ℕ) → Has s e → Has (ss₁ q) e
     covered e k = rw (put-same ss q new) (union-right (ss q) s e k)
 
-    kept-all : (i : ℕ) → Seen ss i → Seen ss₁ i
-    kept-all i = at-put (λ p v. Has (ss p) (i % depths) → Has v (i % depths)) ss q new (λ k. union-left (ss q) s (i % depths) k) (λ p n k. k) (i / depths)
+    kept-all : (p e : ℕ) → Has (ss p) e → Has (ss₁ p) e
+    kept-all p e = at-put (λ p v. Has (ss p) e → Has v e) ss q new (union-left (ss q) s e) (λ p n k. k) p
 
     only-these : (i : ℕ) → Seen ss₁ i → Seen ss i ⊎ ((i / depths ≡ q) × Has s (i % depths))
     only-these i =
@@ -130,6 +130,9 @@ pub record Touched (m : ℕ) (l : List ℕ) (b : Listing) (q s : ℕ) : Type 0 w
   pub long : length (b .marks) ≡ length l
   pub handed : handedIn (b .marks) ≡ handedIn l
   pub grown : Grown m (handedIn l) (seenIn l) (seenIn (b .marks)) (listIn (b .marks)) (b .pending) q s
+
+pub listed-of : {m n : ℕ} {hs hs′ ss ss′ ws ws′ : ℕ → ℕ} → hs′ ≡ hs → ss′ ≡ ss → ws′ ≡ ws → Listed m hs ss ws n → Listed m hs′ ss′ ws′ n
+listed-of a b c x = rw (a, b, c) x
 
 grown-of : {m n q s : ℕ} {hs ss ss′ ss″ ws ws′ : ℕ → ℕ} → ss″ ≡ ss′ → ws′ ≡ ws → Grown m hs ss ss′ ws n q s → Grown m hs ss ss″ ws′ n q s
 grown-of a b x = rw (a, b) x

@@ -1,5 +1,6 @@
 -- The search's own values and invariants. Each pair, a task at a block, has four of the lent marks: the set of depths seen, the set of those handed on at its
--- latest visit, and two bytes of a list. A pair is pending where the two sets differ; the list has the pending pairs, each once.
+-- latest visit, and two bytes of a list. A pair is pending where the two sets differ; the list has the pending pairs, each once. Beside the marks a search has
+-- for each task the set of depths that were handed to it at every landing block.
 use Prim.Native.Nat.{ℕ, zero, suc, _+_, _-_, _*_, _/_, _%_, _<_, _≤_}
 use mathlib.Core.Path.{_≡_}
 use mathlib.Core.Bool.{Bool, cond}
@@ -17,11 +18,6 @@ use Rattle.walk_graph.specs.Depths.{sets, digit, Has, union, leastDepth}
 use Rattle.walk_graph.specs.Onward.{pairOf, taskOf, blockOf, onwardOf}
 use Rattle.walk_graph.specs.declared.Onward.{Onward}
 use Rattle.walk_search.specs.declared.search.Found.{Found}
-
--- terms under which walks stay within the marks: what the header's own refusals leave
-pub record WalkBounds (terms : Terms) : Type 0 where
-  pub most : terms .header .count ≤ mostBlocks
-  pub begins : terms .header .start < terms .header .count
 
 -- ---- the marks
 
@@ -80,17 +76,22 @@ pub record Room (marks : List ℕ) (pending q s : ℕ) : Type 0 where
   pub pair : (s ≡ 0 → ⊥) → pairMarks * q + pairMarks ≤ length marks
   pub entry : (s ≡ 0 → ⊥) → handedIn marks q ≡ seenIn marks q → pairMarks * pending + pairMarks ≤ length marks
 
--- what a search works on: the marks, and what it has found so far
+-- what a search works on: the marks, the depths that each task has at every landing block, and what it has found so far
 pub record Board : Type 0 where
   pub marks : List ℕ
+  pub landed : List ℕ
   pub found : Found
 
-abbrev pub board : List ℕ → Found → Board
-board marks found = record { marks = marks; found = found }
+abbrev pub board : List ℕ → List ℕ → Found → Board
+board marks landed found = record { marks = marks; landed = landed; found = found }
+
+-- nothing is handed to landing blocks yet, in any task
+abbrev pub noneLanded : List ℕ
+noneLanded = replicate taskCount 0
 
 -- as a search begins: nothing is found
 abbrev pub beginning : Terms → Board
-beginning terms = board (fresh (pairMarks * pairs terms) (pairOf bias (terms .header .start))) (record {
+beginning terms = board (fresh (pairMarks * pairs terms) (pairOf bias (terms .header .start))) noneLanded (record {
   pending = 1;
   foreign = mostBlocks;
   bad = marksLength;
@@ -107,30 +108,63 @@ badWith bad p so = cond (eqb bad 0) so (lesser (depths * p + leastDepth bad) so)
 abbrev pub takenOff : ℕ → ℕ → Board → Listing
 takenOff p s b = listing (withHanded p s (b .marks)) (b .found .pending - 1)
 
--- and after the depths were handed on
+-- and after the depths were handed to the block named and to the block behind
 abbrev pub handedOn : Onward → ℕ → Listing → Listing
 handedOn o p b = touched (p + taskCount) (o .behind) (touched (o .named) (o .into) b)
 
-abbrev pub visitedBy : Onward → ℕ → ℕ → Board → Board
-visitedBy o p s b = board (handedOn o p (takenOff p s b) .marks) (record {
-  pending = handedOn o p (takenOff p s b) .pending;
+-- the depths s handed to task t at each of these landing blocks, one after the other
+unfoldable pub touchedEach : List ℕ → ℕ → ℕ → Listing → Listing
+touchedEach [] t s b = b
+touchedEach (a ∷ landings) t s b = touchedEach landings t s (touched (pairOf t a) s b)
+
+-- the depths that task t has at every landing block so far, with s beside them, and whether all of s are among them
+abbrev pub landedOf : List ℕ → ℕ → ℕ
+landedOf landed t = getD landed t 0
+
+abbrev pub landedWith : List ℕ → ℕ → ℕ → List ℕ
+landedWith landed t s = set landed t (union (landedOf landed t) s)
+
+abbrev pub allLanded : List ℕ → ℕ → ℕ → Bool
+allLanded landed t s = eqb (union (landedOf landed t) s) (landedOf landed t)
+
+-- the depths s handed to task t at every landing block, where it has not had them all there
+unfoldable pub landedOn : List ℕ → ℕ → ℕ → List ℕ → Listing → Listing
+landedOn landings t s landed b = cond (allLanded landed t s) b (touchedEach landings t s b)
+
+-- the marks and the list after a visit of pair p with the depths s
+abbrev pub allHandedOn : List ℕ → Onward → ℕ → ℕ → Board → Listing
+allHandedOn landings o p s b = landedOn landings (o .lander) (o .landing) (b .landed) (handedOn o p (takenOff p s b))
+
+abbrev pub visitedBy : List ℕ → Onward → ℕ → ℕ → Board → Board
+visitedBy landings o p s b = board (allHandedOn landings o p s b .marks) (landedWith (b .landed) (o .lander) (o .landing)) (record {
+  pending = allHandedOn landings o p s b .pending;
   foreign = foreignWith (o .foreign) (blockOf p) (b .found .foreign);
   bad = badWith (o .bad) p (b .found .bad);
 })
 
--- the pair p, with all depths that it has seen
-abbrev pub visitedAt : Terms → List ℕ → ℕ → Board → Board
-visitedAt terms bs p b =
-    visitedBy (onwardOf terms bs (taskOf p) (blockOf p) (seenIn (b .marks) p)) p (seenIn (b .marks) p) b
+-- the pair p hands on all depths that it has seen
+abbrev pub onwardFrom : Terms → List ℕ → ℕ → Board → Onward
+onwardFrom terms bs p b = onwardOf terms bs (taskOf p) (blockOf p) (seenIn (b .marks) p)
 
 -- the last pair of the list is visited
+abbrev pub lastOf : Board → ℕ
+lastOf b = listIn (b .marks) (b .found .pending - 1)
+
 unfoldable pub visited : Terms → List ℕ → Board → Board
-visited terms bs b = visitedAt terms bs (listIn (b .marks) (b .found .pending - 1)) b
+visited terms bs b = visitedBy (terms .landings) (onwardFrom terms bs (lastOf b) b) (lastOf b) (seenIn (b .marks) (lastOf b)) b
 
 -- as many visits, one after the other
 unfoldable pub visits : ℕ → Terms → List ℕ → Board → Board
 visits zero terms bs b = b
 visits (suc n) terms bs b = visits n terms bs (visited terms bs b)
+
+-- 1 where a visit hands depths to the landing blocks, and how many of so many visits do
+abbrev pub landsBy : Onward → List ℕ → ℕ
+landsBy o landed = cond (allLanded landed (o .lander) (o .landing)) 0 1
+
+unfoldable pub landingVisits : ℕ → Terms → List ℕ → Board → ℕ
+landingVisits zero terms bs b = 0
+landingVisits (suc n) terms bs b = landsBy (onwardFrom terms bs (lastOf b) b) (b .landed) + landingVisits n terms bs (visited terms bs b)
 
 -- ---- what holds all through a search
 
@@ -154,6 +188,21 @@ pub record Listed (m : ℕ) (hs ss list : ℕ → ℕ) (n : ℕ) : Type 0 where
   pub differ : (k : ℕ) → k < n → hs (list k) < ss (list k)
   pub once : (j k : ℕ) → j < k → k < n → list j ≡ list k → ⊥
 
+-- of each task, the depths that are noted as landed are seen at every landing block
+pub record Landed (landings landed : List ℕ) (ss : ℕ → ℕ) : Type 0 where
+  pub long : length landed ≡ taskCount
+  pub small : (t : ℕ) → landedOf landed t < sets
+  pub seen : (t d a : ℕ) → t < taskCount → Has (landedOf landed t) d → In a landings → Has (ss (pairOf t a)) d
+
+-- the marks have room for the depths s of task t at each of these landing blocks, one after the other
+pub record RoomEach (landings marks : List ℕ) (pending t s : ℕ) : Type 0 where
+  pub pairs : ℕ
+  pub long : length marks ≡ pairMarks * pairs
+  pub listed : Listed pairs (handedIn marks) (seenIn marks) (listIn marks) pending
+  pub task : t < taskCount
+  pub small : s < sets
+  pub inside : (a : ℕ) → In a landings → pairOf t a < pairs
+
 -- what is seen is reached, what was handed on is seen, and what follows it is seen
 pub record Sound (next : ℕ → List ℕ) (root : ℕ) (hs ss : ℕ → ℕ) : Type 0 where
   pub first : Seen ss root
@@ -161,8 +210,9 @@ pub record Sound (next : ℕ → List ℕ) (root : ℕ) (hs ss : ℕ → ℕ) : 
   pub sound : (i : ℕ) → Seen ss i → Reach next root i
   pub closed : (i j : ℕ) → Seen hs i → In j (next i) → Seen ss j
 
-pub record Going (terms : Terms) (bs marks : List ℕ) (n : ℕ) : Type 0 where
+pub record Going (terms : Terms) (bs marks landed : List ℕ) (n : ℕ) : Type 0 where
   pub long : length marks ≡ pairMarks * pairs terms
+  pub lands : Landed (terms .landings) landed (seenIn marks)
   pub graph : Sound (nextOf terms bs) (rootOf terms) (handedIn marks) (seenIn marks)
   pub listed : Listed (pairs terms) (handedIn marks) (seenIn marks) (listIn marks) n
 

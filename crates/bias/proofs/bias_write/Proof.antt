@@ -12,6 +12,7 @@ pub bias-write-spec : {M : Type 1} → statement M
 bias-write-spec =
     tie.close
     (tie.spec
+    (λ c. search needs)
     (λ c κs. search needs)
     (λ c κs. search needs)
     (λ c. search needs)

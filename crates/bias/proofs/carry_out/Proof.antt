@@ -24,30 +24,30 @@ values-of ev ef eo em en = λ ι. valuesOf (cellsOf (ev ι) (ef ι) (eo ι)) (em
 
 action-of-requires : tie.Need-action-of-requires
 action-of-requires c κs =
-    let known = c .before .before .before .before .before .before .before .before .before .before .before .before .before .before .before .before in
+    let known = c .before .before .before .before .before .before .before .before .before .before .before .before .before .before .before .before .before in
     let s = known .before .before in
     let a = s .args in
     task-room (now (a .state)) (λ k. known .slice-known .given k .fits) (s .pre .0) (now (a .image))
     (inputsOf (a .t) (now (a .inputs)) (a .start) (a .ramp-ended) (a .in-window)) (s .pre .1 .0) (a .task) (a .c)
-    (s .pre .1 .1 .1 .0) (s .pre .1 .1 .1 .1) .turns
+    (s .pre .1 .1 .1 .1 .0) (s .pre .1 .1 .1 .1 .1) .turns
 
 after-requires : tie.Need-after-requires
 after-requires c κs =
     let done = c .before .before .before .before .before in
-    let known = done .before .before .before .before .before .before .before .before .before .before .before .before .before .before .before .before .before in
+    let known = done .before .before .before .before .before .before .before .before .before .before .before .before .before .before .before .before .before .before in
     let s = known .before .before in
     let a = s .args in
     let bytes : Bytes (now (a .state)) = λ k. known .slice-known .given k .fits in
     let x = inputsOf (a .t) (now (a .inputs)) (a .start) (a .ramp-ended) (a .in-window) in (
-      task-room (now (a .state)) bytes (s .pre .0) (now (a .image)) x (s .pre .1 .0) (a .task) (a .c) (s .pre .1 .1 .1 .0) (s .pre .1 .1 .1 .1) .block,
+      task-room (now (a .state)) bytes (s .pre .0) (now (a .image)) x (s .pre .1 .0) (a .task) (a .c) (s .pre .1 .1 .1 .1 .0) (s .pre .1 .1 .1 .1 .1) .block,
       subst (λ (e : Effect). DepthAllows (a .task .depth) (e .outcome)) (sym (done .action-of .ensures))
-          (depth-allows (now (a .state)) bytes (s .pre .0) (now (a .image)) x (s .pre .1 .0) (a .task) (a .c) (s .pre .1 .1 .1 .0) (s .pre .1 .1 .1 .1) _ _ _),
+          (depth-allows (now (a .state)) bytes (s .pre .0) (now (a .image)) x (s .pre .1 .0) (a .task) (a .c) (s .pre .1 .1 .1 .1 .0) (s .pre .1 .1 .1 .1 .1) _ _ _ _),
     )
 
 encode-parts-requires : tie.Need-encode-parts-requires
 encode-parts-requires c κs =
     let k1 = c .before .before .before .before .before .before .before .before .before .before .before .before in
-    let known = k1 .before .before .before .before .before .before .before .before .before .before .before .before .before .before .before .before .before in
+    let known = k1 .before .before .before .before .before .before .before .before .before .before .before .before .before .before .before .before .before .before in
     let s = known .before .before in
     state-long (now (s .args .state)) (λ k. known .slice-known .given k .fits) (s .pre .0)
 
@@ -66,14 +66,14 @@ returns c =
     let k11 = k10 .before .before in
     let k12 = k11 .before .before in
     let k13 = k12 .before .before in
-    let known = k13 .before .before .before in
+    let known = k13 .before .before .before .before in
     let s = known .before .before in
     let a = s .args in
     let e = carried-is (now (a .state))
     (λ k. known .slice-known .given k .fits) (s .pre .0) (now (a .image)) (inputsOf (a .t) (now (a .inputs)) (a .start) (a .ramp-ended) (a .in-window))
     (s .pre .1 .0) (a .task) (a .c)
-    (s .pre .1 .1 .1 .0) (s .pre .1 .1 .1 .1) (k7 .action-of .result) _ _ _ _ _ _ _ _ _ _ _
-    (s .pre .1 .1 .0) (k13 .tasks-in .ensures)
+    (s .pre .1 .1 .1 .1 .0) (s .pre .1 .1 .1 .1 .1) (k7 .action-of .result) _ _ _ _ _ _ _ _ _ _ _ _
+    (s .pre .1 .1 .0) (s .pre .1 .1 .1 .0) (k13 .tasks-in .ensures)
     (values-of (k12 .variables-in .ensures) (k11 .flags-in .ensures) (k10 .outputs-in .ensures) (k9 .motion-in .ensures) (k8 .notes-in .ensures))
     (k7 .action-of .ensures) (k6 .make-change .ensures .0) (k6 .make-change .ensures .1) (k5 .notes-after .ensures) (k4 .after .ensures) (k3 .point-of .ensures)
     (k2 .answer-to .ensures) in
@@ -84,27 +84,27 @@ carry-out-spec =
     tie.close
     (tie.spec
     (λ c κs.
-    let known = c .before .before in
+    let known = c .before .before .before in
     let s = known .before .before in
     state-long (now (s .args .state)) (λ k. known .slice-known .given k .fits) (s .pre .0))
     (λ c κs.
-    let known = c .before .before .before .before in
+    let known = c .before .before .before .before .before in
     let s = known .before .before in
     state-long (now (s .args .state)) (λ k. known .slice-known .given k .fits) (s .pre .0))
     (λ c κs.
-    let known = c .before .before .before .before .before .before in
+    let known = c .before .before .before .before .before .before .before in
     let s = known .before .before in
     state-long (now (s .args .state)) (λ k. known .slice-known .given k .fits) (s .pre .0))
     (λ c κs.
-    let known = c .before .before .before .before .before .before .before .before in
+    let known = c .before .before .before .before .before .before .before .before .before in
     let s = known .before .before in
     state-long (now (s .args .state)) (λ k. known .slice-known .given k .fits) (s .pre .0))
     (λ c κs.
-    let known = c .before .before .before .before .before .before .before .before .before .before in
+    let known = c .before .before .before .before .before .before .before .before .before .before .before in
     let s = known .before .before in
     state-long (now (s .args .state)) (λ k. known .slice-known .given k .fits) (s .pre .0))
     (λ c κs.
-    let known = c .before .before .before .before .before .before .before .before .before .before .before .before in
+    let known = c .before .before .before .before .before .before .before .before .before .before .before .before .before in
     let s = known .before .before in
     state-long (now (s .args .state)) (λ k. known .slice-known .given k .fits) (s .pre .0))
     action-of-requires

@@ -2,9 +2,10 @@
 use borrow.Author.Needs.{needs}
 use mathlib.Core.Path.{sym, ap, _∙_}
 use native.Mathlib.Omega.{arith}
+use lib.ListN.{getD}
 use borrow.Author.Tests.{not-true, not-false}
 use Rattle.image_result.specs.ImageResult.{done}
-use Rattle.image_header.specs.Scan.{scannedHeader, firstRefusal}
+use Rattle.image_header.specs.Scan.{firstRefusal}
 use Rattle.image_writer.specs.Writer.{roomResult, writtenWith, judgedWrite}
 use Rattle.image_header.proofs.Read.{neither}
 use Rattle.image_writer.proofs.Judged.{room-right}
@@ -27,9 +28,9 @@ add-t14 c =
     let told = o .ensures ∙ ap (firstRefusal (st .args .s .result)) (c .before .before .before .judge-room .ensures) in
     let d = c .before .is-done in
     let s = st .args .s in
-    let room = roomResult (s .at) (scannedHeader s .count) (st .args .blocks) (st .args .room) in
+    let room = roomResult (s .at) (getD (s .numbers) 5 0) (st .args .blocks) (st .args .room) in
     let ok = sym (ap done told) ∙ sym (d .ensures) ∙ not-false (d .result) (c .if1 .left) in
-    let r = room-right (s .at) (scannedHeader s .count) (st .args .blocks) (st .args .room) (neither (s .result) room ok .1) .1 in
+    let r = room-right (s .at) (getD (s .numbers) 5 0) (st .args .blocks) (st .args .room) (neither (s .result) room ok .1) .1 in
     let h = st .fits .room .fits in
     omega arith
 
@@ -47,7 +48,7 @@ fit-spec =
     tie.close
     (tie.spec
     (λ c. search needs)
-    (λ c κs. let p = c .before .pre in (p .0, p .1 .count))
+    (λ c κs. c .before .pre)
     (λ c κs. search needs)
     (λ c κs. search needs)
     (λ c κs. search needs)

@@ -33,17 +33,17 @@ effect-in P (r ∷ rs) (All._&_ first rest) c e = go (eqb (c .code) (r .code)) r
     go false i k later = later k
 
 -- each code that is carried has a row of effects
-module _ (inputs : List ℕ) where
+module _ (inputs ls : List ℕ) where
   carried : ℕ → Columns → Bool
-  carried code r = has (effectRows inputs) code
+  carried code r = has (effectRows inputs ls) code
 
   all-carried : T (every carried rows)
   unfolding carried rows
   all-carried = tt
 
-  pub effect-of : (P : Command → CommandEffect → Type 0) → All (Of P) (effectRows inputs) → (c : Command) → rowOf (c .code) .carried ≡ true
-      → P c (effectIn (effectRows inputs) (c .code))
+  pub effect-of : (P : Command → CommandEffect → Type 0) → All (Of P) (effectRows inputs ls) → (c : Command) → rowOf (c .code) .carried ≡ true
+      → P c (effectIn (effectRows inputs ls) (c .code))
   unfolding rowOf carried
   effect-of P all c n =
-      ⊎-elim (λ (e : rowIn rows (c .code) ≡ noRow). clash (sym n ∙ ap (λ (r : Columns). r .carried) e)) (λ h. effect-in P (effectRows inputs) all c h)
+      ⊎-elim (λ (e : rowIn rows (c .code) ≡ noRow). clash (sym n ∙ ap (λ (r : Columns). r .carried) e)) (λ h. effect-in P (effectRows inputs ls) all c h)
       (every-row carried rows all-carried (c .code))

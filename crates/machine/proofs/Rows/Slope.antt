@@ -58,9 +58,9 @@ move-asks (Forward axis) e = refl
 move-asks (Backward axis) e = refl
 move-asks (Stop mode deceleration) e = clash (sym e)
 
-module _ (inputs : List ℕ) (g : Context) (c : Command) (v : Values) where
+module _ (inputs ls : List ℕ) (g : Context) (c : Command) (v : Values) where
   abbrev e : Effect
-  e = effectOf inputs g c v
+  e = effectOf inputs ls g c v
 
   -- a command of one of the four codes moves the axis in its own way, or waits
   record ByMove : Type 0 where
@@ -86,7 +86,7 @@ module _ (inputs : List ℕ) (g : Context) (c : Command) (v : Values) where
 
   -- of a command that is carried: a move is asked for exactly at the code of a move, where it starts
   pub moves-exactly : rowOf (c .code) .carried ≡ true → (isMove (e .request) ≡ true) ↔ ((isMoveCode (c .code) ≡ true) × Starts g v)
-  moves-exactly n = (λ i. let l = every-law inputs g c v n .move i in (l .0, starts-for g v (l .1)), λ k. from (by-move (k .0)) (started-exactly g v .1 (k .1)))
+  moves-exactly n = (λ i. let l = every-law inputs ls g c v n .move i in (l .0, starts-for g v (l .1)), λ k. from (by-move (k .0)) (started-exactly g v .1 (k .1)))
     where
       from : ByMove → started g (v .motion) (v .notes) ≡ true → isMove (e .request) ≡ true
       from b s = rw (b .effect, s) (b .move (axisOf firstAxis v))

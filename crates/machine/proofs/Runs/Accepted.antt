@@ -1,14 +1,13 @@
 -- What an accepted image promises to a run: its header was read, each block passes 5 to 8 and 23, and each point that a walk reaches breaks nothing.
-use Prim.Native.Nat.{ℕ, _<_, _≤_}
+use Prim.Native.Nat.{ℕ, _<_}
 use mathlib.Core.Path.{_≡_, refl, sym, ap}
 use mathlib.Core.Bool.{true}
 use mathlib.Core.List.{List, _∷_}
-use Rattle.limits.specs.Limits.{mostBlocks}
 use Rattle.image_result.specs.ImageResult.{done}
 use Rattle.image_header.specs.Scan.{headerOf, blocksOf}
 use Rattle.walk_flow.specs.Terms.{Terms, termsOf}
 use Rattle.logic.proofs.Choice.{clash}
-use Rattle.image_header.proofs.HeaderGood.{header-good}
+use Rattle.walk.proofs.Points.Bounds.{image-bounds}
 use Rattle.walk_fault.specs.Fault.{isForeign, isBad}
 use Rattle.walk_flow.specs.Flow.{flowOf}
 use Rattle.walk_point.specs.declared.Point.{Point}
@@ -17,7 +16,7 @@ use Rattle.walk_fault.specs.declared.Fault.the-variants.{Fine, Foreign, Forbidd
 use Rattle.walk.specs.Blocks.{commandAt, faultAt, blockNumber}
 use Rattle.walk.specs.Walk.{Walk, Reaches}
 use Rattle.walk.specs.Graph.{In}
-use Rattle.walk.specs.Successors.{leadsTo}
+use Rattle.walk.specs.Successors.{leadsTo, WalkBounds}
 use Rattle.walk.specs.Verdict.{verdictOf, isAccepted}
 use Rattle.walk.specs.IsVerdict.{IsWalksVerdict, IsVerdict}
 use Rattle.walk.specs.declared.Verdict.{Verdict}
@@ -73,21 +72,18 @@ module _ (image : List ℕ) where
     abbrev bs : List ℕ
     bs = body image
 
-    most : h .header .count ≤ mostBlocks
-    most = header-good image (is-done _ (ok .read)) .count .1
-
-    pub begins : h .header .start < h .header .count
-    begins = header-good image (is-done _ (ok .read)) .start
+    pub bounds : WalkBounds h
+    bounds = image-bounds image (is-done _ (ok .read))
 
     pub within : (p : Point) → Reaches h bs p → Within h p
-    within p r = reached-within h bs most begins p r
+    within p r = reached-within h bs bounds p r
 
     pub passing : (p : Point) → Reaches h bs p → Passes h (commandAt bs (p .block)) p
     unfolding faultAt
     passing p r = passes h (commandAt bs (p .block)) p (ok .fine p r)
 
     -- what follows a point that is reached is reached
-    pub reach-next : (p q : Point) → Reaches h bs p → In q (leadsTo p (flowOf h (commandAt bs (p .block)))) → Reaches h bs q
+    pub reach-next : (p q : Point) → Reaches h bs p → In q (leadsTo (h .landings) p (flowOf h (commandAt bs (p .block)))) → Reaches h bs q
     reach-next p q r m = record {
       path = p ∷ r .path;
       walk = Walk.onward q (r .walk) (ok .fine p r)

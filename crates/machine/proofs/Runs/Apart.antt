@@ -8,6 +8,7 @@ use mathlib.Core.List.{List, [], _∷_, map}
 use native.Mathlib.Omega.{arith}
 use lib.Dec.{eqb}
 use lib.ListN.{length, getD}
+use lib.IntN.{pos}
 use borrow.Author.Tests.{eqb-true, eq-eqb, ne-eqb}
 use Rattle.limits.specs.Limits.{bias, taskCount, mostDepth}
 use Rattle.walk_flow.specs.Terms.{termsOf}
@@ -15,7 +16,8 @@ use Rattle.image_header.specs.Scan.{headerOf, blocksOf}
 use Rattle.logic.proofs.Choice.{clash}
 use Rattle.walk_fault.specs.Fault.{faultNumber}
 use Rattle.walk_fault.specs.declared.Fault.{Fault}
-use Rattle.walk.specs.Walk.{starts}
+use Rattle.walk.specs.Graph.{In}
+use Rattle.walk.specs.Walk.{startsAnew}
 use Rattle.state.specs.State.{runs, ended, halted, taskAt}
 use Rattle.state.specs.declared.Notes.{Notes}
 use Rattle.state.specs.declared.Task.{Task}
@@ -23,12 +25,12 @@ use Rattle.state.specs.declared.Values.{Values}
 use Rattle.state.specs.declared.State.{State}
 use Rattle.machine.specs.Inputs.{Inputs}
 use Rattle.machine.specs.Effect.{isSet}
-use Rattle.machine.specs.Engine.{step, pointOf, stopped, blockFits}
+use Rattle.machine.specs.Engine.{step, pointOf, stopped, blockFits, termsHeld}
 use Rattle.machine.specs.Reference.{Thread, Machine, ReferenceOut, threadAt, idle}
 use Rattle.machine.specs.Alike.{returnsOf, SameTask, SameValues, Alike}
 use Rattle.machine.specs.Run.{SameHanded, Permitted}
 use Rattle.machine.specs.StepRule.{withoutLatest, counts, callsAfter, Past, pastAfter, isMoveCode, asksMotion, waitOver, levelNoted, commandOf}
-use Rattle.machine.specs.StepRule.{executed, Behind, Reason, Stopped, StepRule, EachStep}
+use Rattle.machine.specs.StepRule.{executed, contentOf, Behind, Reason, Stopped, StepRule, EachStep}
 use Rattle.machine.specs.declared.Cause.{Cause}
 use Rattle.machine.specs.declared.Request.the-variants.{None}
 use Rattle.machine.specs.declared.Answer.{Answer}
@@ -108,10 +110,10 @@ behind-is b _ bs Behind.latest = refl
 pub behind-some : {l : List ℕ} {c : ℕ} → Behind l c → l ≡ [] → ⊥
 behind-some Behind.latest e = let n = ap length e in omega arith
 
--- why a task stopped, what was answered, and what else changed: by 19 or 20
+-- why a task stopped, what was answered, and what else changed: by 19, 20 or 22
 pub record ByRefusal (image : List ℕ) (s : State) (x : Inputs) : Type 0 where
   pub cause : Cause
-  pub reason : Reason (commandOf image s x) (s .values) (taskAt s (x .task) .time) cause
+  pub reason : Reason (termsHeld s .landings) (commandOf image s x) (s .values) (taskAt s (x .task) .time) cause
   pub answer : step image s x .answer ≡ Halted cause (pointOf (x .task) (taskAt s (x .task)))
   pub values : step image s x .state .values ≡ levelNoted (x .task) (x .start) (s .values)
   pub task : taskAt (step image s x .state) (x .task) ≡ stopped halted (taskAt s (x .task))
@@ -134,8 +136,8 @@ module _ {image : List ℕ} {past : Past} {s : State} {x : Inputs} (e : StepRule
       → taskAt (step image s x .state) (x .task) .block ≡ b + 1
   returns-to b bs q a c = behind-is b _ bs (rw q at (e .returns a c))
 
-  -- a task that 54, 57 or 90 does not name stays as it is
-  pub stays-put : (t : ℕ) → t < taskCount → (t ≡ x .task → ⊥) → starts (commandOf image s x .code) t ≡ false → taskAt (step image s x .state) t ≡ taskAt s t
+  -- a task that 54, 57 or 90 does not name, nor 5B, stays as it is
+  pub stays-put : (t : ℕ) → t < taskCount → (t ≡ x .task → ⊥) → startsAnew (commandOf image s x .code) t ≡ false → taskAt (step image s x .state) t ≡ taskAt s t
   stays-put t l n f = ⊎-elim (λ q. q) (λ q. clash (sym (q .1) ∙ f)) (e .others t l n)
 
   -- and runs on
@@ -150,6 +152,30 @@ module _ {image : List ℕ} {past : Past} {s : State} {x : Inputs} (e : StepRule
   -- the header stays
   pub header-stays : step image s x .state .header ≡ s .header
   header-stays = e .header
+
+  -- and so does the landing list
+  pub landings-stay : step image s x .state .landings ≡ s .landings
+  landings-stay = e .landings
+
+  -- ---- part 9
+
+  -- a 56 that is executed came to a block of the landing list, and its variable holds that block's number
+  pub lands-listed : executed (step image s x .answer) ≡ true → commandOf image s x .code ≡ 0x56
+      → In (taskAt (step image s x .state) (x .task) .block) (termsHeld s .landings)
+      × (contentOf image s x ≡ pos (taskAt (step image s x .state) (x .task) .block))
+  lands-listed a c = let k = e .jumps a c in (k .listed, k .holds)
+
+  -- so has BIAS behind a 5B, which runs there from its program start, inside no call and with no wait
+  pub begins-listed : executed (step image s x .answer) ≡ true → commandOf image s x .code ≡ 0x5B
+      → In (taskAt (step image s x .state) bias .block) (termsHeld s .landings)
+      × (contentOf image s x ≡ pos (taskAt (step image s x .state) bias .block))
+  begins-listed a c = let k = e .begins a c .0 in (k .listed, k .holds)
+
+  pub begins-anew : executed (step image s x .answer) ≡ true → commandOf image s x .code ≡ 0x5B
+      → (taskAt (step image s x .state) bias .status ≡ runs) × ((taskAt (step image s x .state) bias .depth ≡ 0)
+      × ((taskAt (step image s x .state) bias .time ≡ 0) × ((taskAt (step image s x .state) bias .turns ≡ 0)
+      × (taskAt (step image s x .state) bias .start ≡ s .header .start))))
+  begins-anew a c = let k = e .begins a c .1 in (k .running, (k .outside, (k .time, (k .turns, k .start))))
 
   -- ---- part 8
 
@@ -185,6 +211,11 @@ module _ (image : List ℕ) (past : Past) (s : State) (x : Inputs) where
       → pastAfter image s x past .calls (x .task) ≡ withoutLatest (past .calls (x .task))
   unfolding pastAfter callsAfter counts
   tells-a-return a c = rw (a, c, eq-eqb (x .task) (x .task) refl) refl
+
+  -- a 5B leaves BIAS without any
+  pub tells-a-start : executed (step image s x .answer) ≡ true → commandOf image s x .code ≡ 0x5B → pastAfter image s x past .calls bias ≡ []
+  unfolding pastAfter callsAfter counts
+  tells-a-start a c = rw (a, c) refl
 
   -- a move of BIAS that was carried out
   pub tells-a-move : x .task ≡ bias → executed (step image s x .answer) ≡ true → isMoveCode (commandOf image s x .code) ≡ true

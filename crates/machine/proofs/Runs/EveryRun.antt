@@ -6,6 +6,7 @@ use native.Mathlib.Omega.{arith}
 use lib.ListN.{getD}
 use Rattle.limits.specs.Limits.{taskCount}
 use Rattle.num_le.specs.LittleEndian.{Bytes}
+use Rattle.image_header.specs.Scan.{landingsOf}
 use Rattle.walk.specs.Walk.{Walk}
 use Rattle.state.specs.State.{runs, noTask, taskAt, fresh, freshValues, running, neverStarted}
 use Rattle.state.specs.declared.Values.{Values}
@@ -21,7 +22,7 @@ use Rattle.machine.proofs.Runs.Accepted.{Accepted, accepted, hd, body, 
 use Rattle.machine.proofs.Steps.Reached.{Sound, never-sound}
 use Rattle.machine.proofs.Steps.Together.{Agree}
 use Rattle.machine.proofs.Steps.Agrees.{step-same}
-use Rattle.image_header.proofs.HeaderGood.{header-good}
+use Rattle.image_header.proofs.HeaderGood.{header-good, landings-good}
 use Rattle.image_result.proofs.Done.{is-done}
 use Rattle.state.specs.GoodState.{GoodState}
 use Rattle.state.proofs.Fresh.{fresh-good}
@@ -66,10 +67,11 @@ module _ (image : List ℕ) where
     wait = λ _. refl;
   }
 
-  fresh-agree : Agree image (fresh (hd image .header)) (referenceLoaded image)
+  fresh-agree : Agree image (loaded image) (referenceLoaded image)
   unfolding fresh referenceLoaded freshValues
   fresh-agree = record {
     header = refl;
+    landings = refl;
     both = record { three = refl; also = refl; sound = sound; same = same; first = refl };
     values = refl;
   }
@@ -142,5 +144,5 @@ every-value-run image n e xs =
       alike = alike image ok _ _ g;
       permitted = permitted image ok _ _ g;
       steps = each image ok (loaded image) (referenceLoaded image) noPast (fresh-agree image) (fresh-told image) xs;
-      good = λ b. goods image b (loaded image) (fresh-good (hd image .header) (header-good image (is-done _ (ok .read)))) xs;
+      good = λ b. goods image b (loaded image) (fresh-good (hd image .header) (header-good image (is-done _ (ok .read))) (landingsOf image) (landings-good image (is-done _ (ok .read)))) xs;
     }

@@ -1,6 +1,6 @@
 -- One step: from states that agree, the engine and the reference machine give the same answer and request, and agree afterwards.
 use Prim.Native.Nat.{ℕ}
-use mathlib.Core.Path.{_≡_, refl, ap, _∙_}
+use mathlib.Core.Path.{_≡_, refl, ap, subst, _∙_}
 use mathlib.Core.Bool.{true}
 use mathlib.Core.List.{List}
 use lib.ListN.{length}
@@ -23,7 +23,7 @@ use Rattle.machine.specs.declared.Outcome.the-variants.{GoOn, Stay, Jump
 use Rattle.machine.proofs.Runs.Accepted.{Accepted, hd}
 use Rattle.machine.proofs.Steps.TasksAfter.{turned}
 use Rattle.machine.proofs.Steps.Notes.{noted-alike}
-use Rattle.machine.proofs.Steps.Together.{Agree, Ran, Case, effectHere, threadOf, step-case}
+use Rattle.machine.proofs.Steps.Together.{Agree, Ran, Case, effectHere, threadOf, step-case, held-same}
 
 -- both answer alike
 answers-same : (o : Outcome) (t : ℕ) (task : Task) (p : Thread) → task .block ≡ p .block → task .depth ≡ length (p .returns)
@@ -57,13 +57,14 @@ module _ (image : List ℕ) where
     abbrev c : Command
     c = commandOf image s x
 
-    done-same : Ran image s m x → (e : Effect) → Allows (flowOf (hd image) c) (e .outcome) → timeless (c .code) (e .outcome) ≡ true
+    done-same : Ran image s m x → (e : Effect) → Allows (hd image .landings) (flowOf (hd image) c) (e .outcome) → timeless (c .code) (e .outcome) ≡ true
         → e .values .notes ≡ s .values .notes
         → SameStep (performed s x task e) (does m x p e)
     unfolding performed does
     done-same r e f w k = record {
       agree = record {
         header = g .header;
+        landings = g .landings;
         both = rw (g .header) (turned image ok (s .tasks) (m .threads) (g .both) t (r .task) (r .running) (e .outcome) f w);
         values = noted-alike s x task e (m .values .notes) (k ∙ ap (λ (v : Values). v .notes) (g .values));
       };
@@ -77,4 +78,4 @@ module _ (image : List ℕ) where
       where
         go : Case image s m x → SameStep (step image s x) (referenceStep image m x)
         go (Case.refused a n i j) = rw (i, j) (record { agree = g; request = refl; answer = refl })
-        go (Case.ran r) = rw (r .engine, r .reference) (done-same r (effectHere image s x) (r .law .outcome .flow) (r .law .outcome .calm) (r .law .notes))
+        go (Case.ran r) = rw (r .engine, r .reference) (done-same r (effectHere image s x) (subst (λ (l : List ℕ). Allows l (flowOf (hd image) c) (effectHere image s x .outcome)) (held-same image g) (r .law .outcome .flow)) (r .law .outcome .calm) (r .law .notes))

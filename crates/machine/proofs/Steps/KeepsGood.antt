@@ -13,7 +13,7 @@ use Rattle.logic.proofs.Lists.{at-set}
 use Rattle.limits.specs.Limits.{bias, taskCount, mostDepth, inputsLength}
 use Rattle.num_le.specs.LittleEndian.{Bytes}
 use Rattle.image_result.specs.ImageResult.{done}
-use Rattle.image_header.specs.Scan.{headerOf, blocksOf}
+use Rattle.image_header.specs.Scan.{headerOf, landingsOf, blocksOf}
 use Rattle.image_header.specs.declared.Header.{Header}
 use Rattle.logic.proofs.Choice.{both}
 use Rattle.command_operands.specs.declared.Command.{Command}
@@ -24,14 +24,15 @@ use Rattle.walk_point.specs.declared.Point.{Point}
 use Rattle.walk_fault.specs.declared.Fault.the-variants.{Fine}
 use Rattle.walk.specs.Blocks.{blockAt, commandAt, faultAt, blockNumber}
 use Rattle.walk.specs.Graph.{In}
-use Rattle.walk.specs.Successors.{leadsTo as walked, flowAt, successors}
+use Rattle.walk.specs.Successors.{leadsTo as walked, flowAt, successors, WalkBounds}
+use Rattle.walk.proofs.Points.Bounds.{good-bounds}
 use Rattle.walk.proofs.Points.Within.{Within, Passes, passes, successors-within}
 use Rattle.state.specs.State.{runs, ended, halted, noTask, taskAt}
 use Rattle.state.specs.GoodState.{GoodWait, GoodTask, GoodState}
 use Rattle.state.specs.declared.Task.{Task}
 use Rattle.state.specs.declared.State.{State}
 use Rattle.state.proofs.Fresh.{getD-replicate}
-use Rattle.walk_flow.specs.Terms.{under}
+use Rattle.walk_flow.specs.Terms.{Terms}
 use Rattle.machine.specs.Inputs.{Inputs}
 use Rattle.machine.specs.Effect.{effectOf}
 use Rattle.machine.specs.Engine.{goTo, stayWith, callTo, returnFrom, startAnew, restarted, stopped, tasksAfter, pointOf, contextOf, performed, isLoaded}
@@ -203,6 +204,12 @@ module _ (image : List ℕ) (bytes : Bytes image) (s : State) (g : GoodState s) 
   abbrev h : Header
   h = s .header
 
+  abbrev terms : Terms
+  terms = termsHeld s
+
+  abbrev ls : List ℕ
+  ls = terms .landings
+
   abbrev bs : List ℕ
   bs = blocksOf image
 
@@ -213,37 +220,40 @@ module _ (image : List ℕ) (bytes : Bytes image) (s : State) (g : GoodState s) 
   c = commandAt bs (own .block)
 
   abbrev e : Effect
-  e = effectOf (x .levels) (contextOf s own x) c (s .values)
+  e = effectOf (x .levels) ls (contextOf s own x) c (s .values)
 
   known : GoodTask h own
   known = g .task t l
 
   -- the block, by 5 to 8 and 23, and at its point by 9 to 12
-  block-fits : (eqb (blockNumber (under h) bs (own .block)) 0 ≡ true) × (eqb (faultNumber (faultAt (under h) bs p)) 0 ≡ true)
+  block-fits : (eqb (blockNumber terms bs (own .block)) 0 ≡ true) × (eqb (faultNumber (faultAt terms bs p)) 0 ≡ true)
   unfolding fits
   block-fits =
-      let a = both (isLoaded (headerOf image) h) (blockFits (under h) bs t own && waitFits bs own) pass in
-      let b = both (blockFits (under h) bs t own) (waitFits bs own) (a .1) in
-      both (eqb (blockNumber (under h) bs (own .block)) 0) (eqb (faultNumber (faultAt (under h) bs p)) 0) (b .0)
+      let a = both (isLoaded (headerOf image) (landingsOf image) terms) (blockFits terms bs t own && waitFits bs own) pass in
+      let b = both (blockFits terms bs t own) (waitFits bs own) (a .1) in
+      both (eqb (blockNumber terms bs (own .block)) 0) (eqb (faultNumber (faultAt terms bs p)) 0) (b .0)
 
-  fault-free : faultAt (under h) bs p ≡ Fine
-  fault-free = no-fault (faultAt (under h) bs p) (eqb-true _ 0 (block-fits .1))
+  fault-free : faultAt terms bs p ≡ Fine
+  fault-free = no-fault (faultAt terms bs p) (eqb-true _ 0 (block-fits .1))
 
-  passed : Passes (under h) c p
+  passed : Passes terms c p
   unfolding faultAt
-  passed = passes (under h) c p fault-free
+  passed = passes terms c p fault-free
+
+  bounds : WalkBounds terms
+  bounds = good-bounds h (s .landings) (g .header) (g .landings)
 
   -- what follows is in the image
-  next : (q : Point) → In q (walked p (flowOf (under h) c)) → Within (under h) q
+  next : (q : Point) → In q (walked ls p (flowOf terms c)) → Within terms q
   unfolding successors flowAt
-  next q m = successors-within (under h) bs p q (record { task = l; block = known .block; depth = known .depth }) (rw fault-free m)
+  next q m = successors-within terms bounds bs p q (record { task = l; block = known .block; depth = known .depth }) (rw fault-free m)
 
   pub fit-here : Fit (h .count) c
   unfolding commandAt
   fit-here = fit h (blockAt bs (own .block)) (bytes-at image bytes (own .block)) (eqb-true _ 0 (block-fits .0))
 
-  pub law : Law (c .code) c (contextOf s own x) (s .values) e
-  law = every-law (x .levels) (contextOf s own x) c (s .values) (used-carried (under h) (c .code) t (passed .allowed))
+  pub law : Law ls (c .code) c (contextOf s own x) (s .values) e
+  law = every-law (x .levels) ls (contextOf s own x) c (s .values) (used-carried terms (c .code) t (passed .allowed))
 
   tasks : GoodTasks h (s .tasks)
   tasks = record { three = g .three; task = g .task; first = g .first }
@@ -258,29 +268,29 @@ module _ (image : List ℕ) (bytes : Bytes image) (s : State) (g : GoodState s) 
   goes-on b i = here (goTo b own) (go-good h own known b i) refl
 
   -- another task starts, or the own one does
-  starts : (u a : ℕ) → Allows (flowOf (under h) c) (Start u a) → Dec (u ≡ t)
+  starts : (u a : ℕ) → Allows ls (flowOf terms c) (Start u a) → Dec (u ≡ t)
       → GoodTasks h (set (set (s .tasks) t (goTo (own .block + 1) own)) u (startAnew (h .start) u a))
   starts u a m (no n) =
-      let w = next _ (start-in p (flowOf (under h) c) u a m) in
+      let w = next _ (start-in ls p (flowOf terms c) u a m) in
       put-good h (set (s .tasks) t (goTo (own .block + 1) own)) u (startAnew (h .start) u a)
-      (goes-on (own .block + 1) (next _ (start-on p (flowOf (under h) c) u a m n) .block)) (w .task) (start-good h u a (w .block) (g .header .start))
+      (goes-on (own .block + 1) (next _ (start-on ls p (flowOf terms c) u a m n) .block)) (w .task) (start-good h u a (w .block) (g .header .start))
       (λ i. rw i refl)
   starts u a m (yes i) =
-      let w = next _ (start-in p (flowOf (under h) c) u a m) in
+      let w = next _ (start-in ls p (flowOf terms c) u a m) in
       rw (i, set-set (s .tasks) t (goTo (own .block + 1) own) (startAnew (h .start) t a))
       (put-good h (s .tasks) t (startAnew (h .start) t a) tasks l (start-good h t a (w .block) (g .header .start)) (λ j. rw j refl))
 
-  turned : (o : Outcome) → Allows (flowOf (under h) c) o → Staying (h .drive .model) o → GoodTasks h (tasksAfter (h .start) t own o (s .tasks))
-  turned GoOn m w = goes-on (own .block + 1) (next _ (on-in p (flowOf (under h) c) m) .block)
+  turned : (o : Outcome) → Allows ls (flowOf terms c) o → Staying (h .drive .model) o → GoodTasks h (tasksAfter (h .start) t own o (s .tasks))
+  turned GoOn m w = goes-on (own .block + 1) (next _ (on-in ls p (flowOf terms c) m) .block)
   turned (Stay time turns) m w = here (stayWith time turns own) (stay-good h own known time turns w) refl
-  turned (Jump a) m w = goes-on a (next _ (jump-in p (flowOf (under h) c) a m) .block)
+  turned (Jump a) m w = goes-on a (next _ (jump-in ls p (flowOf terms c) a m) .block)
   turned (Call a) m w =
-      let d = leb-false mostDepth (own .depth) (sym (call-deep p (flowOf (under h) c) a m) ∙ passed .shallow) in
-      here (callTo a own) (call-good h own known a (next _ (call-in p (flowOf (under h) c) a m) .block) (next _ (behind-in p (flowOf (under h) c) a m) .block)
+      let d = leb-false mostDepth (own .depth) (sym (call-deep ls p (flowOf terms c) a m) ∙ passed .shallow) in
+      here (callTo a own) (call-good h own known a (next _ (call-in ls p (flowOf terms c) a m) .block) (next _ (behind-in ls p (flowOf terms c) a m) .block)
       d)
       refl
   turned Return m w =
-      here (returnFrom own) (return-good h own known (eqb-false (own .depth) 0 (sym (return-deep p (flowOf (under h) c) m) ∙ passed .called))) refl
+      here (returnFrom own) (return-good h own known (eqb-false (own .depth) 0 (sym (return-deep ls p (flowOf terms c) m) ∙ passed .called))) refl
   turned (Start u a) m w = starts u a m (ℕ-discrete u t)
   turned Restart m w = here (restarted own) (restart-good h own known) refl
   turned End m w = here (stopped ended own) (stop-good h own known ended (omega arith)) refl
@@ -292,6 +302,7 @@ module _ (image : List ℕ) (bytes : Bytes image) (s : State) (g : GoodState s) 
       let d = turned (e .outcome) (law .outcome .flow) (law .outcome .wait (h .count) fit-here (known .wait)) in
       record {
         header = g .header;
+        landings = g .landings;
         values = noted-good t (x .start) (e .outcome) (e .request) (e .values) (law .values (h .count) fit-here (g .values));
         three = d .three;
         task = d .task;

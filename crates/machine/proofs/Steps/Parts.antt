@@ -1,4 +1,4 @@
--- Parts 4 to 6 and 8 of the theorem at one step of a run.
+-- Parts 4 to 6, 8 and 9 of the theorem at one step of a run.
 use Prim.Native.Nat.{ℕ, zero, suc, _+_, _<_}
 use mathlib.Core.Path.{_≡_, refl, sym, ap, subst, _∙_}
 use mathlib.Core.Bool.{Bool, true, false, _&&_, not, cond, and-false}
@@ -7,6 +7,7 @@ use mathlib.Core.List.{List, [], _∷_}
 use native.Mathlib.Omega.{arith}
 use native.Mathlib.Decide.{ℕ-discrete}
 use lib.Dec.{eqb}
+use lib.IntN.{ℤ}
 use lib.ListN.{length, getD, set, length-set}
 use lib.Seq.{getD-set-same, getD-set-other}
 use borrow.Author.Tests.{eqb-false, eq-eqb, ne-eqb}
@@ -21,25 +22,27 @@ use Rattle.walk_point.specs.declared.Point.{Point}
 use Rattle.walk_flow.specs.declared.Flow.{Flow}
 use Rattle.walk_flow.specs.declared.Flow.the-variants as flow
 use Rattle.walk.specs.Blocks.{blockAt, commandAt}
-use Rattle.walk.specs.Walk.{starts}
+use Rattle.walk.specs.Walk.{startsAnew}
 use Rattle.walk.proofs.Steps.Moves.{Flows, carried}
 use Rattle.state.specs.State.{runs, ended, halted, noTask, taskAt, withNotes}
 use Rattle.state.specs.declared.Task.{Task}
 use Rattle.state.specs.declared.Values.{Values}
 use Rattle.state.specs.declared.State.{State}
 use Rattle.machine.specs.Inputs.{Inputs, level}
-use Rattle.machine.specs.Effect.{bit, isSet, arrived}
+use Rattle.machine.specs.Effect.{bit, isSet, arrived, natural, isLanding}
 use Rattle.machine.specs.Engine.{goTo, callTo, returnFrom, stayWith, restarted, startAnew, tasksAfter, pointOf, contextOf, notesAfter, answerTo}
-use Rattle.machine.specs.Engine.{performed, step, stopped}
+use Rattle.machine.specs.Engine.{performed, step, stopped, termsHeld}
 use Rattle.machine.specs.declared.StepOut.{StepOut}
 use Rattle.machine.specs.Reference.{Thread, Machine, ReferenceOut, idle, goesTo, back, anew, follows, does, referenceStep}
 use Rattle.machine.specs.StepRule.{Calls, withCalls, withoutLatest, callsAfter, executed, commandOf, Behind, Stopped}
-use Rattle.machine.specs.StepRule.{movedLast, waitOver, Past, pastAfter, StepRule}
+use Rattle.machine.specs.StepRule.{movedLast, waitOver, LandsAt, Anew, contentOf, Past, pastAfter, StepRule}
 use Rattle.machine.specs.Allows.{Allows}
 use Rattle.machine.specs.declared.Cause.{Cause}
+use Rattle.machine.specs.declared.Cause.the-variants.{NoLanding}
 use Rattle.machine.specs.declared.Outcome.{Outcome}
 use Rattle.machine.specs.declared.Outcome.the-variants.{GoOn, Stay, Jump, Call, Return, Start, Restart, End, Halt}
-use Rattle.machine.proofs.Rows.Forms.{Halting, Ranged}
+use Rattle.machine.proofs.Rows.Forms.{Halting, Ranged, landing-is}
+use Rattle.machine.proofs.Rows.Landings.{jump-outcome, start-outcome}
 use Rattle.machine.proofs.Rows.Operands.{in-ranges}
 use Rattle.state.proofs.Setters.{kept-set}
 use Rattle.machine.proofs.Runs.Accepted.{Accepted, hd, body, within}
@@ -98,24 +101,30 @@ back-count c p e = subst (λ (r : List ℕ). behinds (withoutLatest c) ≡ back 
     go [] e = e
     go (b ∷ bs) e = refl
 
--- a command counts calls as the reference machine follows its outcome
-follows-count : (calls : Calls) (l : List Thread) (t b : ℕ) → t < length l → b ≡ getD l t idle .block → Counts calls l → (f : Flow) (o : Outcome) → Allows f o
-    → Counts (countF f t b calls) (follows t (getD l t idle) o l)
+-- a command that is executed counts calls as the reference machine follows its outcome; one that halts its task counts none
+follows-count : (ls : List ℕ) (calls : Calls) (l : List Thread) (t b : ℕ) (p : Point) → t < length l → b ≡ getD l t idle .block → Counts calls l
+    → (f : Flow) (o : Outcome) → Allows ls f o
+    → Counts (cond (executed (answerTo o p)) (countF f t b calls) calls) (follows t (getD l t idle) o l)
 unfolding follows
-follows-count calls l t b i e n _ _ Allows.on = same-count calls l t _ i n refl
-follows-count calls l t b i e n _ _ Allows.halt = same-count calls l t _ i n refl
-follows-count calls l t b i e n _ _ Allows.over = same-count calls l t _ i n refl
-follows-count calls l t b i e n _ _ Allows.stay = same-count calls l t _ i n refl
-follows-count calls l t b i e n _ _ Allows.refuse = same-count calls l t _ i n refl
-follows-count calls l t b i e n _ _ Allows.jump = same-count calls l t _ i n refl
-follows-count calls l t b i e n _ _ Allows.branch = same-count calls l t _ i n refl
-follows-count calls l t b i e n _ _ Allows.pass = same-count calls l t _ i n refl
-follows-count calls l t b i e n _ _ Allows.call = with-count calls l t _ (b ∷ calls t) i n (rw (e, n t) refl)
-follows-count calls l t b i e n _ _ Allows.return = with-count calls l t _ (withoutLatest (calls t)) i n (back-count (calls t) (getD l t idle) (n t))
-follows-count calls l t b i e n _ (Start u a) Allows.start =
+follows-count ls calls l t b p i e n _ _ Allows.on = same-count calls l t _ i n refl
+follows-count ls calls l t b p i e n _ _ Allows.halt = same-count calls l t _ i n refl
+follows-count ls calls l t b p i e n _ _ Allows.over = same-count calls l t _ i n refl
+follows-count ls calls l t b p i e n _ _ Allows.stay = same-count calls l t _ i n refl
+follows-count ls calls l t b p i e n _ _ Allows.refuse = same-count calls l t _ i n refl
+follows-count ls calls l t b p i e n _ _ Allows.jump = same-count calls l t _ i n refl
+follows-count ls calls l t b p i e n _ _ Allows.branch = same-count calls l t _ i n refl
+follows-count ls calls l t b p i e n _ _ Allows.pass = same-count calls l t _ i n refl
+follows-count ls calls l t b p i e n _ _ Allows.call = with-count calls l t _ (b ∷ calls t) i n (rw (e, n t) refl)
+follows-count ls calls l t b p i e n _ _ Allows.return = with-count calls l t _ (withoutLatest (calls t)) i n (back-count (calls t) (getD l t idle) (n t))
+follows-count ls calls l t b p i e n _ (Start u a) Allows.start =
     empty-count calls (set l t (goesTo (getD l t idle .block + 1) (getD l t idle))) u (anew u a l) (same-count calls l t _ i n refl) refl
-follows-count calls l t b i e n _ _ Allows.restart = empty-count calls l t _ n refl
-follows-count calls l t b i e n _ _ Allows.end = same-count calls l t _ i n refl
+follows-count ls calls l t b p i e n _ _ Allows.restart = empty-count calls l t _ n refl
+follows-count ls calls l t b p i e n _ _ Allows.end = same-count calls l t _ i n refl
+follows-count ls calls l t b p i e n _ _ (Allows.land m) = same-count calls l t _ i n refl
+follows-count ls calls l t b p i e n _ _ Allows.astray = same-count calls l t _ i n refl
+follows-count ls calls l t b p i e n _ (Start u a) (Allows.begin m) =
+    empty-count calls (set l t (goesTo (getD l t idle .block + 1) (getD l t idle))) u (anew u a l) (same-count calls l t _ i n refl) refl
+follows-count ls calls l t b p i e n _ _ Allows.unbegun = same-count calls l t _ i n refl
 
 -- ---- tasks after an outcome
 
@@ -154,25 +163,8 @@ own-task first t task (Halt q) l i r s = inr (q, refl)
 
 -- ---- the step
 
-return-only : (o : Outcome) → Allows flow.Return o → o ≡ Return
-return-only _ Allows.return = refl
-
--- a command that halts its task counts no call
-executed-count : (calls : Calls) (t b : ℕ) (p : Point) (f : Flow) (o : Outcome) → Allows f o
-    → cond (executed (answerTo o p)) (countF f t b calls) calls ≡ countF f t b calls
-executed-count calls t b p _ _ Allows.on = refl
-executed-count calls t b p _ _ Allows.halt = refl
-executed-count calls t b p _ _ Allows.over = refl
-executed-count calls t b p _ _ Allows.stay = refl
-executed-count calls t b p _ _ Allows.refuse = refl
-executed-count calls t b p _ _ Allows.jump = refl
-executed-count calls t b p _ _ Allows.branch = refl
-executed-count calls t b p _ _ Allows.pass = refl
-executed-count calls t b p _ _ Allows.call = refl
-executed-count calls t b p _ _ Allows.return = refl
-executed-count calls t b p _ _ Allows.start = refl
-executed-count calls t b p _ _ Allows.restart = refl
-executed-count calls t b p _ _ Allows.end = refl
+return-only : (ls : List ℕ) (o : Outcome) → Allows ls flow.Return o → o ≡ Return
+return-only ls _ Allows.return = refl
 
 -- what is told of the steps before is what the states hold: the open calls and the note of a move
 pub record Told (past : Past) (s : State) (m : Machine) : Type 0 where
@@ -204,6 +196,12 @@ module _ (image : List ℕ) (ok : Accepted image) (s : State) (m : Machine) (g :
     abbrev c : Command
     c = commandOf image s x
 
+    abbrev ls : List ℕ
+    ls = termsHeld s .landings
+
+    abbrev z : ℤ
+    z = contentOf image s x
+
     abbrev o : Outcome
     o = effectHere image s x .outcome
 
@@ -214,7 +212,7 @@ module _ (image : List ℕ) (ok : Accepted image) (s : State) (m : Machine) (g :
       flows : Flows (c .code) (rowOf (c .code) .flow)
       flows = carried (hd image) (c .code) t (r .passes .allowed)
 
-      in-flow : Allows (flowOf (hd image) c) o
+      in-flow : Allows (ls) (flowOf (hd image) c) o
       unfolding flowOf
       in-flow = r .law .outcome .flow
 
@@ -243,32 +241,32 @@ module _ (image : List ℕ) (ok : Accepted image) (s : State) (m : Machine) (g :
       unfolding does
       threads-are = ap (λ (q : ReferenceOut). q .machine .threads) (r .reference)
 
-      calls-are : callsAfter image s x calls ≡ countF (flowOf (hd image) c) t b calls
+      calls-are : callsAfter image s x calls ≡ cond (executed (answerTo o (pointOf t task))) (countF (flowOf (hd image) c) t b calls) calls
       unfolding callsAfter
-      calls-are = rw (answer-is, counts-flow (hd image) c flows t b calls) (executed-count calls t b (pointOf t task) (flowOf (hd image) c) o in-flow)
+      calls-are = rw (answer-is, counts-flow (hd image) c flows t b calls)
 
       counted : Counts (callsAfter image s x calls) (referenceStep image m x .machine .threads)
       counted =
           let e = g .both .also in
           let l = r .task in
-          rw (calls-are, threads-are) (follows-count calls (m .threads) t b (omega arith) (g .both .same t (r .task) .block (r .running)) n
+          rw (calls-are, threads-are) (follows-count (ls) calls (m .threads) t b (pointOf t task) (omega arith) (g .both .same t (r .task) .block (r .running)) n
           (flowOf (hd image) c)
           o in-flow)
 
       part4 : c .code ≡ 0x53 → Behind (calls t) (taskAt (step image s x .state) t .block)
       part4 e =
           let f = return-flow (hd image) c flows e in
-          let i = return-only o (subst (λ (q : Flow). Allows q o) f in-flow) in
+          let i = return-only (ls) o (subst (λ (q : Flow). Allows (ls) q o) f in-flow) in
           let z : eqb (task .depth) 0 ≡ false = subst (λ (q : Flow). noCall q (task .depth) ≡ false) f (r .passes .called) in
           rw (tasks-are, i, getD-set-same (s .tasks) t (returnFrom task) noTask present)
           (latest-is (calls t) _ _ (n t ∙ sym (g .both .same t (r .task) .returns (r .running))
           ∙ returns-return (task .stack) (task .depth) (eqb-false (task .depth) 0 z)))
 
       part6 : (u : ℕ) → (u ≡ t → ⊥)
-          → (taskAt (step image s x .state) u ≡ taskAt s u) ⊎ ((executed (step image s x .answer) ≡ true) × (starts (c .code) u ≡ true))
+          → (taskAt (step image s x .state) u ≡ taskAt s u) ⊎ ((executed (step image s x .answer) ≡ true) × (startsAnew (c .code) u ≡ true))
       part6 u d =
           ⊎-elim (λ e. inl (rw tasks-are e))
-          (λ i. inr (rw (answer-is, i .1) refl, start-code (hd image) c flows u (i .0) (subst (Allows (flowOf (hd image) c)) (i .1) in-flow)))
+          (λ i. inr (rw (answer-is, i .1) refl, start-code (hd image) c flows (ls) u (i .0) (subst (Allows (ls) (flowOf (hd image) c)) (i .1) in-flow)))
           (other-task (s .header .start) t task o (s .tasks) u d)
 
       ranged : Ranged (hd image .header .count) c
@@ -284,13 +282,17 @@ module _ (image : List ℕ) (ok : Accepted image) (s : State) (m : Machine) (g :
       unfolding performed
       header-is = ap (λ (q : StepOut). q .state .header) (r .engine)
 
+      landings-are : step image s x .state .landings ≡ s .landings
+      unfolding performed
+      landings-are = ap (λ (q : StepOut). q .state .landings) (r .engine)
+
       stopped-by : (o ≡ End) ⊎ ((j : Cause) × (o ≡ Halt j)) → Stopped image s x
       stopped-by (inl e) =
-          let q = end-code (hd image) c flows t (r .passes .own) (subst (Allows (flowOf (hd image) c)) e in-flow) in
+          let q = end-code (hd image) c flows (ls) t (r .passes .own) (subst (Allows (ls) (flowOf (hd image) c)) e in-flow) in
           Stopped.byItself (q .0) (q .1) (answer-is ∙ rw e refl) (stays-put (stopped ended task) (rw e refl))
       stopped-by (inr (j, e)) =
           let q = r .law .still (rw e refl) in
-          Stopped.byRefusal j (subst (Halting c (s .values) (task .time)) e (r .law .outcome .halt (hd image .header .count) ranged)) (answer-is ∙ rw e refl)
+          Stopped.byRefusal j (subst (Halting (ls) c (s .values) (task .time)) e (r .law .outcome .halt (hd image .header .count) ranged)) (answer-is ∙ rw e refl)
           (values-are ∙ rw (e, q .0) (level-noted t (x .start) j (effectHere image s x .request) (s .values))) (stays-put (stopped halted task) (rw e refl))
           (request-is ∙ q .1)
 
@@ -303,10 +305,10 @@ module _ (image : List ℕ) (ok : Accepted image) (s : State) (m : Machine) (g :
       moved-is =
           ap (λ (v : Values). v .notes .moved) values-are
           ∙ moved-told t (x .start) (effectHere image s x) (s .values) (pointOf t task) (past .moved) (r .law .notes) (told .moved)
-          ∙ rw (answer-is, request-is, ← move-is (x .levels) (contextOf s task x) c (s .values) (used-carried (hd image) (c .code) t (r .passes .allowed))) refl
+          ∙ rw (answer-is, request-is, ← move-is (x .levels) (ls) (contextOf s task x) c (s .values) (used-carried (hd image) (c .code) t (r .passes .allowed))) refl
 
       part8 : c .code ≡ 0x58 → taskAt (step image s x .state) t .block ≡ cond (waitOver x (past .moved)) (b + 1) b
-      part8 i = go (waitOver x (past .moved)) (position-outcome (x .levels) (contextOf s task x) c (s .values) i ∙ rw over refl)
+      part8 i = go (waitOver x (past .moved)) (position-outcome (x .levels) (ls) (contextOf s task x) c (s .values) i ∙ rw over refl)
         where
           over : arrived (contextOf s task x) (s .values .notes) ≡ waitOver x (past .moved)
           over =
@@ -316,6 +318,33 @@ module _ (image : List ℕ) (ok : Accepted image) (s : State) (m : Machine) (g :
           go : (q : Bool) → o ≡ cond q GoOn (Stay 0 0) → taskAt (step image s x .state) t .block ≡ cond q (b + 1) b
           go true e = ap (λ (k : Task). k .block) (stays-put (goTo (b + 1) task) (rw e refl))
           go false e = ap (λ (k : Task). k .block) (stays-put (stayWith 0 0 task) (rw e refl))
+
+      -- a command that lands is executed where its variable holds a landing block
+      landed : (k : ℕ → Outcome) → o ≡ cond (isLanding ls z) (k (natural z)) (Halt NoLanding) → executed (step image s x .answer) ≡ true
+          → (o ≡ k (natural z)) × LandsAt ls z (natural z)
+      landed k e a = go (isLanding ls z) refl e
+        where
+          go : (q : Bool) → isLanding ls z ≡ q → o ≡ cond q (k (natural z)) (Halt NoLanding) → (o ≡ k (natural z)) × LandsAt ls z (natural z)
+          go true i e = let l = landing-is ls z i in (e, record { listed = l .0; holds = l .1 })
+          go false i e = clash (sym a ∙ ap executed answer-is ∙ ap (λ (q : Outcome). executed (answerTo q (pointOf t task))) e)
+
+      jumped : executed (step image s x .answer) ≡ true → c .code ≡ 0x56 → LandsAt ls z (taskAt (step image s x .state) t .block)
+      jumped a i =
+          let k = landed Jump (jump-outcome (x .levels) ls (contextOf s task x) c (s .values) i) a in
+          rw (ap (λ (q : Task). q .block) (stays-put (goTo (natural z) task) (rw (k .0) refl))) (k .1)
+
+      begun : executed (step image s x .answer) ≡ true → c .code ≡ 0x5B
+          → LandsAt ls z (taskAt (step image s x .state) bias .block)
+          × Anew (s .header .start) (taskAt (step image s x .state) bias .block) (taskAt (step image s x .state) bias)
+      begun a i =
+          let k = landed (Start bias) (start-outcome (x .levels) ls (contextOf s task x) c (s .values) i) a in
+          let e : taskAt (step image s x .state) bias ≡ startAnew (s .header .start) bias (natural z) =
+          ap (λ (ts : List Task). getD ts bias noTask) (tasks-are ∙ ap (λ (q : Outcome). tasksAfter (s .header .start) t task q (s .tasks)) (k .0))
+          ∙ getD-set-same (set (s .tasks) t (goTo (task .block + 1) task)) bias (startAnew (s .header .start) bias (natural z)) noTask first-there in
+          rw e (k .1, record { running = refl; at = refl; outside = refl; time = refl; turns = refl; start = refl })
+        where
+          first-there : bias < length (set (s .tasks) t (goTo (task .block + 1) task))
+          first-there = let e = length-set (s .tasks) t (goTo (task .block + 1) task) in let f = g .both .three in omega arith
 
       part5 : (u : ℕ) → u < taskCount → taskAt s u .status ≡ runs → (taskAt (step image s x .state) u .status ≡ runs → ⊥) → (u ≡ t) × Stopped image s x
       part5 u l a z = go (ℕ-discrete u t)
@@ -350,7 +379,10 @@ module _ (image : List ℕ) (ok : Accepted image) (s : State) (m : Machine) (g :
             others = λ u _ _. inl (rw i refl);
             notes = λ _. ap (λ (q : StepOut). q .state .values .notes) i;
             header = ap (λ (q : StepOut). q .state .header) i;
+            landings = ap (λ (q : StepOut). q .state .landings) i;
             arrives = λ e _. clash (sym e ∙ ap (λ (q : StepOut). executed (q .answer)) i ∙ f);
+            jumps = λ e _. clash (sym e ∙ ap (λ (q : StepOut). executed (q .answer)) i ∙ f);
+            begins = λ e _. clash (sym e ∙ ap (λ (q : StepOut). executed (q .answer)) i ∙ f);
           },
           record { calls = rw (i, j, f) n; moved = rw (i, f, and-false (eqb t bias)) (told .moved) },
         )
@@ -361,7 +393,10 @@ module _ (image : List ℕ) (ok : Accepted image) (s : State) (m : Machine) (g :
             others = λ u _ d. part6 r u d;
             notes = notes-are r;
             header = header-is r;
+            landings = landings-are r;
             arrives = λ _ e. part8 r e;
+            jumps = jumped r;
+            begins = begun r;
           },
           record { calls = counted r; moved = moved-is r },
         )

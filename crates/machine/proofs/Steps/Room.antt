@@ -38,17 +38,17 @@ module _ (bs : List ℕ) (h : Terms) (t : ℕ) (task : Task) (pass : blockFits h
       let d = both (eqb (blockNumber h bs (task .block)) 0) (eqb (faultNumber (faultAt h bs (pointOf t task))) 0) pass in
       passes h c (pointOf t task) (no-fault (faultAt h bs (pointOf t task)) (eqb-true _ 0 (d .1)))
 
-  room : task .depth ≤ mostDepth → (o : Outcome) → Allows (flowOf h c) o → DepthAllows (task .depth) o
-  room l (Call a) m = leb-false mostDepth (task .depth) (sym (call-deep (pointOf t task) (flowOf h c) a m) ∙ passed .shallow)
-  room l Return m = let n = eqb-false (task .depth) 0 (sym (return-deep (pointOf t task) (flowOf h c) m) ∙ passed .called) in (omega arith, l)
-  room l GoOn m = tt
-  room l (Stay time turns) m = tt
-  room l (Jump a) m = tt
-  room l (Start u a) m = tt
-  room l Restart m = tt
-  room l End m = tt
-  room l (Halt q) m = tt
+  room : (ls : List ℕ) → task .depth ≤ mostDepth → (o : Outcome) → Allows ls (flowOf h c) o → DepthAllows (task .depth) o
+  room ls l (Call a) m = leb-false mostDepth (task .depth) (sym (call-deep ls (pointOf t task) (flowOf h c) a m) ∙ passed .shallow)
+  room ls l Return m = let n = eqb-false (task .depth) 0 (sym (return-deep ls (pointOf t task) (flowOf h c) m) ∙ passed .called) in (omega arith, l)
+  room ls l GoOn m = tt
+  room ls l (Stay time turns) m = tt
+  room ls l (Jump a) m = tt
+  room ls l (Start u a) m = tt
+  room ls l Restart m = tt
+  room ls l End m = tt
+  room ls l (Halt q) m = tt
 
-  pub deep : task .depth ≤ mostDepth → (inputs : List ℕ) (g : Context) (v : Values) → DepthAllows (task .depth) (effectOf inputs g c v .outcome)
+  pub deep : task .depth ≤ mostDepth → (inputs ls : List ℕ) (g : Context) (v : Values) → DepthAllows (task .depth) (effectOf inputs ls g c v .outcome)
   unfolding flowOf
-  deep l inputs g v = room l (effectOf inputs g c v .outcome) (every-law inputs g c v (used-carried h (c .code) t (passed .allowed)) .outcome .flow)
+  deep l inputs ls g v = room ls l (effectOf inputs ls g c v .outcome) (every-law inputs ls g c v (used-carried h (c .code) t (passed .allowed)) .outcome .flow)

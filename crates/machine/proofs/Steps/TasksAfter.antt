@@ -90,7 +90,7 @@ module _ (image : List ℕ) where
     here : Reaches h bs (pointOf t task)
     here = b .sound t l .reach r
 
-    next : (q : Point) → In q (walked (pointOf t task) (flowOf h c)) → Reaches h bs q
+    next : (q : Point) → In q (walked (h .landings) (pointOf t task) (flowOf h c)) → Reaches h bs q
     next q m = reach-next image ok (pointOf t task) q here m
 
     started : t ≡ 0 → p .start ≡ h .header .start
@@ -107,38 +107,38 @@ module _ (image : List ℕ) where
     behind = ap (λ (n : ℕ). n + 1) (b .same t l .block r)
 
     -- another task starts, or the own one does
-    starts : (u a : ℕ) → u < taskCount → Allows (flowOf h c) (Start u a) → Dec (u ≡ t)
+    starts : (u a : ℕ) → u < taskCount → Allows (h .landings) (flowOf h c) (Start u a) → Dec (u ≡ t)
         → Both (set (set ts t (goTo (task .block + 1) task)) u (startAnew (h .header .start) u a)) (set (set ps t (goesTo (p .block + 1) p)) u (anew u a ps))
     starts u a i m (no n) =
         put-both (set ts t (goTo (task .block + 1) task)) (set ps t (goesTo (p .block + 1) p)) u (startAnew (h .header .start) u a) (anew u a ps)
-        (went (task .block + 1) (p .block + 1) behind (next _ (start-on (pointOf t task) (flowOf h c) u a m n))) i
-        (start-sound h bs u a (next _ (start-in (pointOf t task) (flowOf h c) u a m)))
+        (went (task .block + 1) (p .block + 1) behind (next _ (start-on (h .landings) (pointOf t task) (flowOf h c) u a m n))) i
+        (start-sound h bs u a (next _ (start-in (h .landings) (pointOf t task) (flowOf h c) u a m)))
         (start-same (h .header .start) u a ps (sym (b .first))) (λ e. rw e (b .first))
     starts u a i m (yes e) =
         rw (e, set-set ts t (goTo (task .block + 1) task) (startAnew (h .header .start) t a), set-set ps t (goesTo (p .block + 1) p) (anew t a ps))
-        (put-here (startAnew (h .header .start) t a) (anew t a ps) (start-sound h bs t a (rw e at (next _ (start-in (pointOf t task) (flowOf h c) u a m))))
+        (put-here (startAnew (h .header .start) t a) (anew t a ps) (start-sound h bs t a (rw e at (next _ (start-in (h .landings) (pointOf t task) (flowOf h c) u a m))))
         (start-same (h .header .start) t a ps (sym (b .first))) (λ z. rw z (b .first)))
 
-    pub turned : (o : Outcome) → Allows (flowOf h c) o → timeless (c .code) o ≡ true → Both (tasksAfter (h .header .start) t task o ts) (follows t p o ps)
+    pub turned : (o : Outcome) → Allows (h .landings) (flowOf h c) o → timeless (c .code) o ≡ true → Both (tasksAfter (h .header .start) t task o ts) (follows t p o ps)
     unfolding follows
-    turned GoOn m w = went (task .block + 1) (p .block + 1) behind (next _ (on-in (pointOf t task) (flowOf h c) m))
+    turned GoOn m w = went (task .block + 1) (p .block + 1) behind (next _ (on-in (h .landings) (pointOf t task) (flowOf h c) m))
     turned (Stay time turns) m w =
         put-here (stayWith time turns task) (threadAt (p .block) (p .start) time turns (p .returns)) (stay-sound h bs t task (b .sound t l) r time turns w)
         (stay-same task p (b .same t l) r time turns) started
-    turned (Jump a) m w = went a a refl (next _ (jump-in (pointOf t task) (flowOf h c) a m))
+    turned (Jump a) m w = went a a refl (next _ (jump-in (h .landings) (pointOf t task) (flowOf h c) a m))
     turned (Call a) m w =
-        let d = leb-false mostDepth (task .depth) (sym (call-deep (pointOf t task) (flowOf h c) a m) ∙ passing image ok (pointOf t task) here .shallow) in
+        let d = leb-false mostDepth (task .depth) (sym (call-deep (h .landings) (pointOf t task) (flowOf h c) a m) ∙ passing image ok (pointOf t task) here .shallow) in
         let e = b .sound t l .long in
         put-here (callTo a task) (threadAt a (p .start) 0 0 ((p .block + 1) ∷ p .returns))
-        (call-sound h bs t task (b .sound t l) r a (next _ (call-in (pointOf t task) (flowOf h c) a m)) (next _ (behind-in (pointOf t task) (flowOf h c) a m))
+        (call-sound h bs t task (b .sound t l) r a (next _ (call-in (h .landings) (pointOf t task) (flowOf h c) a m)) (next _ (behind-in (h .landings) (pointOf t task) (flowOf h c) a m))
         d)
         (call-same task p (b .same t l) r a (omega arith)) started
     turned Return m w =
-        let n = eqb-false (task .depth) 0 (sym (return-deep (pointOf t task) (flowOf h c) m) ∙ passing image ok (pointOf t task) here .called) in
+        let n = eqb-false (task .depth) 0 (sym (return-deep (h .landings) (pointOf t task) (flowOf h c) m) ∙ passing image ok (pointOf t task) here .called) in
         put-here (returnFrom task) (back p (p .returns)) (return-sound h bs t task (b .sound t l) r n) (return-same task p (b .same t l) r n)
         (λ e. back-start p (p .returns) ∙ started e)
     turned (Start u a) m w =
-        starts u a (within image ok (point u a 0) (next _ (start-in (pointOf t task) (flowOf h c) u a m)) .task) m (ℕ-discrete u t)
+        starts u a (within image ok (point u a 0) (next _ (start-in (h .landings) (pointOf t task) (flowOf h c) u a m)) .task) m (ℕ-discrete u t)
     turned Restart m w =
         put-here (restarted task) (threadAt (p .start) (p .start) 0 0 []) (restart-sound h bs t task (b .sound t l) r) (restart-same task p (b .same t l) r)
         started

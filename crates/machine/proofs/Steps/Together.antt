@@ -9,7 +9,7 @@ use lib.Dec.{T, eqb, ltb}
 use lib.ListN.{length, getD}
 use borrow.Author.Tests.{eqb-true, eqb-false, ltb-true, ltb-false, lt-ltb, le-ltb}
 use Rattle.limits.specs.Limits.{taskCount, inputsLength}
-use Rattle.image_header.specs.Scan.{headerOf, blocksOf}
+use Rattle.image_header.specs.Scan.{headerOf, landingsOf, blocksOf}
 use Rattle.walk_flow.specs.Terms.{Terms}
 use Rattle.logic.proofs.Choice.{clash}
 use Rattle.command_table.specs.Rows.{rows, rowIn, rowOf, noRow}
@@ -29,9 +29,11 @@ use Rattle.state.specs.declared.Task.{Task}
 use Rattle.state.specs.declared.State.{State}
 use Rattle.machine.specs.Inputs.{Inputs, level}
 use Rattle.machine.specs.Effect.{effectOf}
+use Rattle.image_header.specs.Rows.{sameLandings}
 use Rattle.image_header.proofs.Numbers.{is-same}
+use Rattle.machine.proofs.Steps.Landings.{taken-same}
 use Rattle.machine.specs.Engine.{pointOf, contextOf, performed, fits, refuse, taskStep, step, termsHeld}
-use Rattle.machine.specs.Reference.{Thread, Machine, idle, does, standsStill, lost, tries, acts, referenceStep}
+use Rattle.machine.specs.Reference.{Thread, Machine, idle, landingBlocks, does, standsStill, lost, tries, acts, referenceStep}
 use Rattle.machine.specs.Alike.{returnsOf, SameTask}
 use Rattle.machine.specs.StepRule.{commandOf, executed}
 use Rattle.machine.specs.Allows.{Allows}
@@ -74,12 +76,17 @@ module _ (image : List ℕ) where
   -- what holds of both states along a run
   pub record Agree (s : State) (m : Machine) : Type 0 where
     pub header : s .header ≡ h .header
+    pub landings : s .landings ≡ landingsOf image
     pub both : Both image (s .tasks) (m .threads)
     pub values : s .values ≡ m .values
 
+  -- the landing blocks of the state are those of the image
+  pub held-same : {s : State} {m : Machine} → Agree s m → termsHeld s .landings ≡ h .landings
+  held-same g = rw (g .header, g .landings)
+
   -- what the command of the step's task comes to
   abbrev pub effectHere : State → Inputs → Effect
-  effectHere s x = effectOf (x .levels) (contextOf s (taskAt s (x .task)) x) (commandOf image s x) (s .values)
+  effectHere s x = effectOf (x .levels) (termsHeld s .landings) (contextOf s (taskAt s (x .task)) x) (commandOf image s x) (s .values)
 
   abbrev pub threadOf : Machine → Inputs → Thread
   threadOf m x = getD (m .threads) (x .task) idle
@@ -90,7 +97,7 @@ module _ (image : List ℕ) where
     pub running : taskAt s (x .task) .status ≡ runs
     pub depth : taskAt s (x .task) .depth ≡ length (threadOf m x .returns)
     pub passes : Passes h (commandOf image s x) (pointOf (x .task) (taskAt s (x .task)))
-    pub law : Law (commandOf image s x .code) (commandOf image s x) (contextOf s (taskAt s (x .task)) x) (s .values) (effectHere s x)
+    pub law : Law (termsHeld s .landings) (commandOf image s x .code) (commandOf image s x) (contextOf s (taskAt s (x .task)) x) (s .values) (effectHere s x)
     pub engine : step image s x ≡ performed s x (taskAt s (x .task)) (effectHere s x)
     pub reference : referenceStep image m x ≡ does m x (threadOf m x) (effectHere s x)
 
@@ -117,6 +124,10 @@ module _ (image : List ℕ) where
     same : SameTask own p
     same = g .both .same t l
 
+    -- the landing list that the image has is the one that was loaded
+    loaded-same : sameLandings (h .header .landings) (landingsOf image) (h .landings) ≡ true
+    loaded-same = taken-same (h .header .landings) (landingsOf image)
+
     -- 17 lets every step of a run pass
     fits-here : fits image (termsHeld s) t own ≡ true
     unfolding fits
@@ -124,7 +135,9 @@ module _ (image : List ℕ) where
         rw (
           ok .read,
           g .header,
+          g .landings,
           is-same (h .header),
+          loaded-same,
           ok .blocks (own .block) (within image ok (pointOf t own) here .block),
           ok .fine (pointOf t own) here,
           g .both .sound t l .wait r,
@@ -140,21 +153,21 @@ module _ (image : List ℕ) where
     abbrev e : Effect
     e = effectHere s x
 
-    law : Law (c .code) c (contextOf s own x) (s .values) e
-    law = every-law (x .levels) (contextOf s own x) c (s .values) carried-here
+    law : Law (termsHeld s .landings) (c .code) c (contextOf s own x) (s .values) e
+    law = every-law (x .levels) (termsHeld s .landings) (contextOf s own x) c (s .values) carried-here
 
-    in-flow : Allows (flowOf h c) (e .outcome)
+    in-flow : Allows (termsHeld s .landings) (flowOf h c) (e .outcome)
     unfolding flowOf
     in-flow = law .outcome .flow
 
-    not-lost : (o : Outcome) → Allows (flowOf h c) o → lost o (p .returns) ≡ false
+    not-lost : (o : Outcome) → Allows (termsHeld s .landings) (flowOf h c) o → lost o (p .returns) ≡ false
     not-lost GoOn f = refl
     not-lost (Stay time turns) f = refl
     not-lost (Jump a) f = refl
     not-lost (Call a) f = refl
     not-lost Return f =
         some (p .returns)
-        (λ e. eqb-false (own .depth) 0 (sym (return-deep (pointOf t own) (flowOf h c) f) ∙ passing image ok (pointOf t own) here .called) (depth-here ∙ e))
+        (λ e. eqb-false (own .depth) 0 (sym (return-deep (termsHeld s .landings) (pointOf t own) (flowOf h c) f) ∙ passing image ok (pointOf t own) here .called) (depth-here ∙ e))
       where
         some : (xs : List ℕ) → (length xs ≡ 0 → ⊥) → lost Return xs ≡ false
         some [] n = absurd (n refl)
@@ -165,7 +178,7 @@ module _ (image : List ℕ) where
     not-lost (Halt q) f = refl
 
     -- the reference machine sees the same wait and values
-    effect-same : effectOf (x .levels)
+    effect-same : effectOf (x .levels) (landingBlocks image)
         (record {
           drive = headerOf image .header .drive;
           start = level (x .start);
@@ -176,7 +189,7 @@ module _ (image : List ℕ) where
         })
         (commandAt (blocksOf image) (own .block)) (m .values)
         ≡ e
-    effect-same = rw (← same .time r, ← same .turns r, ← g .values, g .header)
+    effect-same = rw (← same .time r, ← same .turns r, ← g .values, g .header, g .landings)
 
     tries-is : tries m x p e ≡ does m x p e
     unfolding tries

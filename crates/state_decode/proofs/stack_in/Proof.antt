@@ -7,7 +7,7 @@ use lib.ListN.{length, take, length-set}
 use Rattle.limits.specs.Limits.{mostDepth}
 use Rattle.state_bytes.specs.Bytes.{table, leNumberAt}
 use Rattle.state_bytes.proofs.Tables.{none, more, all}
-use Rattle.state_layout.specs.Codecs.{stackIn}
+use Rattle.state_layout.specs.Codecs.{wordsIn}
 use borrow.Author.Needs.{needs}
 use Rattle.state_decode.proofs.stack_in.Statement.{statement}
 use Rattle.state_decode.proofs.stack_in.Tie as tie
@@ -31,7 +31,7 @@ loop-again c =
     )
 
 returns : tie.Need-returns Inv-loop μ-loop
-unfolding stackIn
+unfolding wordsIn
 returns c =
     let l = c .before .loop in
     let a = c .before .before .before .args in

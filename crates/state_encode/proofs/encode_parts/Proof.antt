@@ -1,7 +1,11 @@
--- `encode_parts` meets its contract: one section behind the other, and zeros behind them.
+-- `encode_parts` meets its contract: one section behind the other, but for the landing list, which stands there, and zeros behind them.
 use native.Mathlib.Omega.{arith}
+use mathlib.Core.Path.{refl}
+use denote.Ref.{now}
+use Rattle.state_layout.specs.Codecs.{landingsIn}
+use Rattle.state_layout.specs.Layout.{landingsAt, stateOf}
 use Rattle.state_sections.proofs.Sections.{put, done}
-use Rattle.state_layout.proofs.Buffer.{encoded-put}
+use Rattle.state_layout.proofs.Buffer.{encoded-put, landings-stay}
 use borrow.Author.Needs.{needs}
 use Rattle.state_encode.proofs.encode_parts.Statement.{statement}
 use Rattle.state_encode.proofs.encode_parts.Tie as tie
@@ -202,19 +206,32 @@ returns c =
     let k11 = k10 .before .before .before .before .before in
     let k12 = k11 .before .before .before .before .before in
     let s = k12 .before .before .before .before .before .before in
-    encoded-put _ (k11 .before .put-levels-arg2 .given .0) (k10 .before .put-levels-arg4 .given .0) _ _ _ (s .pre)
+    let flags = k11 .before .put-levels-arg2 .given .0 in
+    let outputs = k10 .before .put-levels-arg4 .given .0 in
+    let a = s .args in
+    let after = stateOf (now (a .variables)) (now (a .flags)) (now (a .outputs)) (a .header) (landingsIn (now (a .b)) landingsAt) (a .motion) (a .notes)
+    (a .t8) in
+    let kept = landings-stay after flags outputs _ _ (λ k. k12 .before .before .before .before .before .slice-known .given k .fits) refl
     (put (k12 .put-variables .ensures)
     (put (k11 .put-levels .ensures)
     (put (k10 .put-levels2 .ensures)
     (put (k9 .put-layout .ensures)
     (put (k8 .put-header .ensures)
+    done))))) in
+    encoded-put _ flags outputs _ _ _ (s .pre)
+    (put (k12 .put-variables .ensures)
+    (put (k11 .put-levels .ensures)
+    (put (k10 .put-levels2 .ensures)
+    (put (k9 .put-layout .ensures)
+    (put (k8 .put-header .ensures)
+    (put kept
     (put (k7 .put-motion .ensures)
     (put (k6 .put-notes .ensures)
     (put (k5 .put-starts .ensures)
     (put (k4 .put-task .ensures)
     (put (k3 .put-task2 .ensures)
     (put (k2 .put-task3 .ensures)
-    done)))))))))))
+    done))))))))))))
     (k1 .put-unused .ensures)
 
 pub encode-parts-spec : {M : Type 1} → statement M

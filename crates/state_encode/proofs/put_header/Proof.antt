@@ -17,19 +17,23 @@ returns c =
     let k4 = k3 .before .before .before .before in
     let k5 = k4 .before .before .before .before in
     let k6 = k5 .before .before .before .before in
+    let k7 = k6 .before .before .before .before in
     record-put headerWidths (numbersOf _) headerAt refl
-    (put (k6 .put-byte .ensures)
-    (put (k5 .put-byte2 .ensures)
-    (put (k4 .put-byte3 .ensures)
-    (put (k3 .put-byte4 .ensures)
-    (put (k2 .put-word .ensures)
-    (put (k1 .put-word2 .ensures)
-    done))))))
+    (put (k7 .put-byte .ensures)
+    (put (k6 .put-byte2 .ensures)
+    (put (k5 .put-byte3 .ensures)
+    (put (k4 .put-byte4 .ensures)
+    (put (k3 .put-word .ensures)
+    (put (k2 .put-word2 .ensures)
+    (put (k1 .put-byte5 .ensures)
+    done)))))))
 
 pub put-header-spec : {M : Type 1} → statement M
 put-header-spec =
     tie.close
     (tie.spec
+    (λ c κs. search needs)
+    (λ c. search needs)
     (λ c κs. search needs)
     (λ c. search needs)
     (λ c κs. search needs)

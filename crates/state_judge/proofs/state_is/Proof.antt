@@ -19,6 +19,7 @@ state-is-spec =
     (λ c κs. search needs)
     (λ c κs. search needs)
     (λ c κs. search needs)
+    (λ c κs. search needs)
     (λ c. rw (
       c .task-is3 .ensures,
       c .before .mathematics-in .ensures,
@@ -27,6 +28,7 @@ state-is-spec =
       c .before .before .before .before .task-is .ensures,
       c .before .before .before .before .before .bias-in .ensures,
       c .before .before .before .before .before .before .values-are .ensures,
-      c .before .before .before .before .before .before .before .accepts .ensures,
-      c .before .before .before .before .before .before .before .before .header-in .ensures,
+      c .before .before .before .before .before .before .before .landings-are .ensures,
+      c .before .before .before .before .before .before .before .before .accepts .ensures,
+      c .before .before .before .before .before .before .before .before .before .header-in .ensures,
     )))

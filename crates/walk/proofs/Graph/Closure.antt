@@ -1,5 +1,5 @@
 -- The closure has exactly what is reached, given fuel enough: each step takes a number off the list to do, and only a new one, of which there are
--- n, puts at most two on it.
+-- n, puts on it as many as may follow one.
 use Prim.Native.Nat.{ℕ, zero, suc, _+_, _*_, _<_, _≤_}
 use mathlib.Core.Path.{_≡_, refl}
 use mathlib.Core.Bool.{Bool, true, false, _||_, cond}
@@ -11,6 +11,7 @@ use lib.ListN.{length, length-append}
 use lib.Dec.{eqb}
 use borrow.Author.Tests.{eqb-true, eqb-false}
 use Rattle.walk.specs.Graph.{In, has, Reach, closure}
+use Rattle.walk.specs.Verdict.{mostFollowing}
 use Rattle.walk.proofs.Membership.{has-in, in-left, in-right, in-either}
 
 weight : Bool → ℕ
@@ -91,9 +92,9 @@ module _ (next : ℕ → List ℕ) (root : ℕ) where
       move q (inr (inl i)) = inl (inl i)
       move q (inr (inr k)) = inr (in-right (next p) todo q k)
 
-  module _ (n : ℕ) (inside : (p : ℕ) → Reach next root p → p < n) (few : (p : ℕ) → length (next p) ≤ 2) where
+  module _ (n : ℕ) (inside : (p : ℕ) → Reach next root p → p < n) (few : (p : ℕ) → length (next p) ≤ mostFollowing) where
     -- with fuel enough nothing is left to do
-    whole : (f : ℕ) (todo seen : List ℕ) → Sofar todo seen → 3 * unseen n seen + length todo ≤ f → Sofar [] (closure next f todo seen)
+    whole : (f : ℕ) (todo seen : List ℕ) → Sofar todo seen → (mostFollowing + 1) * unseen n seen + length todo ≤ f → Sofar [] (closure next f todo seen)
     unfolding closure
     whole zero [] seen s h = s
     whole zero (p ∷ todo) seen s h = absurd (omega arith)
@@ -101,8 +102,8 @@ module _ (next : ℕ → List ℕ) (root : ℕ) where
     whole (suc f) (p ∷ todo) seen s h = go (has seen p) refl (whole f todo seen) (whole f (next p ++ todo) (p ∷ seen))
       where
         go : (t : Bool) → has seen p ≡ t
-            → (Sofar todo seen → 3 * unseen n seen + length todo ≤ f → Sofar [] (closure next f todo seen))
-            → (Sofar (next p ++ todo) (p ∷ seen) → 3 * unseen n (p ∷ seen) + length (next p ++ todo) ≤ f
+            → (Sofar todo seen → (mostFollowing + 1) * unseen n seen + length todo ≤ f → Sofar [] (closure next f todo seen))
+            → (Sofar (next p ++ todo) (p ∷ seen) → (mostFollowing + 1) * unseen n (p ∷ seen) + length (next p ++ todo) ≤ f
             → Sofar [] (closure next f (next p ++ todo) (p ∷ seen)))
             → Sofar [] (elim t [ true ↦ closure next f todo seen | false ↦ closure next f (next p ++ todo) (p ∷ seen) ])
         go true e old new = old (again p todo seen (has-in seen p e) s) (omega arith)
@@ -110,7 +111,7 @@ module _ (next : ℕ → List ℕ) (root : ℕ) where
             new (anew p todo seen s)
             (omega (arith, unseen-less n p seen (inside p (s .todo-ok p (inl refl))) e, length-append (next p) todo, few p))
 
-    module _ (f : ℕ) (enough : 3 * n + 1 ≤ f) where
+    module _ (f : ℕ) (enough : (mostFollowing + 1) * n + 1 ≤ f) where
       abbrev all : List ℕ
       all = closure next f (root ∷ []) []
 

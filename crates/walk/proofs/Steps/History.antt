@@ -9,7 +9,7 @@ use native.Mathlib.Omega.{arith}
 use lib.Dec.{eqb}
 use lib.ListN.{length}
 use borrow.Author.Tests.{eqb-true}
-use Rattle.limits.specs.Limits.{bias, plc, mathematics, mostBlocks, marksLength}
+use Rattle.limits.specs.Limits.{bias, plc, mathematics, marksLength}
 use Rattle.walk_flow.specs.Terms.{Terms}
 use Rattle.command_operands.specs.declared.Command.{Command}
 use Rattle.walk_flow.specs.Flow.{flowOf}
@@ -19,9 +19,9 @@ use Rattle.walk_fault.specs.declared.Fault.the-variants.{Fine}
 use Rattle.walk.specs.Blocks.{commandAt, faultAt}
 use Rattle.walk.specs.Walk.{Named, starts, latest, startOf, Walk, Reaches}
 use Rattle.walk.specs.Index.{Inside, indexOf, pointAt}
-use Rattle.walk.specs.Successors.{leadsTo, flowAt, successors, indices, nextOf}
+use Rattle.walk.specs.Successors.{leadsTo, flowAt, successors, indices, nextOf, WalkBounds}
 use Rattle.walk.specs.Graph.{In, Reach}
-use Rattle.walk.specs.Verdict.{rootOf}
+use Rattle.walk.specs.Verdict.{rootOf, mostFollowing}
 use Rattle.walk.proofs.Points.Index.{point-back, below-marks}
 use Rattle.walk.proofs.Points.Within.{Within, passes, follows, successors-within, successors-few}
 use Rattle.walk.proofs.Steps.AsMoves.{Special, step-follows, follow-step, start-follows}
@@ -51,19 +51,19 @@ unfolding indices
 indices-long [] = refl
 indices-long (x ∷ ps) = ap suc (indices-long ps)
 
-module _ (h : Terms) (bs : List ℕ) (most : h .header .count ≤ mostBlocks) (begins : h .header .start < h .header .count) where
+module _ (h : Terms) (bs : List ℕ) (bounds : WalkBounds h) where
   abbrev Reached : Point → Type 0
   Reached p = Reach (nextOf h bs) (rootOf h) (indexOf p)
 
   pub inside : (p : Point) → Within h p → Inside p
-  inside p w = let b = w .block in record { task = w .task; block = omega arith; depth = w .depth }
+  inside p w = let b = w .block in let m = bounds .most in record { task = w .task; block = omega arith; depth = w .depth }
 
-  pub next-few : (i : ℕ) → length (nextOf h bs i) ≤ 2
+  pub next-few : (i : ℕ) → length (nextOf h bs i) ≤ mostFollowing
   unfolding nextOf
-  next-few i = rw (indices-long (successors h bs (pointAt i))) (successors-few h bs (pointAt i))
+  next-few i = rw (indices-long (successors h bs (pointAt i))) (successors-few h bounds bs (pointAt i))
 
   first-within : Within h (point bias (h .header .start) 0)
-  first-within = record { task = omega arith; block = begins; depth = omega arith }
+  first-within = record { task = omega arith; block = bounds .begins; depth = omega arith }
 
   -- a point that follows a point reached is reached
   reached-next : (p q : Point) → Within h p → Reached p → In q (successors h bs p) → Reached q
@@ -71,7 +71,7 @@ module _ (h : Terms) (bs : List ℕ) (most : h .header .count ≤ mostBlocks) (b
   reached-next p q w r m =
       Reach.step (indexOf p) (indexOf q) r (rw (point-back p (inside p w)) (index-in (successors h bs p) q m))
 
-  goes-on : (p q : Point) → faultAt h bs p ≡ Fine → In q (leadsTo p (flowOf h (commandAt bs (p .block)))) → In q (successors h bs p)
+  goes-on : (p q : Point) → faultAt h bs p ≡ Fine → In q (leadsTo (h .landings) p (flowOf h (commandAt bs (p .block)))) → In q (successors h bs p)
   unfolding successors flowAt
   goes-on p q e m = rw e m
 
@@ -96,7 +96,7 @@ module _ (h : Terms) (bs : List ℕ) (most : h .header .count ≤ mostBlocks) (b
       let q = point u (c .word) 0 in
       let f = start-follows h bs [] o c (passes h c o (s .fine) .allowed) u e in
       let m = goes-on o q (s .fine) f in
-      (reached-next o q (s .within) (s .reach) m, successors-within h bs o q (s .within) m)
+      (reached-next o q (s .within) (s .reach) m, successors-within h bounds bs o q (s .within) m)
 
   latest-reached : (code u : ℕ) → ((k : ℕ) → k ≡ code → starts k u ≡ true) → (path : List Point) → All Sound path → (a : ℕ) → latest bs code path ≡ Named.at a
       → Reached (point u a 0) × Within h (point u a 0)
@@ -167,10 +167,10 @@ module _ (h : Terms) (bs : List ℕ) (most : h .header .count ≤ mostBlocks) (b
           all : All Sound (p ∷ path)
           all = (record { within = k .within; reach = k .reach; fine = fine }, k .passed)
 
-          along : In q (leadsTo p (flowOf h c)) ⊎ Special h bs (p ∷ path) p c q → Kept (p ∷ path) q
+          along : In q (leadsTo (h .landings) p (flowOf h c)) ⊎ Special h bs (p ∷ path) p c q → Kept (p ∷ path) q
           along (inl m) =
               let f = goes-on p q fine m in
-              record { within = successors-within h bs p q (k .within) f; reach = reached-next p q (k .within) (k .reach) f; passed = all }
+              record { within = successors-within h bounds bs p q (k .within) f; reach = reached-next p q (k .within) (k .reach) f; passed = all }
           along (inr (Special.stays w e)) = rw e (record { within = k .within; reach = k .reach; passed = all })
           along (inr (Special.restarts a k51 e i)) =
               let r = start-reached (p .task) (p ∷ path) all a e in
@@ -194,11 +194,11 @@ module _ (h : Terms) (bs : List ℕ) (most : h .header .count ≤ mostBlocks) (b
       let back : pointAt j ≡ p = ap pointAt (a .number) ∙ point-back p (inside p (a .within)) in
       let k = indexed (successors h bs p) i (rw back at m) in
       let q = k .at in
-      let f = follows (faultAt h bs p) (flowOf h c) p q (k .member) in
+      let f = follows (h .landings) (faultAt h bs p) (flowOf h c) p q (k .member) in
       let s = follow-step h bs (p ∷ a .walks .path) p c (passes h c p (f .0) .allowed) q (f .1) in
       record {
         at = q;
-        within = successors-within h bs p q (a .within) (k .member);
+        within = successors-within h bounds bs p q (a .within) (k .member);
         number = k .number;
         walks = record { path = p ∷ a .walks .path; walk = Walk.onward q (a .walks .walk) (f .0) s };
       }

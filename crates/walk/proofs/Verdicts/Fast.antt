@@ -11,7 +11,7 @@ use lib.Dec.{eqb, ltb}
 use borrow.Author.Tests.{eqb-false, eq-eqb, ne-eqb}
 use Rattle.limits.specs.Limits.{marksLength}
 use Rattle.image_result.specs.ImageResult.{done}
-use Rattle.image_header.specs.Scan.{headerOf, blocksOf}
+use Rattle.image_header.specs.Scan.{headerOf, landingsOf, blocksOf}
 use Rattle.walk_flow.specs.Terms.{Terms, termsIn}
 use Rattle.image_header.specs.declared.reader.HeaderRead.{HeaderRead}
 use Rattle.logic.proofs.Choice.{clash}
@@ -49,11 +49,11 @@ unfoldable pub blocksFast : Terms → List ℕ → ℕ → ℕ → Verdict
 blocksFast h bs b zero = walksFast h bs
 blocksFast h bs b (suc n) = cond (eqb (blockNumber h bs b) 0) (blocksFast h bs (b + 1) n) (verdict.Block (blockFaultAt h bs b) b)
 
-unfoldable pub readFast : HeaderRead → List ℕ → Verdict
-readFast r bs = cond (done (r .result)) (blocksFast (termsIn r) bs 0 (r .header .count)) (verdict.Image (r .result))
+unfoldable pub readFast : HeaderRead → List ℕ → List ℕ → Verdict
+readFast r ls bs = cond (done (r .result)) (blocksFast (termsIn r ls) bs 0 (r .header .count)) (verdict.Image (r .result))
 
 unfoldable pub verdictFast : List ℕ → ℕ → Verdict
-verdictFast image n = cond (ltb n marksLength) (verdict.MarksShort n) (readFast (headerOf image) (blocksOf image))
+verdictFast image n = cond (ltb n marksLength) (verdict.MarksShort n) (readFast (headerOf image) (landingsOf image) (blocksOf image))
 
 -- ---- a digit added where there was none changes that digit alone
 
@@ -133,10 +133,10 @@ blocks-same h bs b zero = walks-same h bs
 blocks-same h bs b (suc n) =
     ap (λ (v : Verdict). cond (eqb (blockNumber h bs b) 0) v (verdict.Block (blockFaultAt h bs b) b)) (blocks-same h bs (b + 1) n)
 
-read-same : (r : HeaderRead) (bs : List ℕ) → readFast r bs ≡ readVerdict r bs
+read-same : (r : HeaderRead) (ls bs : List ℕ) → readFast r ls bs ≡ readVerdict r ls bs
 unfolding readFast readVerdict
-read-same r bs = ap (λ (v : Verdict). cond (done (r .result)) v (verdict.Image (r .result))) (blocks-same (termsIn r) bs 0 (r .header .count))
+read-same r ls bs = ap (λ (v : Verdict). cond (done (r .result)) v (verdict.Image (r .result))) (blocks-same (termsIn r ls) bs 0 (r .header .count))
 
 pub fast-is : (image : List ℕ) (n : ℕ) → verdictFast image n ≡ verdictOf image n
 unfolding verdictFast verdictOf
-fast-is image n = ap (λ (v : Verdict). cond (ltb n marksLength) (verdict.MarksShort n) v) (read-same (headerOf image) (blocksOf image))
+fast-is image n = ap (λ (v : Verdict). cond (ltb n marksLength) (verdict.MarksShort n) v) (read-same (headerOf image) (landingsOf image) (blocksOf image))

@@ -9,13 +9,14 @@ use native.Mathlib.Omega.{arith}
 use lib.Dec.{eqb, ltb}
 use borrow.Author.Tests.{ltb-true, ltb-false, eqb-true, eqb-false}
 use borrow.Author.Count.{below-more}
-use Rattle.limits.specs.Limits.{mostBlocks, marksLength}
+use Rattle.limits.specs.Limits.{marksLength}
 use Rattle.image_result.proofs.Done.{is-done}
 use Rattle.image_result.specs.ImageResult.{done}
-use Rattle.image_header.specs.Scan.{headerOf, blocksOf}
+use Rattle.image_header.specs.Scan.{headerOf, landingsOf, blocksOf}
 use Rattle.walk_flow.specs.Terms.{Terms, termsOf}
 use Rattle.logic.proofs.Choice.{clash, by}
-use Rattle.image_header.proofs.HeaderGood.{header-good}
+use Rattle.walk.specs.Successors.{WalkBounds}
+use Rattle.walk.proofs.Points.Bounds.{image-bounds}
 use Rattle.walk.specs.Blocks.{blockFaultAt, blockNumber}
 use Rattle.walk.specs.Verdict.{walksVerdict, blocksVerdict, readVerdict, verdictOf}
 use Rattle.walk.specs.IsVerdict.{BlockPasses, IsVerdict}
@@ -31,18 +32,15 @@ module _ (image : List ℕ) (n : ℕ) where
   bs = blocksOf image
 
   module _ (read : done (headerOf image .result) ≡ true) where
-    most : h .header .count ≤ mostBlocks
-    most = header-good image (is-done _ read) .count .1
-
-    begins : h .header .start < h .header .count
-    begins = header-good image (is-done _ read) .start
+    bounds : WalkBounds h
+    bounds = image-bounds image (is-done _ read)
 
     module _ (room : marksLength ≤ n) where
       -- the blocks before b pass; k are left
       blocks-judged : (k b : ℕ) → b + k ≡ h .header .count → ((a : ℕ) → a < b → BlockPasses h bs a) → IsVerdict image n (blocksVerdict h bs b k)
       unfolding blocksVerdict
       blocks-judged zero b e all =
-          IsVerdict.walks room read (λ a l. all a (omega arith)) (walksVerdict h bs) (verdict-says h bs most begins)
+          IsVerdict.walks room read (λ a l. all a (omega arith)) (walksVerdict h bs) (verdict-says h bs bounds)
       blocks-judged (suc k) b e all =
           go (eqb (blockNumber h bs b) 0) refl (λ p. blocks-judged k (b + 1) (omega arith) (below-more _ _ all p))
         where
@@ -61,7 +59,7 @@ module _ (image : List ℕ) (n : ℕ) where
       second room true e = blocks-judged e room (h .header .count) 0 (omega arith) (λ a l. absurd (omega arith))
       second room false e = IsVerdict.header room e
 
-      first : (t : Bool) → ltb n marksLength ≡ t → IsVerdict image n (cond t (verdict.MarksShort n) (readVerdict (headerOf image) bs))
+      first : (t : Bool) → ltb n marksLength ≡ t → IsVerdict image n (cond t (verdict.MarksShort n) (readVerdict (headerOf image) (landingsOf image) bs))
       first true e = IsVerdict.marks (ltb-true _ _ e)
       first false e = second (ltb-false _ _ e) (done (headerOf image .result)) refl
 
@@ -89,7 +87,7 @@ module _ (image : List ℕ) (n : ℕ) where
   one-judgement _ _ (IsVerdict.walks m e all v s) (IsVerdict.marks l) = absurd (omega arith)
   one-judgement _ _ (IsVerdict.walks m e all v s) (IsVerdict.header o f) = clash (sym e ∙ f)
   one-judgement _ _ (IsVerdict.walks m e all v s) (IsVerdict.block o f b i also bad) = absurd (bad (all b i))
-  one-judgement _ _ (IsVerdict.walks m e all v s) (IsVerdict.walks o f also w t) = one-verdict h bs (most e) (begins e) v w s t
+  one-judgement _ _ (IsVerdict.walks m e all v s) (IsVerdict.walks o f also w t) = one-verdict h bs (bounds e) v w s t
 
   -- so a verdict is right exactly when it is the computed one
   pub exactly : (v : Verdict) → IsVerdict image n v ↔ (v ≡ verdictOf image n)

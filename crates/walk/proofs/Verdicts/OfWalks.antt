@@ -14,7 +14,7 @@ use Rattle.walk_point.specs.declared.Point.{Point}
 use Rattle.walk.specs.Blocks.{faultAt}
 use Rattle.walk.specs.Walk.{Reaches}
 use Rattle.walk.specs.Index.{indexOf, pointAt, before}
-use Rattle.walk.specs.Successors.{nextOf}
+use Rattle.walk.specs.Successors.{nextOf, WalkBounds}
 use Rattle.walk.specs.Graph.{In, Reach}
 use Rattle.walk_fault.specs.Fault.{isForeign, isBad}
 use Rattle.walk.specs.Verdict.{rootOf, fuel, reached, leastForeign, leastBad, verdictBy, walksVerdict}
@@ -26,13 +26,13 @@ use Rattle.walk.proofs.Graph.Least.{Member, least-below, least-found}
 use Rattle.walk.proofs.Points.Index.{point-back, index-back, in-order}
 use Rattle.walk.proofs.Steps.History.{inside, next-few, reached-within, reached-number, number-reached, number-inside}
 
-module _ (h : Terms) (bs : List ℕ) (most : h .header .count ≤ mostBlocks) (begins : h .header .start < h .header .count) where
+module _ (h : Terms) (bs : List ℕ) (bounds : WalkBounds h) where
   -- ---- an image has one verdict
 
   same-point : (p q : Point) → Reaches h bs p → Reaches h bs q → before p q ≡ false → before q p ≡ false → p ≡ q
   same-point p q r s a b =
-      let i = inside h bs most begins p (reached-within h bs most begins p r) in
-      let j = inside h bs most begins q (reached-within h bs most begins q s) in
+      let i = inside h bs bounds p (reached-within h bs bounds p r) in
+      let j = inside h bs bounds q (reached-within h bs bounds q s) in
       let c = ltb-false (indexOf p) (indexOf q) (sym (in-order p q i j) ∙ a) in
       let d = ltb-false (indexOf q) (indexOf p) (sym (in-order q p j i) ∙ b) in
       let e : indexOf p ≡ indexOf q = omega arith in
@@ -72,19 +72,19 @@ module _ (h : Terms) (bs : List ℕ) (most : h .header .count ≤ mostBlocks) (b
   pub exact : Exact (reached h bs)
   unfolding reached
   exact = record {
-    sound = closure-sound (nextOf h bs) (rootOf h) marksLength (number-inside h bs most begins) (next-few h bs most begins) fuel (omega arith);
-    whole = closure-whole (nextOf h bs) (rootOf h) marksLength (number-inside h bs most begins) (next-few h bs most begins) fuel (omega arith);
+    sound = closure-sound (nextOf h bs) (rootOf h) marksLength (number-inside h bs bounds) (next-few h bs bounds) fuel (omega arith);
+    whole = closure-whole (nextOf h bs) (rootOf h) marksLength (number-inside h bs bounds) (next-few h bs bounds) fuel (omega arith);
   }
 
   module _ (is : List ℕ) (x : Exact is) where
     walked : (i : ℕ) → In i is → Reaches h bs (pointAt i)
-    walked i m = number-reached h bs most begins i (x .sound i m)
+    walked i m = number-reached h bs bounds i (x .sound i m)
 
     listed : (p : Point) → Reaches h bs p → In (indexOf p) is
-    listed p r = x .whole (indexOf p) (reached-number h bs most begins p r)
+    listed p r = x .whole (indexOf p) (reached-number h bs bounds p r)
 
     back : (p : Point) → Reaches h bs p → pointAt (indexOf p) ≡ p
-    back p r = point-back p (inside h bs most begins p (reached-within h bs most begins p r))
+    back p r = point-back p (inside h bs bounds p (reached-within h bs bounds p r))
 
     -- none is before the least
     foreign-least : (p : Point) → ForeignAt h bs p → leastForeign h bs is ≤ p .block
@@ -102,13 +102,14 @@ module _ (h : Terms) (bs : List ℕ) (most : h .header .count ≤ mostBlocks) (b
     no-foreign : mostBlocks ≤ leastForeign h bs is → NoForeign h bs
     no-foreign l p f =
         let a = foreign-least p f in
-        let b = reached-within h bs most begins p (f .0) .block in
+        let b = reached-within h bs bounds p (f .0) .block in
+        let m = bounds .most in
         omega arith
 
     no-bad : marksLength ≤ leastBad h bs is → (p : Point) → BadAt h bs p → ⊥
     no-bad l p f =
         let a = bad-least p f in
-        let b = number-inside h bs most begins (indexOf p) (reached-number h bs most begins p (f .0)) in
+        let b = number-inside h bs bounds (indexOf p) (reached-number h bs bounds p (f .0)) in
         omega arith
 
     -- a foreign point that is reached, where there is a least block
@@ -140,9 +141,9 @@ module _ (h : Terms) (bs : List ℕ) (most : h .header .count ≤ mostBlocks) (b
             here i e k t =
                 let w = walked i k in
                 let p = pointAt i in
-                let inside-p = inside h bs most begins p (reached-within h bs most begins p w) in
+                let inside-p = inside h bs bounds p (reached-within h bs bounds p w) in
                 IsWalksVerdict.bad none p (w, t)
-                (λ q f. in-order q p (inside h bs most begins q (reached-within h bs most begins q (f .0))) inside-p
+                (λ q f. in-order q p (inside h bs bounds q (reached-within h bs bounds q (f .0))) inside-p
                 ∙ le-ltb (indexOf q) (indexOf p) (let a = bad-least q f in let b = index-back i in omega arith))
 
     says : IsWalksVerdict h bs (verdictBy h bs (leastForeign h bs is) (leastBad h bs is))

@@ -3,7 +3,7 @@ use mathlib.Core.Path.{ap, _∙_}
 use denote.Ref.{now}
 use borrow.Author.Needs.{needs}
 use Rattle.command_operands.specs.declared.Command.{Command}
-use Rattle.walk_flow.specs.Terms.{under}
+use Rattle.walk_flow.specs.Terms.{byHeader}
 use Rattle.walk_point.specs.PointFault.{faultOf}
 use Rattle.walk.specs.Blocks.{faultAt}
 use Rattle.walk_blocks.specs.declared.Instruction.{Instruction}
@@ -21,5 +21,5 @@ fault-at-spec =
     (λ c.
     let a = c .before .before .before .args in
     c .fault .ensures
-    ∙ ap (λ (k : Command). faultOf (under (a .header)) k (a .p))
+    ∙ ap (λ (k : Command). faultOf (byHeader (a .header)) k (a .p))
     (ap (λ (i : Instruction). i .command) (c .before .instruction-at .ensures) ∙ command-is (now (a .blocks)) (a .p .block))))

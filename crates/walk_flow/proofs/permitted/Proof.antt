@@ -1,13 +1,13 @@
 -- `permitted` meets its contract: the box of each task is one bit of the row's number, and there is none above.
 use mathlib.Core.Path.{sym}
-use Rattle.walk_flow.specs.Terms.{under}
+use Rattle.walk_flow.specs.Terms.{byHeader}
 use Rattle.walk_flow.specs.Permission.{permitted}
 use Rattle.walk_flow.proofs.NoBox.{no-box}
 use Rattle.walk_flow.proofs.permitted.Statement.{statement}
 use Rattle.walk_flow.proofs.permitted.Tie as tie
 
 returns-4 : tie.Need-returns-4
-returns-4 c = sym (no-box (under (c .before .args .header)) (c .before .args .c .code) (c .before .args .task) (c .match .rest))
+returns-4 c = sym (no-box (byHeader (c .before .args .header)) (c .before .args .c .code) (c .before .args .task) (c .match .rest))
 
 pub permitted-spec : {M : Type 1} → statement M
 unfolding permitted

@@ -3,7 +3,7 @@ use mathlib.Core.Path.{ap, _∙_}
 use denote.Ref.{now}
 use borrow.Author.Needs.{needs}
 use Rattle.command_operands.specs.declared.Command.{Command}
-use Rattle.walk_flow.specs.Terms.{under}
+use Rattle.walk_flow.specs.Terms.{byHeader}
 use Rattle.walk_blocks.specs.declared.Instruction.{Instruction}
 use Rattle.walk_blocks.proofs.RowOfCode.{row-at, command-is}
 use Rattle.walk_graph.specs.Onward.{commandOnward, onwardOf}
@@ -15,7 +15,7 @@ unfolding onwardOf
 returns c =
     let a = c .before .before .before .args in
     c .of-instruction .ensures
-    ∙ ap (λ (k : Command). commandOnward (under (a .header)) k (a .task) (a .block) (a .s))
+    ∙ ap (λ (k : Command). commandOnward (byHeader (a .header)) k (a .task) (a .block) (a .s))
     (ap (λ (i : Instruction). i .command) (c .before .instruction-at .ensures) ∙ command-is (now (a .blocks)) (a .block))
 
 pub onward-of-spec : {M : Type 1} → statement M

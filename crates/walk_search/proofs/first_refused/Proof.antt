@@ -3,14 +3,14 @@ use Prim.Native.Nat.{ℕ, _-_, _<_, _≤_}
 use mathlib.Core.Path.{_≡_, sym, ap, _∙_}
 use native.Mathlib.Omega.{arith}
 use borrow.Author.Count.{below-more}
-use Rattle.walk_flow.specs.Terms.{under}
+use Rattle.walk_flow.specs.Terms.{byHeader}
 use Rattle.command_judge.specs.BlockFault.{blockFaultNumber}
 use Rattle.walk.specs.Blocks.{blockNumber}
 use Rattle.walk_search.proofs.first_refused.Statement.{statement}
 use Rattle.walk_search.proofs.first_refused.Tie as tie
 
 abbrev Inv-loop : tie.InvT-loop
-Inv-loop header blocks b₀ b = (b ≤ header .count) × ((a : ℕ) → a < b → blockNumber (under header) blocks a ≡ 0)
+Inv-loop header blocks b₀ b = (b ≤ header .count) × ((a : ℕ) → a < b → blockNumber (byHeader header) blocks a ≡ 0)
 
 abbrev μ-loop : tie.MeasureT-loop
 μ-loop header blocks b₀ b = header .count - b

@@ -1,4 +1,4 @@
--- `judge` meets its contract: 13, the header, then the blocks and the walks.
+-- `judge` meets its contract: 13, the header and the landing blocks, then the blocks and the walks.
 use mathlib.Core.Path.{refl, sym, _∙_}
 use borrow.Author.Tests.{lt-ltb, not-true, not-false}
 use native.Mathlib.Omega.{arith}
@@ -19,28 +19,26 @@ returns c =
 
 returns-2 : tie.Need-returns-2
 returns-2 c =
-    let a = c .before .before .before .before .before .before .args in (
-      refused-image (now (a .image)) _ _ (c .before .before .read .ensures) (sym (c .before .is-done .ensures) ∙ not-true _ (c .if2 .taken))
-          (c .before .before .before .if1 .left),
+    let a = c .before .before .before .before .before .before .before .args in (
+      refused-image (now (a .image)) _ _ (c .before .before .read .ensures .0) (sym (c .before .is-done .ensures) ∙ not-true _ (c .if2 .taken))
+          (c .before .before .before .before .if1 .left),
       record { long = refl; rest = λ k i. refl },
     )
 
 judge-blocks-requires : tie.Need-judge-blocks-requires
 judge-blocks-requires c κs =
-    let a = c .before .before .before .before .before .before .before .before .args in (
-      ready (now (a .image)) _ (c .before .before .before .before .read .ensures) (sym (c .before .before .before .is-done .ensures)
-          ∙ not-false _ (c .before .before .if2 .left)),
-      c .before .before .before .before .before .if1 .left,
-    )
+    let a = c .before .before .before .before .before .before .before .before .before .before .args in
+    let read = c .before .before .before .before .before .read .ensures in
+    let good = ready (now (a .image)) _ _ (read .0) (read .1) (sym (c .before .before .before .before .is-done .ensures) ∙ not-false _ (c .before .before .before .if2 .left)) in
+    (good .0, (good .1, c .before .before .before .before .before .before .before .if1 .left))
 
 returns-3 : tie.Need-returns-3
 returns-3 c =
-    let a = c .before .before .before .before .before .before .before .before .before .before .before .args in
+    let a = c .before .before .before .before .before .before .before .before .before .before .before .before .before .args in
+    let read = c .before .before .before .before .before .before .before .before .read .ensures in
     let r = c .before .before .judge-blocks .ensures in (
-      judged-image (now (a .image)) _ _ _ _ (c .before .before .before .before .before .before .before .read .ensures)
-          (c .before .before .before .before .part-of .ensures) (sym (c .before .before .before .before .before .before .is-done .ensures)
-          ∙ not-false _ (c .before .before .before .before .before .if2 .left)) (c .before .before .before .before .before .before .before .before .if1 .left)
-          (r .0),
+      judged-image (now (a .image)) _ _ _ _ _ (read .0) (read .1) (c .before .before .before .before .part-of .ensures)
+          (sym (c .before .before .before .before .before .before .before .is-done .ensures) ∙ not-false _ (c .before .before .before .before .before .before .if2 .left)) (c .before .before .before .before .before .before .before .before .before .before .if1 .left) (r .0),
       r .1,
     )
 

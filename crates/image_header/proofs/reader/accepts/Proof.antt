@@ -7,15 +7,15 @@ use native.Mathlib.Omega.{arith}
 use native.Mathlib.Numerals.{add-one}
 use Rattle.logic.specs.Each.{eachBelow}
 use Rattle.image_header.specs.Numbers.{headerFrom}
-use Rattle.image_header.specs.Rows.{rowCount, firstPass, accepts}
+use Rattle.image_header.specs.Rows.{headerCount, firstPass, accepts}
 use Rattle.image_header.proofs.reader.accepts.Statement.{statement}
 use Rattle.image_header.proofs.reader.accepts.Tie as tie
 
 abbrev Inv-loop : tie.InvT-loop
-Inv-loop numbers pass₀ row₀ pass row = (row ≤ rowCount) × (pass ≡ firstPass row (headerFrom numbers))
+Inv-loop numbers pass₀ row₀ pass row = (row ≤ headerCount) × (pass ≡ firstPass row (headerFrom numbers))
 
 abbrev μ-loop : tie.MeasureT-loop
-μ-loop numbers pass₀ row₀ pass row = rowCount - row
+μ-loop numbers pass₀ row₀ pass row = headerCount - row
 
 loop-again : tie.Need-loop-again Inv-loop μ-loop
 unfolding eachBelow
@@ -25,9 +25,9 @@ returns : tie.Need-returns Inv-loop μ-loop
 unfolding accepts
 returns c =
     let l = c .before .loop in
-    let e : l .row ≡ rowCount = omega arith in
+    let e : l .row ≡ headerCount = omega arith in
     l .inv .1 ∙ ap (λ (k : ℕ). firstPass k (headerFrom (c .before .before .numbers-of .result))) e
-    ∙ ap (λ (ns : List ℕ). firstPass rowCount (headerFrom ns)) (c .before .before .numbers-of .ensures)
+    ∙ ap (λ (ns : List ℕ). firstPass headerCount (headerFrom ns)) (c .before .before .numbers-of .ensures)
 
 pub accepts-spec : {M : Type 1} → statement M
 unfolding eachBelow

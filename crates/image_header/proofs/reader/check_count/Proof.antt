@@ -4,12 +4,12 @@ use mathlib.Core.Path.{sym, _∙_}
 use lib.ListN.{getD}
 use lib.Dec.{ltb}
 use borrow.Author.Tests.{not-true, not-false}
-use Rattle.image_header.specs.Rows.{checked}
+use Rattle.image_header.specs.Rows.{headerChecked}
 use Rattle.image_header.proofs.reader.check_count.Statement.{statement}
 use Rattle.image_header.proofs.reader.check_count.Tie as tie
 
 returns-2 : tie.Need-returns-2
-unfolding checked
+unfolding headerChecked
 returns-2 c =
     let e = sym (c .before .before .count-in-range .ensures) ∙ not-false _ (c .before .if1 .left) in
     let t = c .before .before .before .args .t1 in
@@ -17,7 +17,7 @@ returns-2 c =
     rw (e, f)
 
 returns-3 : tie.Need-returns-3
-unfolding checked
+unfolding headerChecked
 returns-3 c =
     let e = sym (c .before .before .count-in-range .ensures) ∙ not-false _ (c .before .if1 .left) in
     let t = c .before .before .before .args .t1 in
@@ -25,7 +25,7 @@ returns-3 c =
     rw (e, f)
 
 pub check-count-spec : {M : Type 1} → statement M
-unfolding checked
+unfolding headerChecked
 check-count-spec =
     tie.close
     (tie.spec

@@ -1,10 +1,10 @@
--- `image_header::reader::read_row` meets its contract: a refusal stays, else what `image_number::read` finds is taken.
+-- `image_header::reader::read_row` meets its contract: where the number does not come next the scan stays, else what `image_number::read` finds is taken.
 use borrow.Author.Needs.{needs}
 use mathlib.Core.Path.{sym, _∙_}
 use denote.Ref.{now}
 use lib.ListN.{length}
 use borrow.Author.Tests.{not-true, not-false}
-use Rattle.image_header.specs.Scan.{fromImage}
+use Rattle.image_header.specs.Scan.{fromImage, alone}
 use Rattle.image_header.proofs.Scanning.{stays, takes}
 use Rattle.image_header.proofs.reader.read_row.Statement.{statement}
 use Rattle.image_header.proofs.reader.read_row.Tie as tie
@@ -13,16 +13,16 @@ returns : tie.Need-returns
 returns c =
     let st = c .before .before .before in
     let l = now (st .args .image) in
-    sym (stays (length l) (fromImage l) (st .args .row) (st .args .s) (sym (c .before .is-done .ensures)
-    ∙ not-true (c .before .is-done .result) (c .if1 .taken)))
+    let d = c .before .is-next in
+    sym (stays (length l) (fromImage l) (st .args .row) (alone (st .args .s)) (sym (d .ensures) ∙ not-true (d .result) (c .if1 .taken)))
 
 returns-2 : tie.Need-returns-2
 returns-2 c =
     let st = c .before .before .before .before .before in
     let l = now (st .args .image) in
-    let d = c .before .before .before .is-done in
+    let d = c .before .before .before .is-next in
     let ok = sym (d .ensures) ∙ not-false (d .result) (c .before .before .if1 .left) in
-    c .take-row .ensures ∙ sym (takes (length l) (fromImage l) (st .args .row) (st .args .s) ok _ (sym (c .before .read .ensures)))
+    c .take-row .ensures ∙ sym (takes (length l) (fromImage l) (st .args .row) (alone (st .args .s)) ok _ (sym (c .before .read .ensures)))
 
 pub read-row-spec : {M : Type 1} → statement M
 read-row-spec =

@@ -7,25 +7,25 @@ use native.Mathlib.Omega.{arith}
 use native.Mathlib.Numerals.{add-one}
 use Rattle.logic.specs.Each.{eachBelow}
 use Rattle.image_header.specs.Numbers.{numbersOf}
-use Rattle.image_header.specs.Rows.{rowCount, firstSame, sameHeader}
+use Rattle.image_header.specs.Rows.{headerCount, firstSame, sameHeader}
 use Rattle.image_header.proofs.reader.same.Statement.{statement}
 use Rattle.image_header.proofs.reader.same.Tie as tie
 
 abbrev Inv-loop : tie.InvT-loop
-Inv-loop p q same₀ row₀ same row = (row ≤ rowCount) × (same ≡ firstSame row p q)
+Inv-loop p q same₀ row₀ same row = (row ≤ headerCount) × (same ≡ firstSame row p q)
 
 abbrev μ-loop : tie.MeasureT-loop
-μ-loop p q same₀ row₀ same row = rowCount - row
+μ-loop p q same₀ row₀ same row = headerCount - row
 
 returns : tie.Need-returns Inv-loop μ-loop
 unfolding sameHeader
 returns c =
     let l = c .before .loop in
-    let e : l .row ≡ rowCount = omega arith in
+    let e : l .row ≡ headerCount = omega arith in
     let p = c .before .before .before .numbers-of in
     let q = c .before .before .numbers-of2 in
-    l .inv .1 ∙ ap (λ (k : ℕ). firstSame k (p .result) (q .result)) e ∙ ap (λ (ns : List ℕ). firstSame rowCount ns (q .result)) (p .ensures)
-    ∙ ap (λ (ns : List ℕ). firstSame rowCount (numbersOf (c .before .before .before .before .args .a)) ns) (q .ensures)
+    l .inv .1 ∙ ap (λ (k : ℕ). firstSame k (p .result) (q .result)) e ∙ ap (λ (ns : List ℕ). firstSame headerCount ns (q .result)) (p .ensures)
+    ∙ ap (λ (ns : List ℕ). firstSame headerCount (numbersOf (c .before .before .before .before .args .a)) ns) (q .ensures)
 
 pub same-spec : {M : Type 1} → statement M
 unfolding eachBelow

@@ -1,6 +1,7 @@
 -- `image_header::reader::take_row` meets its contract, by what was found.
 use borrow.Author.Needs.{needs}
-use Rattle.image_header.specs.Scan.{taken}
+use mathlib.Core.Path.{ap}
+use Rattle.image_header.specs.Scan.{taken, alone}
 use Rattle.image_header.proofs.reader.take_row.Statement.{statement}
 use Rattle.image_header.proofs.reader.take_row.Tie as tie
 
@@ -17,5 +18,5 @@ take-row-spec =
     (λ c. search needs)
     (λ c κs. search needs)
     (λ c. rw (c .before .before .found .given .1) (c .judge .ensures))
-    (λ c. rw (c .before .enum-told .given .1) (c .stop .ensures))
-    (λ c. rw (c .before .enum-told2 .given .1) (c .stop2 .ensures)))
+    (λ c. rw (c .before .enum-told .given .1) (ap alone (c .stop .ensures)))
+    (λ c. rw (c .before .enum-told2 .given .1) (ap alone (c .stop2 .ensures))))
