@@ -1,5 +1,7 @@
 // The functions that C calls (include/bias.h). C passes a pointer and a length for each slice, of any length, so none of them has a precondition:
 // each answers whatever bytes a host lends.
+#![tactic(auto)]
+
 ghost use Rattle.std.specs.Prelude.{◌≡◌, true, [], ◌∷◌, ◌<◌, length};
 ghost use Rattle.limits.specs.Limits.{task_count, marks_length, state_length, inputs_length};
 ghost use Rattle.walk.specs.Verdict.{verdict_of};
@@ -107,7 +109,7 @@ fn step_buffer(
     ramp_ended: u8,
     in_window: u8,
 ) -> BiasAnswer
-    requires t_lt_task_count { t < task_count }
+    requires task_in_range { t < task_count }
     requires inputs_len { length inputs.now ≡ inputs_length }
     ensures value { result ≡ (step_state image.now state.old (inputs_of t inputs.now start ramp_ended in_window)).answer }
     ensures state_after { state.new
@@ -155,7 +157,7 @@ fn carry_out(
     c: Command,
 ) -> BiasAnswer
     requires state_value { is_state state.old ≡ true }
-    requires t_lt_task_count { t < task_count }
+    requires task_in_range { t < task_count }
     requires header_value { header ≡ header_in state.old header_at }
     requires landings_value { landings.now ≡ (terms_held (decoded state.old)).landings }
     requires task_value { task ≡ task_at (decoded state.old) t }

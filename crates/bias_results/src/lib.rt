@@ -1,4 +1,6 @@
 // What C is handed (include/bias.h): the two structs of results, and document 01's numbers and places in them. Parts that an answer does not name are 0.
+#![tactic(auto)]
+
 ghost use Rattle.std.specs.Prelude.{◌≡◌};
 ghost use Rattle.machine.specs.Numbers.{cause_number, answer_number, answer_place, answer_task, answer_depth, request_number, stop_axis, request_axis, request_mode};
 ghost use Rattle.bias_results.specs.Results.{numbered, verdict_for, written_for, no_state_answer, answer_for};
@@ -13,7 +15,7 @@ pub const NO_STATE: u32 = 16;
 
 // The result of a load or a write.
 #[repr(C)]
-#[derive(Drop)]
+#[derive(Clone, Copy)]
 pub struct BiasVerdict {
     pub place: u64,
     pub number: u32,
@@ -23,7 +25,7 @@ pub struct BiasVerdict {
 
 // The result of a step: an answer and a motion request.
 #[repr(C)]
-#[derive(Drop)]
+#[derive(Clone, Copy)]
 pub struct BiasAnswer {
     pub place: u64,
     pub number: u32,

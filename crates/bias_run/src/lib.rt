@@ -1,5 +1,7 @@
 // An image loaded and a lent list of steps carried out, by the functions that C calls. What `bias_run` promises of them is the theorem over every list of
 // steps (proved_demands/specs/Theorem.antt). It has no precondition: every byte of the steps is answered, and a step that does not stand whole ends them.
+#![tactic(auto)]
+
 ghost use Rattle.std.specs.Prelude.{◌≡◌, ◌+◌, ◌≤◌, leb, length};
 ghost use Rattle.limits.specs.Limits.{marks_length};
 ghost use Rattle.state_bytes.specs.Bytes.{le_number_at};

@@ -1,5 +1,7 @@
 // A block judged (document 01, refusals 5 to 8, and change request 3, which splits 23 off 6). Crate `command_operands` reads the operands, devices.rt asks
 // the drive, ranges.rt judges the operands.
+#![tactic(auto)]
+
 ghost use Rattle.std.specs.Prelude.{◌≡◌};
 ghost use Rattle.command_judge.specs.BlockFault.{operand_fault, command_fault, row_fault, block_fault, block_fault_number};
 ghost use Rattle.command_operands.specs.Operands.{laid_out};
@@ -14,7 +16,7 @@ pub mod devices;
 pub mod ranges;
 
 // What is wrong with a block, the first in this order; of NotOnDrive and BoardMissing only one can be.
-#[derive(Drop)]
+#[derive(Clone, Copy)]
 pub enum BlockFault {
     Fine,
     // no command that we carry has its code

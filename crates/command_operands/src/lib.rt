@@ -1,4 +1,6 @@
 // The operands of a block, where its code's layout has them. Nothing is judged but that unused bytes are 0.
+#![tactic(auto)]
+
 ghost use Rattle.std.specs.Prelude.{◌≡◌};
 ghost use Rattle.command_operands.specs.Operands.{laid_out, operands, used_bytes, unused_zero};
 ghost use Rattle.command_operands.specs.Operands.{byte_of, word_of, pair_of, triple_of, triple_word_of, byte_word_of, value_of, byte_value_of, pair_value_of};
@@ -8,7 +10,7 @@ use command_table::Layout;
 use limits::BLOCK_LENGTH;
 
 // A command: its code and its operands. An operand that the code's layout does not have is 0.
-#[derive(Drop)]
+#[derive(Clone, Copy)]
 pub struct Command {
     pub code: u8,
     pub x: u8,

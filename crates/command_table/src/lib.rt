@@ -1,5 +1,7 @@
 // The commands carried (document 01, "The commands carried"; change request 1): one row for each code. A row says where the operands stand, what the drive must
 // have, which ranges the operands have, which tasks may use the command, and what it may continue with.
+#![tactic(auto)]
+
 ghost use Rattle.std.specs.Prelude.{◌≡◌};
 ghost use Rattle.command_table.specs.Rows.{facts, is_ending, no_row, row_of};
 
@@ -9,7 +11,7 @@ use Layout::*;
 use Ranges::*;
 
 // The facts of one command. `tasks` is the sum of the tasks that may use it (below).
-#[derive(Drop)]
+#[derive(Clone, Copy)]
 pub struct Row {
     // whether the code is carried at all
     pub carried: bool,
@@ -21,7 +23,7 @@ pub struct Row {
 }
 
 // Where the operands stand behind the code byte.
-#[derive(Drop)]
+#[derive(Clone, Copy)]
 pub enum Layout {
     // no operand
     Bare,
@@ -48,7 +50,7 @@ pub enum Layout {
 }
 
 // What the drive must have.
-#[derive(Drop)]
+#[derive(Clone, Copy)]
 pub enum Device {
     // every drive has it
     NoDevice,
@@ -67,7 +69,7 @@ pub enum Device {
 }
 
 // The values that the operands may have; 7 refuses all others.
-#[derive(Drop)]
+#[derive(Clone, Copy)]
 pub enum Ranges {
     // no operand has a range of its own
     Any,
@@ -100,7 +102,7 @@ pub enum Ranges {
 }
 
 // What the command may continue with.
-#[derive(Drop)]
+#[derive(Clone, Copy)]
 pub enum FlowKind {
     // nothing: a code that is not carried
     Nothing,

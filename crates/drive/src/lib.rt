@@ -1,4 +1,6 @@
 // The drives and their pins and option boards: document 01, "Drive and pins". Crate `drive_pins` has the rows of pins.
+#![tactic(auto)]
+
 ghost use Rattle.std.specs.Prelude.{◌≡◌};
 ghost use Rattle.drive.specs.Types.{cycle_of, takes, takes_b, takes_c};
 ghost use Rattle.drive.specs.Pins.{on_board, presence, pin_of};
@@ -6,7 +8,7 @@ ghost use Rattle.drive.specs.Pins.{on_board, presence, pin_of};
 use drive_pins::{Home, PinKind};
 
 // A drive as the header of an image names it: its model (document 01: type), and the numbers of the boards in its slots B and C.
-#[derive(Drop)]
+#[derive(Clone, Copy)]
 pub struct Drive {
     pub model: u8,
     pub b: u8,
@@ -14,7 +16,7 @@ pub struct Drive {
 }
 
 // Whether a drive has a pin of a kind; if not, whether a board that its type may carry would bring it.
-#[derive(Drop)]
+#[derive(Clone, Copy)]
 pub enum Presence {
     Present,
     BoardMissing,

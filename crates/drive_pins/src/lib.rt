@@ -1,9 +1,11 @@
 // The rows of pins: document 01, "Drive and pins". Where a pin is; whether a drive has what is there, crate `drive` says.
+#![tactic(auto)]
+
 ghost use Rattle.std.specs.Prelude.{◌≡◌, length};
 ghost use Rattle.drive_pins.specs.Homes.{inputs, outputs_written, home_in, home_of, home_numbered, rows_of};
 
 // What a command does with a pin.
-#[derive(Drop)]
+#[derive(Clone, Copy)]
 pub enum PinKind {
     Input,
     OutputWritten,
@@ -11,7 +13,7 @@ pub enum PinKind {
 }
 
 // Where a pin is: on the 631 itself, on every other type itself, or on a board, by its number in slot B or C.
-#[derive(Drop)]
+#[derive(Clone, Copy)]
 pub enum Home {
     Nowhere,
     Only631,

@@ -1,4 +1,6 @@
 // Actions in their forms, and what several commands read alike.
+#![tactic(auto)]
+
 ghost use Rattle.std.specs.Prelude.{◌≡◌, pos};
 ghost use Rattle.num_arith.specs.Ops.{eq_z};
 ghost use Rattle.machine.specs.Inputs.{level};
@@ -12,7 +14,7 @@ use state::Change;
 
 // What a command does, as it is handed on: what it changes of the values, and not the values after it, which would be copied from function to function; its
 // request to the axis; and what becomes of its task.
-#[derive(Drop)]
+#[derive(Clone, Copy)]
 pub struct Action {
     pub change: Change,
     pub request: Request,
@@ -20,7 +22,7 @@ pub struct Action {
 }
 
 // The landing block that a content names, if it names one.
-#[derive(Drop)]
+#[derive(Clone, Copy)]
 pub enum Landing {
     At(u16),
     Nowhere,

@@ -1,5 +1,7 @@
 // Commands of control (51 to 5B; 50 does nothing) and of mathematics (90): one function for each. They take what they read, and change
 // nothing but tasks.
+#![tactic(auto)]
+
 ghost use Rattle.std.specs.Prelude.{◌≡◌, cond, ◌*◌, ◌<◌, eqb};
 ghost use Rattle.limits.specs.Limits.{bias, plc, mathematics, most_time};
 ghost use Rattle.state.specs.Wait.{due};

@@ -1,4 +1,6 @@
 // What a command does: its row is found by its code.
+#![tactic(auto)]
+
 ghost use Rattle.std.specs.Prelude.{◌≡◌, ◌<◌};
 ghost use Rattle.state.specs.Change.{cells_of, values_of};
 ghost use Rattle.machine.specs.Effect.{effect_of};

@@ -1,4 +1,6 @@
 // Commands of flags and pins (60 to 68, 6E, 70 to 73): one function for each. They take what they read.
+#![tactic(auto)]
+
 ghost use Rattle.std.specs.Prelude.{◌≡◌, ◌&&◌, ◌||◌, not, eqb};
 ghost use Rattle.std.specs.Int.{w32};
 ghost use Rattle.num_arith.specs.Ops.{bit_at};

@@ -1,5 +1,7 @@
 // Commands of motion (00, 01, 03, 04, 0E, 0F, 1F) and of the stored parameters (20 to 23, 30 to 33, 40 to 43): one function for each.
 // They take what they read.
+#![tactic(auto)]
+
 ghost use Rattle.std.specs.Prelude.{◌≡◌, true, pos};
 ghost use Rattle.limits.specs.Limits.{most_speed, most_ramp};
 ghost use Rattle.state.specs.State.{first_axis, with_position, with_speed, with_acceleration, with_deceleration};

@@ -1,5 +1,7 @@
 // One step of one task: the tests in document 01's order (18, 17; 15 and 16 are the border's), then the command's action, and what it makes of notes and
 // answer.
+#![tactic(auto)]
+
 ghost use Rattle.std.specs.Prelude.{◌≡◌, ◌||◌, not, ◌<◌};
 ghost use Rattle.walk_flow.specs.Terms.{under};
 ghost use Rattle.walk_blocks.specs.Instructions.{instruction_of};
@@ -21,7 +23,7 @@ use walk_blocks::Instruction;
 use walk_point::Point;
 
 // What stands against a step, by 18 or 17, or the command that it carries out.
-#[derive(Drop)]
+#[derive(Clone, Copy)]
 pub enum Ready {
     Refused(Answer),
     Carries(Command),

@@ -1,4 +1,6 @@
 // The three tasks after a command: each operation on a task's record by value, and what an outcome makes of the tasks.
+#![tactic(auto)]
+
 ghost use Rattle.std.specs.Prelude.{◌≡◌, ◌+◌, ◌-◌, ◌<◌, ◌≤◌, set};
 ghost use Rattle.limits.specs.Limits.{most_blocks, most_depth};
 ghost use Rattle.machine.specs.DepthAllows.{DepthAllows};
@@ -33,8 +35,8 @@ fn stay_with(time: u32, turns: u32, mut task: Task) -> Task
 
 // A call: the block behind it goes on the call stack.
 fn call_to(a: u16, mut task: Task) -> Task
-    requires block_lt_most_blocks { task.block < most_blocks }
-    requires depth_lt_most_depth { task.depth < most_depth }
+    requires block_in_range { task.block < most_blocks }
+    requires depth_in_range { task.depth < most_depth }
     ensures { result ≡ call_to a task }
 {
     let depth = task.depth;
@@ -50,7 +52,7 @@ fn call_to(a: u16, mut task: Task) -> Task
 // A return: the last block comes off the stack, and its entry is cleared.
 fn return_from(mut task: Task) -> Task
     requires depth_nonzero { 0 < task.depth }
-    requires depth_le_most_depth { task.depth ≤ most_depth }
+    requires depth_in_range { task.depth ≤ most_depth }
     ensures { result ≡ return_from task }
 {
     let last = task.depth - 1;
@@ -105,7 +107,7 @@ fn put(mut tasks: [Task; TASKS], t: u8, task: Task) -> [Task; TASKS]
 
 // The tasks after the outcome of a command that task t, whose record is `task`, executed; `first` is the program start.
 pub fn after(first: u16, t: u8, task: Task, outcome: Outcome, tasks: [Task; TASKS]) -> [Task; TASKS]
-    requires block_lt_most_blocks { task.block < most_blocks }
+    requires block_in_range { task.block < most_blocks }
     requires depth_allows { DepthAllows task.depth outcome }
     ensures { result ≡ tasks_after first t task outcome tasks }
 {

@@ -1,4 +1,6 @@
 // Commands of variables (80 to 86, 88 to 8D): one function for each. They take what they read.
+#![tactic(auto)]
+
 ghost use Rattle.std.specs.Prelude.{◌≡◌, ◌+◌, ◌*◌, pos, ◌+ℤ◌, ◌-ℤ◌, ◌*ℤ◌};
 ghost use Rattle.std.specs.Int.{w32};
 ghost use Rattle.num_arith.specs.Wrap.{word, wrap};

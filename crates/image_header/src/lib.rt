@@ -1,11 +1,13 @@
 // The program image (document 01, "The image"; change request 1): the numbers of a header, in format 2 the landing blocks, then the blocks, and no byte more.
 // Crate `image_number` reads one number, reader.rt reads and judges the header and the landing blocks; `image_writer` writes an image.
+#![tactic(auto)]
+
 use drive::Drive;
 
 pub mod reader;
 
 // The header of an image.
-#[derive(Drop)]
+#[derive(Clone, Copy)]
 pub struct Header {
     pub format: u8,
     pub drive: Drive,

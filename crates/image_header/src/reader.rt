@@ -47,7 +47,7 @@ const MOST_BLOCKS: u32 = limits::MOST_BLOCKS as u32;
 const MOST_LANDING_COUNT: u32 = limits::MOST_LANDINGS as u32;
 
 // A header as read: the result; the header, all 0 when refused; the place of the blocks, 0 when refused.
-#[derive(Drop)]
+#[derive(Clone, Copy)]
 pub struct HeaderRead {
     pub result: ImageResult,
     pub header: Header,
@@ -56,7 +56,7 @@ pub struct HeaderRead {
 
 // The header's numbers so far, and the place of the next one; where a row refused, the numbers before that row's, and that row's place. The landing blocks are
 // in an array that is lent beside it.
-#[derive(Drop)]
+#[derive(Clone, Copy)]
 pub struct Scan {
     pub result: ImageResult,
     pub numbers: [u32; HEADER_ROWS],
@@ -64,7 +64,7 @@ pub struct Scan {
 }
 
 // What a row finds: nothing wrong, or which number is out of range.
-#[derive(Drop)]
+#[derive(Clone, Copy)]
 pub enum Check {
     Passes,
     Fails(usize),
@@ -393,7 +393,7 @@ fn read_landings(image: &[u8], s: Scan, landings: &mut [u16; MOST_LANDINGS]) -> 
     requires landings_value { beside s landings.old ≡ scan (length image.now) (from_image image.now) header_count }
     requires landings_len { length landings.old ≡ most_landings }
     ensures landings_after { beside result landings.new ≡ scan_of image.now }
-    ensures landings_len_2 { length landings.new ≡ most_landings }
+    ensures length_kept { length landings.new ≡ most_landings }
 {
     let mut t = s;
     let mut i: usize = 0;
@@ -409,10 +409,10 @@ fn read_landings(image: &[u8], s: Scan, landings: &mut [u16; MOST_LANDINGS]) -> 
 
 // What stands at the scan's place, taken as a landing block.
 fn read_landing(image: &[u8], i: usize, s: Scan, landings: &mut [u16; MOST_LANDINGS]) -> Scan
-    requires i_lt_most_landings { (i < most_landings) × (i ≤ get_or s.numbers 6 0) }
+    requires index_in_range { (i < most_landings) × (i ≤ get_or s.numbers 6 0) }
     requires landings_len { length landings.old ≡ most_landings }
     ensures landings_after { beside result landings.new ≡ taken (length image.now) (header_count + i) (beside s landings.old) (number_at image.now s.at) }
-    ensures landings_len_2 { length landings.new ≡ most_landings }
+    ensures length_kept { length landings.new ≡ most_landings }
 {
     let at = s.at;
     match image_number::read(image, at) {
@@ -430,10 +430,10 @@ pub fn judge_landing(
     next: usize,
     landings: &mut [u16; MOST_LANDINGS],
 ) -> Scan
-    requires i_lt_most_landings { (i < most_landings) × (i ≤ get_or s.numbers 6 0) }
+    requires index_in_range { (i < most_landings) × (i ≤ get_or s.numbers 6 0) }
     requires landings_len { length landings.old ≡ most_landings }
     ensures landings_after { beside result landings.new ≡ judged (header_count + i) (beside s landings.old) block next }
-    ensures landings_len_2 { length landings.new ≡ most_landings }
+    ensures length_kept { length landings.new ≡ most_landings }
 {
     let numbers = s.numbers;
     if !landing_fits(numbers[COUNT], i, block_before(landings, i), block) {
@@ -490,7 +490,7 @@ pub fn wide(block: u16) -> u32
 
 // The header that was read, once the image's length is judged too.
 fn close(s: Scan, length: usize) -> HeaderRead
-    requires at_le_most_header_bytes { s.at ≤ most_header_bytes }
+    requires room { s.at ≤ most_header_bytes }
     requires narrow { done s.result ≡ true → Narrow s.numbers }
     ensures { result ≡ closed (alone s) length }
 {

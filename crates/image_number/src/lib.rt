@@ -1,11 +1,13 @@
 // The numbers of an image (document 01, "The image"): seven bits to a byte, one or two bytes, always the fewest. The value is summed
 // in 16 bits; its place keeps the width of the image's length.
+#![tactic(auto)]
+
 ghost use Rattle.std.specs.Prelude.{◌≡◌, ◌+◌, ◌<◌, length};
 ghost use Rattle.image_number.specs.Number.{number_at, number_bytes};
 
 // What stands at a place: a number with the place behind it; too few bytes; or bytes that are not the shortest form of a
 // number of two bytes (a second byte that is 0 or has its top bit set).
-#[derive(Drop)]
+#[derive(Clone, Copy)]
 pub enum Number {
     Value(u16, usize),
     EndsEarly,

@@ -1,9 +1,11 @@
 // What reading or writing an image comes to, with document 01's numbers and places ("Refused because of the input").
+#![tactic(auto)]
+
 ghost use Rattle.std.specs.Prelude.{◌≡◌};
 ghost use Rattle.image_result.specs.ImageResult.{result_number, result_place, done};
 
 // What reading or writing an image comes to: done, or a refusal with its place.
-#[derive(Drop)]
+#[derive(Clone, Copy)]
 pub enum ImageResult {
     Done,
     EndsEarly(usize),

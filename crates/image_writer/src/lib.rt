@@ -1,5 +1,7 @@
 // The image writers, one for each format: document 01, "Refused because of the input", its last paragraph; change request 1. They judge the numbers as the
 // reader does, then the length of the blocks (1, 4), then the room (14); they do not judge blocks.
+#![tactic(auto)]
+
 ghost use Rattle.std.specs.Prelude.{◌≡◌, true, [], ◌∷◌, ◌++◌, ◌+◌, ◌<◌, ◌≤◌, length, get_or};
 ghost use Rattle.std.proofs.lemmas.List.Edits.{sets};
 ghost use Rattle.limits.specs.Limits.{most_landings};
@@ -21,7 +23,7 @@ const ROWS: usize = HEADER_ROWS + MOST_LANDINGS;
 const TOO_MANY: u32 = MOST_LANDINGS as u32 + 1;
 
 // What writing came to: the result, and the length of the image, 0 when refused.
-#[derive(Drop)]
+#[derive(Clone, Copy)]
 pub struct Written {
     pub result: ImageResult,
     pub length: usize,
@@ -138,10 +140,10 @@ fn judge_number(
     bytes: &[u8],
     landings: &mut [u16; MOST_LANDINGS],
 ) -> Scan
-    requires at_le_most_header_bytes { (s.at ≤ most_header_bytes) × (row < row_count) }
+    requires room { (s.at ≤ most_header_bytes) × (row < row_count) }
     requires landings_len { length landings.old ≡ most_landings }
     ensures landings_after { beside result landings.new ≡ more 0 (given_numbers (numbers ++ words_of bytes.now)) row (beside s landings.old) }
-    ensures landings_len_2 { length landings.new ≡ most_landings }
+    ensures length_kept { length landings.new ≡ most_landings }
 {
     if !reader::is_next(s, row) {
         return s;
@@ -228,7 +230,7 @@ fn put_image(numbers: [u32; HEADER_ROWS], landings: &[u8], blocks: &[u8], out: &
     ensures { out.new ≡ overlaid (image_of (numbers ++ words_of landings.now) blocks.now) out.old }
 {
     let at = put_numbers(numbers, landings, out);
-    bytes::copy(blocks, &mut out[at..]);
+    out[at..at + blocks.len()].copy_from_slice(blocks);
 }
 
 // The numbers' bytes, one after the other; gives the place behind them.
@@ -255,8 +257,8 @@ fn put_number(
     at: usize,
     out: &mut [u8],
 ) -> usize
-    requires row_lt_row_count { row < row_count }
-    requires row_bound { stands row (numbers ++ words_of landings.now) ≡ true → get_or (numbers ++ words_of landings.now) row 0 < number_limit }
+    requires row_in_range { row < row_count }
+    requires number_in_range { stands row (numbers ++ words_of landings.now) ≡ true → get_or (numbers ++ words_of landings.now) row 0 < number_limit }
     requires row_in_bounds { at + length (bytes_at (numbers ++ words_of landings.now) row) ≤ length out.old }
     ensures value { result ≡ at + length (bytes_at (numbers ++ words_of landings.now) row) }
     ensures out_after { out.new ≡ sets out.old at (bytes_at (numbers ++ words_of landings.now) row) }

@@ -1,6 +1,8 @@
 // Judges test images: a line of standard input is an image in capital hexadecimal digits, and its verdict is a line of standard output; behind that
 // of an accepted image stands a line of its blocks, how many bytes and a sum of them. What it prints is held to the file stdout, whose lines come
 // from a second reading of the papers (host/reference/judge_images.rs prints them).
+#![tactic(auto)]
+
 ghost use Rattle.std.specs.Prelude.{◌≡◌, ◌+◌, ◌*◌, ◌%◌, ◌<◌, length};
 ghost use Rattle.limits.specs.Limits.{marks_length};
 ghost use Rattle.walk.specs.Verdict.{verdict_of, accepted_blocks};
@@ -49,14 +51,14 @@ fn rows(text: &[u8]) -> usize
 }
 
 // What is shown of an image.
-#[derive(Drop)]
+#[derive(Clone, Copy)]
 pub struct Shown {
     pub verdict: Verdict,
     pub blocks: Blocks,
 }
 
 // The blocks that are handed back: how many bytes, and their sum.
-#[derive(Drop)]
+#[derive(Clone, Copy)]
 pub struct Blocks {
     pub length: usize,
     pub check: u64,

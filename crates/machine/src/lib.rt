@@ -1,11 +1,13 @@
 // What a step hands out, and what a command comes to. No code here: specs/ says what commands do, what the engine's step and the reference machine
 // (document 01: plain machine) are, and proofs/ that they agree.
+#![tactic(auto)]
+
 use drive::Drive;
 use state::{Axis, State, Values};
 use walk_point::Point;
 
 // The motion request of a step. A move carries the stored position, speed, acceleration and deceleration; a stop its mode and a deceleration.
-#[derive(Drop)]
+#[derive(Clone, Copy)]
 pub enum Request {
     None,
     MoveTo(Axis),
@@ -16,7 +18,7 @@ pub enum Request {
 }
 
 // Why a command halts its task.
-#[derive(Drop)]
+#[derive(Clone, Copy)]
 pub enum Cause {
     // 19: the divisor is zero
     ZeroDivisor,
@@ -27,7 +29,7 @@ pub enum Cause {
 }
 
 // How the task that executes a command goes on.
-#[derive(Drop)]
+#[derive(Clone, Copy)]
 pub enum Outcome {
     // with the next block
     GoOn,
@@ -50,7 +52,7 @@ pub enum Outcome {
 }
 
 // What a command does: to the values, to the axis by a request, and to its task.
-#[derive(Drop)]
+#[derive(Clone, Copy)]
 pub struct Effect {
     pub values: Values,
     pub request: Request,
@@ -58,7 +60,7 @@ pub struct Effect {
 }
 
 // What a step answers.
-#[derive(Drop)]
+#[derive(Clone, Copy)]
 pub enum Answer {
     Done,
     // 15: no such task
@@ -75,7 +77,7 @@ pub enum Answer {
 
 // What a command may read besides the values and the input levels: the drive; the start input, "ramp ended" and "in window" as levels (0 or 1); and its
 // task's pending wait.
-#[derive(Drop)]
+#[derive(Clone, Copy)]
 pub struct Context {
     pub drive: Drive,
     pub start: u8,
@@ -86,7 +88,7 @@ pub struct Context {
 }
 
 // What a step hands out.
-#[derive(Drop)]
+#[derive(Clone, Copy)]
 pub struct StepOut {
     pub state: State,
     pub request: Request,

@@ -1,5 +1,7 @@
 // Runs the manual's examples: a line of standard input is a program image and a list of steps, and its trace goes to standard output. What is printed is
 // held to the file stdout, which comes from other readings of the papers and not from this code; docs/EXAMPLES.md says which, and names the examples.
+#![tactic(auto)]
+
 ghost use Rattle.std.specs.Prelude.{◌≡◌, ◌+◌, ◌/◌, ◌≤◌, length, set};
 ghost use Rattle.limits.specs.Limits.{state_length};
 ghost use Rattle.text_hex.specs.Lines.{lines_of};

@@ -1,6 +1,8 @@
 // Signed 32-bit arithmetic as document 01 has it for variables ("Running"): sums, differences, products and negations wrap, a
 // quotient is cut towards zero. Negations and quotients are native; the language has no signed sum, difference or product that wraps, so these
 // are done exactly in 64 bits, and `narrow` cuts the result once.
+#![tactic(auto)]
+
 ghost use Rattle.std.specs.Prelude.{◌≡◌, neg_ℤ, ◌+ℤ◌, ◌-ℤ◌, ◌*ℤ◌};
 ghost use Rattle.std.specs.Int.{w32};
 ghost use Rattle.std.proofs.Common.{to_z};
@@ -8,7 +10,7 @@ ghost use Rattle.num_arith.specs.Wrap.{word, wrap};
 ghost use Rattle.num_arith.specs.Ops.{quotient, holds, bit_at};
 
 // What a division gives: a zero divisor is an answer of its own.
-#[derive(Drop)]
+#[derive(Clone, Copy)]
 pub enum Quotient {
     Value(i32),
     ByZero,

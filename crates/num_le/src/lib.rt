@@ -1,5 +1,7 @@
 // Numbers in bytes, low byte first (document 01, "The commands carried"), of 1, 2 and 4 bytes. Each is read from, and put into,
 // an array of exactly its width, so no function here needs an index or a precondition.
+#![tactic(auto)]
+
 ghost use Rattle.std.specs.Prelude.{◌≡◌, ◌<◌};
 ghost use Rattle.std.specs.Int.{w32};
 ghost use Rattle.std.proofs.Common.{to_z};

@@ -1,5 +1,7 @@
 // The state of a program that runs, by value (document 01, "Running"): the values in three parts (cells, motion, notes), and a record for each task with its
 // own call stack. The buffer that firmware keeps is read and written by the crates above (docs/STATE.md).
+#![tactic(auto)]
+
 ghost use Rattle.std.specs.Prelude.{◌≡◌};
 ghost use Rattle.state.specs.Wait.{due};
 ghost use Rattle.state.specs.State.{never_started, running, fresh_values, fresh};
@@ -21,7 +23,7 @@ pub const HALTED: u8 = 3;
 
 // A task: its status; the block that it is at and the one that it starts at; its call stack, of which the first `depth` blocks count, each the block
 // behind a 52; its pending wait, the time T in ms and the turns k, both 0 where there is none.
-#[derive(Drop)]
+#[derive(Clone, Copy)]
 pub struct Task {
     pub status: u8,
     pub block: u16,
@@ -33,7 +35,7 @@ pub struct Task {
 }
 
 // The stored parameters of the axis.
-#[derive(Drop)]
+#[derive(Clone, Copy)]
 pub struct Axis {
     pub position: i32,
     pub speed: u16,
@@ -45,7 +47,7 @@ pub struct Axis {
 pub const FIRST_AXIS: u8 = 0;
 
 // Variables, flags and output levels.
-#[derive(Drop)]
+#[derive(Clone, Copy)]
 pub struct Cells {
     pub variables: [i32; CELLS],
     pub flags: [u8; CELLS],
@@ -53,21 +55,21 @@ pub struct Cells {
 }
 
 // What motion commands keep: the stored parameters of the axis, and the start mark of 0E.
-#[derive(Drop)]
+#[derive(Clone, Copy)]
 pub struct Motion {
     pub axis: Axis,
     pub mark: u8,
 }
 
 // Notes of BIAS: the start input's level at its latest step that was not refused, and whether its latest step that was executed carried out a move.
-#[derive(Drop)]
+#[derive(Clone, Copy)]
 pub struct Notes {
     pub level: u8,
     pub moved: u8,
 }
 
 // What commands read and write besides their task.
-#[derive(Drop)]
+#[derive(Clone, Copy)]
 pub struct Values {
     pub cells: Cells,
     pub motion: Motion,
@@ -75,7 +77,7 @@ pub struct Values {
 }
 
 // What one command changes of them: nothing, the content of one cell, the stored parameters of an axis, or the start mark.
-#[derive(Drop)]
+#[derive(Clone, Copy)]
 pub enum Change {
     Nothing,
     Variable(u8, i32),
@@ -86,7 +88,7 @@ pub enum Change {
 }
 
 // The landing list has room for the most landing blocks: the header says how many of it there are.
-#[derive(Drop)]
+#[derive(Clone, Copy)]
 pub struct State {
     pub values: Values,
     pub header: Header,

@@ -1,4 +1,6 @@
 // Numbers at places of a buffer, low byte first. A place has to be there, all of its bytes, so that no byte is tested by itself.
+#![tactic(auto)]
+
 ghost use Rattle.std.specs.Prelude.{◌≡◌, ◌+◌, ◌≤◌, length};
 ghost use Rattle.num_le.specs.LittleEndian.{le_bytes};
 ghost use Rattle.state_bytes.specs.Bytes.{le_number_at, signed_at, signed_bytes, puts};

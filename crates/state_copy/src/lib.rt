@@ -1,4 +1,6 @@
 // A state buffer as an array by value, for a program that compares two.
+#![tactic(auto)]
+
 ghost use Rattle.std.specs.Prelude.{◌≡◌, length};
 ghost use Rattle.limits.specs.Limits.{state_length};
 ghost use Rattle.num_le.specs.LittleEndian.{Bytes};
@@ -12,6 +14,6 @@ pub fn copy_in(s: &[u8]) -> [u8; STATE_LENGTH]
     ensures bytes { Bytes result }
 {
     let mut r = [0u8; STATE_LENGTH];
-    bytes::copy(s, &mut r);
+    r.copy_from_slice(s);
     r
 }

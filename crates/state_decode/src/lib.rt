@@ -1,4 +1,6 @@
 // A buffer read as a state, section by section.
+#![tactic(auto)]
+
 ghost use Rattle.std.specs.Prelude.{◌≡◌, ℕ, ◌+◌, ◌*◌, ◌<◌, ◌≤◌, length, get_or};
 ghost use Rattle.limits.specs.Limits.{task_count, most_depth, most_landings, state_length};
 ghost use Rattle.state.specs.State.{task_at};
@@ -21,7 +23,7 @@ pub fn tasks_in(b: &[u8]) -> [Task; TASKS]
 // One of them.
 pub fn task_at(b: &[u8], t: u8) -> Task
     requires b_len { length b.now ≡ state_length }
-    requires t_lt_task_count { t < task_count }
+    requires task_in_range { t < task_count }
     ensures { result ≡ task_at (decoded b.now) t }
 {
     if t == limits::BIAS {
@@ -142,8 +144,8 @@ pub fn header_in(b: &[u8]) -> Header
 // The landing list, of which the first `count` are landing blocks: no others are read, as 16 has found them 0.
 pub fn landings_in(b: &[u8], count: u8) -> [u16; MOST_LANDINGS]
     requires b_len { length b.now ≡ state_length }
-    requires count_le_most_landings { count ≤ most_landings }
-    requires by_index { (k : ℕ) → count ≤ k → get_or (landings_in b.now landings_at) k 0 ≡ 0 }
+    requires count_in_range { count ≤ most_landings }
+    requires zeros_behind { (k : ℕ) → count ≤ k → get_or (landings_in b.now landings_at) k 0 ≡ 0 }
     ensures { result ≡ landings_in b.now landings_at }
 {
     let n = count as usize;

@@ -1,4 +1,6 @@
 // A state written as a buffer, section by section.
+#![tactic(auto)]
+
 ghost use Rattle.std.specs.Prelude.{◌≡◌, [], ◌∷◌, ℕ, ◌+◌, ◌*◌, ◌<◌, ◌≤◌, length, get_or, replicate};
 ghost use Rattle.limits.specs.Limits.{state_length};
 ghost use Rattle.state_bytes.specs.Bytes.{puts};
@@ -165,7 +167,7 @@ fn put_task(b: &mut [u8], at: usize, task: Task)
 fn put_words(b: &mut [u8], at: usize, words: &[u16])
     requires { at + 2 * length words.now ≤ length b.old }
     ensures b_after { b.new ≡ puts b.old at (word_bytes (length words.now) words.now) }
-    ensures by_index { (k : ℕ) → get_or words.now k 0 < 65536 }
+    ensures words_fit { (k : ℕ) → get_or words.now k 0 < 65536 }
 {
     let mut i: usize = 0;
     while i < words.len() {

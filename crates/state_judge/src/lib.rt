@@ -1,4 +1,6 @@
 // 16: which buffers are a state.
+#![tactic(auto)]
+
 ghost use Rattle.std.specs.Prelude.{◌≡◌, ◌+◌, ◌≤◌, length};
 ghost use Rattle.limits.specs.Limits.{most_depth, cells, state_length};
 ghost use Rattle.image_header.specs.Rows.{accepts_landings};

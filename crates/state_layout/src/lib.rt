@@ -1,5 +1,6 @@
 // The layout of the state buffer that firmware keeps between steps (docs/STATE.md): the place of each section, behind the one before it. The definitions say
 // which state a buffer holds, which bytes a state has, and which buffers are no state (16); crates state_decode, state_encode and state_judge do it.
+#![tactic(auto)]
 
 // Raised by each release that moves a byte or gives one another meaning, an unused one included: 16 refuses a state with another.
 pub const LAYOUT_NUMBER: u8 = 5;

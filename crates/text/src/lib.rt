@@ -1,5 +1,7 @@
 // Text in bytes: words, decimal, signed and hexadecimal numbers, each put behind the text that stands in the first `at` bytes of a lent buffer.
 // Each function gives where the text ends then; what there is no room for is cut off. A line is put word by word (proofs/Joined.antt).
+#![tactic(auto)]
+
 ghost use Rattle.std.specs.Prelude.{◌≡◌, ◌<◌};
 ghost use Rattle.text.specs.Text.{decimal_of, labelled, signed_of, hex_digit, hex_of, hex_all};
 ghost use Rattle.text.specs.Put.{Put};

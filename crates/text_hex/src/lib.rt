@@ -1,4 +1,6 @@
 // Bytes as text: two capital hexadecimal digits for each.
+#![tactic(auto)]
+
 ghost use Rattle.std.specs.Prelude.{◌≡◌, ◌++◌, ◌/◌, min, length, drop};
 ghost use Rattle.io.specs.Counts.{IsPrefixLen};
 ghost use Rattle.text_hex.specs.Hex.{digit_of, hex_byte, hex_bytes};

@@ -1,5 +1,7 @@
 // Numbers behind a word, to standard output: put together by `text`, then written once. Each function gives back what it shows. A word and its
 // number are cut at ROOM bytes.
+#![tactic(auto)]
+
 ghost use Rattle.std.specs.Prelude.{◌≡◌};
 
 use libc::STDOUT_FILENO;

@@ -1,5 +1,7 @@
 // A step as a line of text: task, block and command; what it changed in the state buffer; the motion request; the answer. The texts themselves are held
 // to the stored output of the program manual; the contracts say which things are shown as changed.
+#![tactic(auto)]
+
 ghost use Rattle.std.specs.Prelude.{◌≡◌, ◌&&◌, ◌+◌, ◌*◌, ◌<◌, ◌≤◌, eqb, ltb, length};
 ghost use Rattle.limits.specs.Limits.{task_count, cells, state_length};
 ghost use Rattle.image_header.specs.Scan.{blocks_of};

@@ -1,4 +1,6 @@
 // The line of a verdict (document 01, on the verdict program), and an image judged with marks of its own.
+#![tactic(auto)]
+
 ghost use Rattle.std.specs.Prelude.{◌≡◌, ◌≤◌, length};
 ghost use Rattle.limits.specs.Limits.{marks_length};
 ghost use Rattle.io.specs.Counts.{IsPrefixLen};
@@ -29,7 +31,7 @@ pub fn input() -> [u8; INPUT_LENGTH]
 }
 
 // An image judged: the verdict, and its line as it was written.
-#[derive(Drop)]
+#[derive(Clone, Copy)]
 pub struct Judged {
     pub verdict: Verdict,
     pub line: LineBytes,
@@ -55,7 +57,7 @@ pub fn marks() -> [u8; MARKS_LENGTH]
 }
 
 // The bytes of a line, and how many of them are it.
-#[derive(Drop)]
+#[derive(Clone, Copy)]
 pub struct LineBytes {
     pub bytes: [u8; LINE_ROOM],
     pub length: usize,

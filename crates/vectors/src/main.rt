@@ -1,5 +1,7 @@
 // Runs vectors with known answers over the lower crates, from numbers to the loader, a line for each, and a table of the pins of every drive.
 // What it prints is held to the file stdout, whose answers are document 01's. Each function shows what it does, and gives it back.
+#![tactic(auto)]
+
 ghost use Rattle.std.specs.Prelude.{◌≡◌, [], ◌∷◌, ◌+◌, ◌+ℤ◌, length};
 ghost use Rattle.std.specs.Int.{w32};
 ghost use Rattle.limits.specs.Limits.{marks_length};

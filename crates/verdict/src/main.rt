@@ -1,12 +1,14 @@
 // The verdict program (document 01): reads an image from standard input and prints the line of its verdict. It takes no arguments: with any it says
 // on standard error how it is used, and judges nothing.
+#![tactic(auto)]
+
 ghost use Rattle.std.specs.Prelude.{◌≡◌};
 ghost use Rattle.verdict.specs.Arguments.{purpose_of};
 
 use libc::{STDERR_FILENO, STDIN_FILENO};
 
 // What the program is asked for.
-#[derive(Drop)]
+#[derive(Clone, Copy)]
 pub enum Purpose {
     Judge,
     Usage,

@@ -1,13 +1,15 @@
 // The verdict on an image with lent marks (document 01, "Refused because of the input"; 16, which comes second in a load, belongs to the
 // state buffer). No code here: specs/ says what walks are and what a verdict says of them, and computes the verdict; the crate walk_search
 // finds it.
+#![tactic(auto)]
+
 use command_judge::BlockFault;
 use image_result::ImageResult;
 use walk_fault::Fault;
 use walk_point::Point;
 
 // What an image and marks come to: accepted, or the first refusal with its place.
-#[derive(Drop)]
+#[derive(Clone, Copy)]
 pub enum Verdict {
     Accepted,
     // marks of this length are too short

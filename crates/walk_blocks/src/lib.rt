@@ -1,5 +1,7 @@
 // The blocks of an image one by one: the bytes of a block, its command, what is wrong with it by itself, and what it breaks at a point. Blocks are any bytes:
 // a byte past their end is read as 0.
+#![tactic(auto)]
+
 ghost use Rattle.std.specs.Prelude.{◌≡◌, ◌+◌, ◌≤◌, length, get_or};
 ghost use Rattle.limits.specs.Limits.{block_length};
 ghost use Rattle.walk_flow.specs.Terms.{by_header};
@@ -15,7 +17,7 @@ use walk_fault::Fault;
 use walk_point::Point;
 
 // A command with its code's row.
-#[derive(Drop)]
+#[derive(Clone, Copy)]
 pub struct Instruction {
     pub row: Row,
     pub command: Command,

@@ -1,9 +1,11 @@
 // What a command may break at a point of a walk (document 01: 7 of a foreign 51, then 9, 10, 11, 12), with document 01's numbers.
+#![tactic(auto)]
+
 ghost use Rattle.std.specs.Prelude.{◌≡◌};
 ghost use Rattle.walk_fault.specs.Fault.{is_foreign, is_bad, fault_number};
 
 // What a command breaks at a point, the first in this order.
-#[derive(Drop)]
+#[derive(Clone, Copy)]
 pub enum Fault {
     Fine,
     Foreign,

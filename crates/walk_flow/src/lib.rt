@@ -1,4 +1,6 @@
 // What a command may continue with (document 01, "Walks"), and which task may execute it: 7 of a 51 that ends another task, and the boxes of 9.
+#![tactic(auto)]
+
 ghost use Rattle.std.specs.Prelude.{◌≡◌};
 ghost use Rattle.command_table.specs.Rows.{row_of};
 ghost use Rattle.walk_flow.specs.Terms.{by_header};
@@ -10,7 +12,7 @@ use command_table::{FlowKind, Row};
 use image_header::Header;
 
 // What a command may continue with; the blocks named are those of its operands.
-#[derive(Drop)]
+#[derive(Clone, Copy)]
 pub enum Flow {
     // the next block
     Next,

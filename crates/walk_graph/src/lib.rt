@@ -1,5 +1,7 @@
 // The blocks of an image as a graph of pairs, a task at a block, with a set of depths for each: what the command at a pair breaks, at which depths, and to
 // which pairs it hands the other depths on. Blocks are any bytes.
+#![tactic(auto)]
+
 ghost use Rattle.std.specs.Prelude.{◌≡◌, cond};
 ghost use Rattle.command_table.specs.Rows.{row_of};
 ghost use Rattle.walk_flow.specs.Terms.{by_header};
@@ -11,7 +13,7 @@ use walk_blocks::Instruction;
 use walk_flow::Flow;
 
 // What the command at a pair breaks at some depths, and where it hands the others on. A set of depths has a binary digit for each depth.
-#[derive(Drop)]
+#[derive(Clone, Copy)]
 pub struct Onward {
     // whether a 51 there ends another task
     pub foreign: bool,

@@ -1,4 +1,6 @@
 // Points of a walk and what one point breaks (document 01, "Walks"; refusals 7 of a foreign 51, then 9, 10, 11, 12).
+#![tactic(auto)]
+
 ghost use Rattle.std.specs.Prelude.{◌≡◌, cond, [], ◌∷◌};
 ghost use Rattle.command_table.specs.Rows.{row_of};
 ghost use Rattle.walk_flow.specs.Terms.{by_header};
@@ -12,7 +14,7 @@ use walk_fault::Fault;
 use walk_flow::Flow;
 
 // A point of a walk (document 01: place): a task at a block, inside this many calls.
-#[derive(Drop)]
+#[derive(Clone, Copy)]
 pub struct Point {
     pub task: u8,
     pub block: u16,

@@ -1,4 +1,6 @@
 // The loader (document 01, "Refused because of the input"): which images are accepted, and which refusal with which place all else gets.
+#![tactic(auto)]
+
 ghost use Rattle.std.specs.Prelude.{◌≡◌, cond, ◌≤◌, length};
 ghost use Rattle.limits.specs.Limits.{marks_length};
 ghost use Rattle.image_header.specs.GoodHeader.{GoodHeader, GoodLandings};

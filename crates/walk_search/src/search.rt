@@ -21,7 +21,7 @@ use walk_point::Point;
 
 // What a search has found so far: how many pairs are pending, the least block with a 51 that ends another task (MOST_BLOCKS for none), and the number of the
 // least bad point (MARKS_LENGTH for none).
-#[derive(Drop)]
+#[derive(Clone, Copy)]
 pub struct Found {
     pub pending: u32,
     pub foreign: u32,
@@ -74,7 +74,7 @@ fn search(
 // Clears the marks; then the first pair has seen depth 0, and is the one pair of the list.
 fn clear(marks: &mut [u8], first: u32)
     requires pair_marks_in_bounds { pair_marks * first + pair_marks ≤ length marks.old }
-    requires first_bound { first < task_count * most_blocks }
+    requires first_in_range { first < task_count * most_blocks }
     ensures { marks.new ≡ fresh (length marks.old) first }
 {
     let n = marks.len();
@@ -184,7 +184,7 @@ fn land<'a>(
     t: u8,
     s: u8,
 ) -> u32
-    requires count_le_most_landings { count ≤ most_landings }
+    requires count_in_range { count ≤ most_landings }
     requires landings_len { length landings.now ≡ most_landings }
     requires room_each { RoomEach (take count landings.now) marks.old pending t s }
     ensures result_after { listing marks.new result
@@ -210,7 +210,7 @@ fn touch_each(
     t: u8,
     s: u8,
 ) -> u32
-    requires count_le_most_landings { count ≤ most_landings }
+    requires count_in_range { count ≤ most_landings }
     requires landings_len { length landings.now ≡ most_landings }
     requires room_each { RoomEach (take count landings.now) marks.old pending t s }
     ensures { listing marks.new result ≡ touched_each (take count landings.now) t s (listing marks.old pending) }

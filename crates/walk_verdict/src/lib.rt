@@ -1,4 +1,6 @@
 // Document 01's number and place for each case of a verdict ("Refused because of the input").
+#![tactic(auto)]
+
 ghost use Rattle.std.specs.Prelude.{◌≡◌};
 ghost use Rattle.walk.specs.Verdict.{verdict_number, verdict_place, verdict_task, verdict_depth, is_accepted};
 

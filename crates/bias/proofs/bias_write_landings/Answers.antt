@@ -1,0 +1,12 @@
+-- `bias::bias_write_landings` meets its contract: the writer's.
+use borrow.Author.Rules.{rules}
+use Rattle.bias_results.specs.Results.{written_for}
+use mathlib.Core.Path.{ap, ◌∙◌}
+use Rattle.bias.proofs.bias_write_landings.Goals as goal
+
+pub returns : goal.returns
+returns c =
+    record {
+      value = c.written.ensures ∙ ap written_for c.write.ensures.value;
+      out_after = c.write.ensures.out_after;
+    }

@@ -1,0 +1,78 @@
+-- `bias::carry_out` meets its contract: its parts are those of the engine's step.
+use mathlib.Core.Path.{◌≡◌, sym, ap, subst, ◌∙◌}
+use mathlib.Core.List.{List}
+use Prim.Native.Nat.{ℕ}
+use borrow.Author.Rules.{rules}
+use lib.IntN.{ℤ}
+use Rattle.num_le.specs.LittleEndian.{Bytes}
+use Rattle.state.specs.Change.{cells_of, values_of}
+use Rattle.state.specs.declared.Motion.{Motion}
+use Rattle.state.specs.declared.Notes.{Notes}
+use Rattle.machine.specs.Inputs.{inputs_of}
+use Rattle.machine.specs.DepthAllows.{DepthAllows}
+use Rattle.machine.specs.declared.Effect.{Effect}
+use Rattle.bias.specs.Step.{Stepped}
+use Rattle.bias.proofs.OfState.{state_long, task_room, depth_allows, carried_is}
+use Rattle.bias.proofs.carry_out.Goals as goal
+
+-- values are those of their parts
+
+values_of_lem : {vs vs' : List ℤ} {fs fs' os os' : List ℕ} {m m' : Motion} {n n' : Notes} → vs ≡ vs' → fs ≡ fs' → os ≡ os' → m ≡ m' → n ≡ n'
+    → values_of (cells_of vs fs os) m n ≡ values_of (cells_of vs' fs' os') m' n'
+values_of_lem ev ef eo em en = λ ι. values_of (cells_of (ev ι) (ef ι) (eo ι)) (em ι) (en ι)
+
+pub tasks_in-tasks-requires : goal.tasks_in-tasks-requires
+tasks_in-tasks-requires c =     state_long c.args.state.now (λ k. (c.slice_known-1.given k).fits) c.requires.state_value
+
+pub variables_in-variables-requires : goal.variables_in-variables-requires
+variables_in-variables-requires c =     state_long c.args.state.now (λ k. (c.slice_known-1.given k).fits) c.requires.state_value
+
+pub flags_in-flags-requires : goal.flags_in-flags-requires
+flags_in-flags-requires c =     state_long c.args.state.now (λ k. (c.slice_known-1.given k).fits) c.requires.state_value
+
+pub outputs_in-outputs-requires : goal.outputs_in-outputs-requires
+outputs_in-outputs-requires c =     state_long c.args.state.now (λ k. (c.slice_known-1.given k).fits) c.requires.state_value
+
+pub motion_in-motion_before-requires : goal.motion_in-motion_before-requires
+motion_in-motion_before-requires c =     state_long c.args.state.now (λ k. (c.slice_known-1.given k).fits) c.requires.state_value
+
+pub notes_in-notes_before-requires : goal.notes_in-notes_before-requires
+notes_in-notes_before-requires c =     state_long c.args.state.now (λ k. (c.slice_known-1.given k).fits) c.requires.state_value
+
+pub action_of-action-requires : goal.action_of-action-requires
+action_of-action-requires c =
+    let a = c.args in
+    (task_room a.state.now (λ k. (c.slice_known-1.given k).fits) c.requires.state_value a.image.now
+    (inputs_of a.t a.inputs.now a.start a.ramp-ended a.in_window) c.requires.task_in_range a.task a.c
+    c.requires.task_value c.requires.c_value).turns
+
+pub after-after-requires : goal.after-after-requires
+after-after-requires c =
+    let a = c.args in
+    let bytes : Bytes a.state.now = λ k. (c.slice_known-1.given k).fits in
+    let x = inputs_of a.t a.inputs.now a.start a.ramp-ended a.in_window in
+    record {
+      block_in_range = (task_room a.state.now bytes c.requires.state_value a.image.now x c.requires.task_in_range a.task a.c c.requires.task_value c.requires.c_value).block;
+      depth_allows = subst (λ (e : Effect). DepthAllows a.task.depth e.outcome) (sym c.action_of-action.ensures)
+          (depth_allows a.state.now bytes c.requires.state_value a.image.now x c.requires.task_in_range a.task a.c c.requires.task_value c.requires.c_value _ _ _ _);
+    }
+
+pub encode_parts-requires : goal.encode_parts-requires
+encode_parts-requires c =
+    state_long c.args.state.now (λ k. (c.slice_known-1.given k).fits) c.requires.state_value
+
+pub returns : goal.returns
+returns c =
+    let a = c.args in
+    let e = carried_is a.state.now
+    (λ k. (c.slice_known-1.given k).fits) c.requires.state_value a.image.now (inputs_of a.t a.inputs.now a.start a.ramp-ended a.in_window)
+    c.requires.task_in_range a.task a.c
+    c.requires.task_value c.requires.c_value c.action_of-action.result _ _ _ _ _ _ _ _ _ _ _ _
+    c.requires.header_value c.requires.landings_value c.tasks_in-tasks.ensures
+    (values_of_lem c.variables_in-variables.ensures c.flags_in-flags.ensures c.outputs_in-outputs.ensures c.motion_in-motion_before.ensures c.notes_in-notes_before.ensures)
+    c.action_of-action.ensures c.make_change-motion.ensures.outputs_after c.make_change-motion.ensures.value c.notes_after-notes.ensures c.after-after.ensures c.point_of.ensures
+    c.answer_to-answer.ensures in
+    record {
+      value = c.answer.ensures ∙ ap (λ (m : Stepped). m.answer) (sym e);
+      state_after = c.encode_parts.ensures ∙ ap (λ (m : Stepped). m.buffer) (sym e);
+    }

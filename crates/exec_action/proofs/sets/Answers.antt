@@ -1,0 +1,6 @@
+-- `sets` meets its contract: `asks` with no motion.
+use borrow.Author.Rules.{rules}
+use Rattle.exec_action.proofs.sets.Goals as goal
+
+pub asks-requires : goal.asks-requires
+asks-requires c = tt

@@ -1,0 +1,11 @@
+-- `copy_flag` meets its contract.
+use Rattle.exec_levels.proofs.copy_flag.Goals as goal
+
+pub level_of-requires : goal.level_of-requires
+level_of-requires c = tt
+
+pub sets-requires : goal.sets-requires
+sets-requires c = tt
+
+pub returns : goal.returns
+returns c = rw (c.sets.ensures, c.level_of.ensures)

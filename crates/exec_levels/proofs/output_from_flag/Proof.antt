@@ -1,6 +1,0 @@
--- `output_from_flag` meets its contract.
-use Rattle.exec_levels.proofs.output_from_flag.Statement.{statement}
-use Rattle.exec_levels.proofs.output_from_flag.Tie as tie
-
-pub output_from_flag_spec : {M : Type 1} → statement M
-output_from_flag_spec = tie.close (tie.spec (λ c κs. tt) (λ c κs. tt) (λ c. rw (c.sets.ensures, c.before.level-of.ensures)))

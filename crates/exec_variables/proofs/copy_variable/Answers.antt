@@ -1,0 +1,13 @@
+-- `copy_variable` meets its contract.
+use Rattle.std.proofs.Common.{w32}
+use Rattle.num_arith.proofs.Range.{got}
+use Rattle.exec_variables.proofs.copy_variable.Goals as goal
+
+pub content-requires : goal.content-requires
+content-requires c = tt
+
+pub assigns-requires : goal.assigns-requires
+assigns-requires c = tt
+
+pub returns : goal.returns
+returns c = rw (c.assigns.ensures, got w32 c.content.type_inv c.content.ensures)

@@ -1,0 +1,6 @@
+-- `state_bytes::long` meets its contract: the number of four bytes, low byte first.
+use borrow.Author.Rules.{rules}
+use Rattle.state_bytes.proofs.long.Goals as goal
+
+pub returns : goal.returns
+returns c = c.read_u32.ensures

@@ -1,0 +1,10 @@
+-- `state_bytes::signed` meets its contract: the number that the pattern stands for.
+use mathlib.Core.Path.{ap, ◌∙◌}
+use mir.Syntax.{w32}
+use mir.Val.{to_z}
+use Rattle.num_arith.proofs.Range.{got}
+use borrow.Author.Rules.{rules}
+use Rattle.state_bytes.proofs.signed.Goals as goal
+
+pub returns : goal.returns
+returns c = got w32 c.value.type_inv c.value.ensures ∙ ap (to_z w32) c.long.ensures

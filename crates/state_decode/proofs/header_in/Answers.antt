@@ -1,0 +1,6 @@
+-- `state_decode::header_in` meets its contract, field by field.
+use borrow.Author.Rules.{rules}
+use Rattle.state_decode.proofs.header_in.Goals as goal
+
+pub returns : goal.returns
+returns c = cc

@@ -1,0 +1,6 @@
+-- `task_is` meets its contract, test by test.
+use borrow.Author.Rules.{rules}
+use Rattle.state_judge.proofs.task_is.Goals as goal
+
+pub returns : goal.returns
+returns c = rw (c.wait_is.ensures, c.stack_is.ensures)

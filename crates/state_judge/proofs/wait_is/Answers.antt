@@ -1,0 +1,6 @@
+-- `wait_is` meets its contract, test by test.
+use borrow.Author.Rules.{rules}
+use Rattle.state_judge.proofs.wait_is.Goals as goal
+
+pub returns : goal.returns
+returns c = rw c.is_due.ensures
