@@ -27,7 +27,7 @@ slice_bounds-copy_from_slice-count c =
     let ns = c.args.numbers ++ words_of c.args.landings.now in
     let l = image_length ns c.args.blocks.now in
     let h = c.requires.blocks_in_bounds in
-    let e : length called.new.1.1.0 ≡ length c.args.out.now = ap length called.ensures.out_after
+    let e : length called.new.out ≡ length c.args.out.now = ap length called.ensures.out_after
     ∙ length-sets c.args.out.now 0 (first_numbers ns row_count) in
     let a = called.ensures.value in
     omega arith
@@ -38,7 +38,7 @@ slice_bounds-copy_from_slice-start c =
     let ns = c.args.numbers ++ words_of c.args.landings.now in
     let l = image_length ns c.args.blocks.now in
     let h = c.requires.blocks_in_bounds in
-    let e : length called.new.1.1.0 ≡ length c.args.out.now = ap length called.ensures.out_after
+    let e : length called.new.out ≡ length c.args.out.now = ap length called.ensures.out_after
     ∙ length-sets c.args.out.now 0 (first_numbers ns row_count) in
     let a = called.ensures.value in
     omega arith
@@ -49,7 +49,7 @@ copy_from_slice-requires c =
     let ns = c.args.numbers ++ words_of c.args.landings.now in
     let l = image_length ns c.args.blocks.now in
     let h = c.requires.blocks_in_bounds in
-    let e : length called.new.1.1.0 ≡ length c.args.out.now = ap length called.ensures.out_after
+    let e : length called.new.out ≡ length c.args.out.now = ap length called.ensures.out_after
     ∙ length-sets c.args.out.now 0 (first_numbers ns row_count) in
     let a = called.ensures.value in
     simp (length-take, length-drop) (omega arith)
@@ -60,9 +60,9 @@ returns c =
     let ns = c.args.numbers ++ words_of c.args.landings.now in
     let l = image_length ns c.args.blocks.now in
     let h = c.requires.blocks_in_bounds in
-    let e : length called.new.1.1.0 ≡ length c.args.out.now = ap length called.ensures.out_after
+    let e : length called.new.out ≡ length c.args.out.now = ap length called.ensures.out_after
     ∙ length-sets c.args.out.now 0 (first_numbers ns row_count) in
     let a = called.ensures.value in
-    filled called.new.1.1.0 c.args.blocks.now c.copy.new.1.0 called.result (omega arith)
+    filled called.new.out c.args.blocks.now c.copy.new.1.0 called.result (omega arith)
     c.copy.ensures.1
-    ∙ whole ns c.args.out.now called.new.1.1.0 c.args.blocks.now called.result a called.ensures.out_after h
+    ∙ whole ns c.args.out.now called.new.out c.args.blocks.now called.result a called.ensures.out_after h
