@@ -31,8 +31,7 @@ use state::{State, Task};
 use walk::Verdict;
 
 // Loads an image: judges it, in the first MARKS_LENGTH bytes of marks, and puts its fresh state into the buffer where it is accepted.
-#[unsafe(no_mangle)]
-pub extern "C" fn bias_load(image: &[u8], marks: &mut [u8], state: &mut [u8]) -> BiasVerdict
+pub fn bias_load(image: &[u8], marks: &mut [u8], state: &mut [u8]) -> BiasVerdict
     ensures value { result ≡ (load image.now (length marks.old) state.old).verdict }
     ensures state_after { state.new ≡ (load image.now (length marks.old) state.old).buffer }
     ensures after { After marks_length marks.old marks.new }
@@ -73,8 +72,7 @@ fn fresh(image: &[u8]) -> State
 }
 
 // Steps a task: 15, then 16, then 18, 17 or the command.
-#[unsafe(no_mangle)]
-pub extern "C" fn bias_step(
+pub fn bias_step(
     image: &[u8],
     state: &mut [u8],
     task: u32,
@@ -211,8 +209,7 @@ fn carry_out(
 }
 
 // Writes the image, of format 1, of these header numbers and blocks to the front of out.
-#[unsafe(no_mangle)]
-pub extern "C" fn bias_write(
+pub fn bias_write(
     format: u32,
     model: u32,
     b: u32,
@@ -232,8 +229,7 @@ pub extern "C" fn bias_write(
 }
 
 // Writes the image, of format 2, of these header numbers, landing blocks (two bytes each, low byte first) and blocks to the front of out.
-#[unsafe(no_mangle)]
-pub extern "C" fn bias_write_landings(
+pub fn bias_write_landings(
     format: u32,
     model: u32,
     b: u32,
