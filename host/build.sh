@@ -3,17 +3,18 @@
 # example, bias-verdict, makefeed, imagedoc, imagecheck; then the reference and all that tests: diff, fuzz, bench, trace, read_numbers, list_pins,
 # judge_images, bad_places, verdicts, and the reference as an archive of its own. A missing tool is a failure; without
 # rustc the first ones are built before it fails.
-# Usage: host/build.sh                proves the library and makes its archive first (rt staticlib bias)
+# Usage: host/build.sh                proves the library and makes its archive first (rt lib in crates/bias_c)
+#        host/build.sh --proved       the same where rt ci has just proved all else: proves bias_c alone
 #        host/build.sh LIBRARY        with an archive that is there; needs no rt
 #        host/build.sh --stand-in     the reference under the library's names, to try the programs without a library
 set -eu
 if [ $# -gt 1 ]; then
-    echo "usage: host/build.sh [LIBRARY | --stand-in]" >&2
+    echo "usage: host/build.sh [LIBRARY | --proved | --stand-in]" >&2
     exit 2
 fi
 library=${1:-}
 case $library in
-"" | --stand-in | /*) ;;
+"" | --proved | --stand-in | /*) ;;
 *) library=$PWD/$library ;;
 esac
 cd "$(dirname "$0")/.."
@@ -51,7 +52,7 @@ look_for() {
     esac
 }
 
-# How many crates one needs by crates.txt, itself included: lines 'NAME: USES ..'. What has no line there is the kit's.
+# How many crates one needs by crates.txt, itself included: lines 'NAME: USES ..' and 'NAME staticlib: USES ..'. What has no line there is the kit's.
 needed() {
     awk -v top="$1" '
         function visit(name, part, parts, at) {
@@ -63,34 +64,47 @@ needed() {
             for (at = 1; at <= parts; at++)
                 visit(part[at])
         }
-        /^[^#]*:/ { at = index($0, ":"); uses[substr($0, 1, at - 1)] = substr($0, at + 1) }
+        /^[^#]*:/ { at = index($0, ":"); split(substr($0, 1, at - 1), words, " "); uses[words[1]] = substr($0, at + 1) }
         END { visit(top); print count + 0 }
     ' crates.txt
 }
 
-# Proves the library. rt tells of each crate below it when that is proved, or was before and has not changed; the library
-# itself it proves last. All that rt said is shown if it fails.
+# Proves the library, the static library bias_c, and makes its archive. rt tells of each crate below it as it proves that, and nothing of those that have not
+# changed since it proved them; bias_c it proves last. All that rt said is shown if it fails.
 prove() {
     log=$out/rt.log
-    all=$(needed bias)
-    say "proving bias and what it needs, $all crates"
-    { rt staticlib bias 2>&1 || echo "rt staticlib bias failed with status $?"; } | {
+    all=$(needed bias_c)
+    say "proving bias_c and what it needs, $all crates"
+    { (cd crates/bias_c && rt lib 2>&1) || echo "rt lib failed with status $?"; } | {
         proved=0
         while IFS= read -r line; do
             printf '%s\n' "$line"
             case $line in
-            "rt: "*" proved ("*)
+            "crate "*": modules "*)
+                crate=${line#crate }
+                crate=${crate%%:*}
+                ;;
+            "logic=proved "*)
                 proved=$((proved + 1))
-                echo "$proved of $all crates: ${line#rt: }" >&2
+                [ "$crate" = bias_c ] || echo "$proved of up to $all crates: $crate proved" >&2
                 ;;
             esac
         done
     } > "$log"
-    if grep -q '^rt staticlib bias failed with status' "$log"; then
+    if grep -q '^rt lib failed with status' "$log"; then
         cat "$log" >&2
         exit 1
     fi
-    echo "$all of $all crates: bias proved" >&2
+    echo "$all of $all crates: bias_c proved" >&2
+    cp crates/bias_c/out/libbias_c.a "$library"
+}
+# The same behind rt ci.
+prove_alone() {
+    say "proving bias_c over what rt ci has proved"
+    host/archive.sh "$library" > "$out/rt.log" 2>&1 || {
+        cat "$out/rt.log" >&2
+        fail "bias_c is not proved, or its archive not made"
+    }
 }
 
 rust() { rustc --edition 2021 -O -D warnings "$@"; }
@@ -98,10 +112,12 @@ c() { cc -std=c99 -pedantic -Wall -Wextra -Werror -Iinclude "$@"; }
 
 mkdir -p "$out"
 case $library in
-"")
+"" | --proved)
     look_for rt cc rustc
-    prove
+    how=$library
     library=$PWD/target/staticlib/libbias.a
+    mkdir -p target/staticlib
+    if [ -z "$how" ]; then prove; else prove_alone; fi
     ;;
 --stand-in)
     look_for cc rustc

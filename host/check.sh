@@ -2,10 +2,10 @@
 # Builds the host programs (host/build.sh) and runs every test on them: the files of host/check, each of one subject, then
 # the differential tests, fuzzing, and the port's own check. Says which library was tried; a line for each test has what
 # it counted; the last line is 'N passed, M failed', with 'port not tried' behind it where packages for that are missing.
-# Usage: host/check.sh [LIBRARY | --stand-in], as for host/build.sh
+# Usage: host/check.sh [LIBRARY | --proved | --stand-in], as for host/build.sh
 # MANUAL names the folder with the manual's examples (stdin) and their trace (stdout); crates/manual unless set.
-# The proved program target/bin/verdict is tested as it stands there: `rt check verdict` builds it, and in the gate
-# `rt ci` has.
+# The proved program crates/verdict/out/verdict is tested as it stands there: `rt run < stdin` in crates/verdict builds
+# it, and in the gate `rt ci` has.
 set -eu
 "$(dirname "$0")/build.sh" "$@"
 cd "$(dirname "$0")/.."
@@ -103,12 +103,10 @@ which_library "${1:-}"
 . host/check/build.sh
 try "differential tests" "$out/diff"
 try "fuzzing at the border" "$out/fuzz"
-if [ "${1:-}" = --stand-in ]; then
-    leave_port "it is a port of the library, and this is the stand-in"
-elif [ -n "${1:-}" ]; then
-    leave_port "it is a port of the crates, and this is a library that was named"
-else
-    try_port
-fi
+case ${1:-} in
+"" | --proved) try_port ;;
+--stand-in) leave_port "it is a port of the library, and this is the stand-in" ;;
+*) leave_port "it is a port of the crates, and this is a library that was named" ;;
+esac
 echo "$passed passed, $failed failed$port_not_tried"
 [ "$failed" -eq 0 ]

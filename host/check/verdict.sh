@@ -1,12 +1,12 @@
 # Tests of the verdict programs, for host/check.sh: bias-verdict, what it and the example say of a refused image, and the
-# proved program target/bin/verdict.
+# proved program crates/verdict/out/verdict.
 
 accepted="refusal 0 place 0 task 0 depth 0"
 past_end="refusal 12 place 0 task 0 depth 0"
 no_image="refusal 1 place 0 task 0 depth 0"
 left_over="refusal 4 place 14 task 0 depth 0"
 judge=$out/bias-verdict
-proved=target/bin/verdict
+proved=crates/verdict/out/verdict
 bytes 1 2 0 0 0 1 0x55 0 0 0 0 0 0 0 > "$out/a.img"
 bytes 1 2 0 0 0 1 0x50 0 0 0 0 0 0 0 > "$out/b.img"
 { cat "$out/a.img" && head -c 1000000 /dev/zero; } > "$out/long.img"

@@ -1,9 +1,10 @@
 #!/bin/sh
 # Makes the library for another machine than x86-64, from the same proved sources and with the kit's compiler alone:
 # target/port/TARGET/libbias.a, with the border of include/bias.h. docs/PORTING.md tells how it is linked.
-# `rt staticlib` proves the sources and hands one LLVM module to the kit's clang. Here a clang stands before that one: it
-# keeps the module, target/port/module.bc, and calls the kit's. What names x86-64 is taken out of the module, and the kit's
-# clang compiles it for TARGET together with border.c. The module is kept as long as the crates and the kit stay the same.
+# `rt lib` in crates/bias_c proves the sources and hands one LLVM module to the kit's clang. host/archive.sh does the same
+# with a clang before that one, which keeps the module, target/port/module.bc, and calls the kit's. What names x86-64 is
+# taken out of the module, and the kit's clang compiles it for TARGET together with border.c. The module is kept as long as
+# the crates and the kit stay the same.
 # Usage: host/port/build.sh TARGET..
 #        host/port/build.sh --list             prints the targets
 #        host/port/build.sh --flags TARGET     prints what clang is told for one
@@ -34,11 +35,13 @@ machine_of() {
     esac
 }
 
-# All that clang is told. -trap-unreachable and -no-trap-after-noreturn are what rt compiles the module with on x86-64.
+# All that clang is told. Those from -trap-unreachable to -sink-common-insts are what the module is compiled with on x86-64,
+# but for one that is for x86 alone; they also keep clear of parts of LLVM that the kit distrusts.
 flags_of() {
     echo "--target=$1 $(machine_of "$1") --no-default-config -nostdinc -Ihost/port/include -Iinclude -std=c99" \
         "-Wall -Wextra -Werror -Wno-override-module -Wno-unused-command-line-argument -ffunction-sections -fdata-sections" \
-        "-mllvm -trap-unreachable -mllvm -no-trap-after-noreturn $optimize"
+        "-mllvm -trap-unreachable -mllvm -no-trap-after-noreturn -mllvm -disable-machine-licm" \
+        "-mllvm -disable-postra-machine-licm -mllvm -sink-common-insts=false $optimize"
 }
 
 usage() {
@@ -79,8 +82,10 @@ trap 'rm -rf "$work"' EXIT
 
 # A sum of all that the module is made from: the crates, and the kit by its name.
 sum_of_sources() {
-    { rt version && cat crates.txt && find crates -type f -exec sha256sum {} + | sort -k 2; } | sha256sum | cut -d ' ' -f 1
+    { rt version && cat crates.txt && sources | sort | xargs -d '\n' sha256sum; } | sha256sum | cut -d ' ' -f 1
 }
+# the files of the crates, and not what rt makes there
+sources() { find crates -path 'crates/*/out' -prune -o -type f "$@" -print; }
 
 # Links in the folder $2 to all that the folder $1 has, but for its part $3.
 link_all_but() {
@@ -90,18 +95,27 @@ link_all_but() {
     done
 }
 
-# Has rt make the archive with a clang that keeps its input. The archive has to be the one that rt makes without it.
-keep_module() {
-    rm -f "$port/module.bc" "$port/module.sum" "$port/module.a" "$port/before.a"
-    if [ -f "$archive" ] && [ -z "$(find crates crates.txt -newer "$archive" | head -n 1)" ]; then
-        cp "$archive" "$port/before.a"
+# The archive for x86-64 as rt makes it, where it isn't there or the crates have changed since.
+make_archive() {
+    if [ -f "$archive" ] && [ -z "$(sources -newer "$archive" | head -n 1)" ] && ! [ crates.txt -nt "$archive" ]; then
+        return
     fi
-    link_all_but "$kit" "$work/kit" on
-    link_all_but "$kit/on/$machine" "$work/kit/on/$machine" toolchain
-    link_all_but "$tools" "$work/kit/on/$machine/toolchain" bin
-    link_all_but "$tools/bin" "$work/kit/on/$machine/toolchain/bin" clang
-    # rt gives it no environment, so the two names stand in it
-    cat > "$work/kit/on/$machine/toolchain/bin/clang" << END
+    if ! (cd crates/bias_c && rt lib) > "$port/log" 2>&1; then
+        tail -n 20 "$port/log" >&2
+        fail "rt did not make the library ($port/log)"
+    fi
+    mkdir -p "$(dirname "$archive")"
+    cp crates/bias_c/out/libbias_c.a "$archive"
+}
+
+# Has the archive made once more, with a clang that keeps its input. It has to be the one that rt makes without it.
+keep_module() {
+    rm -f "$port/module.bc" "$port/module.sum" "$port/module.a"
+    make_archive
+    link_all_but "$tools" "$work/toolchain" bin
+    link_all_but "$tools/bin" "$work/toolchain/bin" clang
+    # it is given no environment, so the two names stand in it
+    cat > "$work/toolchain/bin/clang" << END
 #!/bin/sh
 # Copies the module that stands behind -x ir, and does what the kit's clang does.
 before=
@@ -111,26 +125,23 @@ for word in "\$@"; do
 done
 exec '$tools/bin/clang' "\$@"
 END
-    chmod +x "$work/kit/on/$machine/toolchain/bin/clang"
-    if ! RATTLE_HOME=$work/kit rt staticlib bias > "$port/log" 2>&1; then
+    chmod +x "$work/toolchain/bin/clang"
+    if ! host/archive.sh "$work/module.a" "$work/toolchain" > "$port/log" 2>&1; then
         tail -n 20 "$port/log" >&2
-        fail "rt did not make the library ($port/log)"
+        fail "the library was not made again ($port/log)"
     fi
-    [ -s "$work/module.bc" ] || fail "no module was kept: rt made the library without a call of clang with '-x ir'"
-    if [ -f "$port/before.a" ] && ! cmp "$archive" "$port/before.a" >&2; then
-        fail "the archive is not the one that rt made before, of the same crates"
-    fi
-    rm -f "$port/before.a"
+    [ -s "$work/module.bc" ] || fail "no module was kept: the library was made without a call of clang with '-x ir'"
+    cmp "$archive" "$work/module.a" >&2 || fail "the archive is not the one that rt made before, of the same crates"
     cp "$work/module.bc" "$port/module.bc"
-    cp "$archive" "$port/module.a"
-    echo "$sources" > "$port/module.sum"
+    cp "$work/module.a" "$port/module.a"
+    echo "$sum" > "$port/module.sum"
 }
 
 # The module that was kept is good if it is of the same sources and the archive is the one that was made with it.
 archive=target/staticlib/libbias.a
-sources=$(sum_of_sources)
+sum=$(sum_of_sources)
 kept=$(cat "$port/module.sum" 2> /dev/null || :)
-if [ ! -s "$port/module.bc" ] || [ "$sources" != "$kept" ] || ! cmp -s "$archive" "$port/module.a"; then
+if [ ! -s "$port/module.bc" ] || [ "$sum" != "$kept" ] || ! cmp -s "$archive" "$port/module.a"; then
     keep_module
 fi
 
@@ -154,6 +165,7 @@ fi
 
 sed -e '/^target /d' -e '/^attributes /s/ "target-cpu"="[^"]*"//' -e '/^attributes /s/ "target-features"="[^"]*"//' \
     -e '/^attributes /s/ "tune-cpu"="[^"]*"//' -e '/^attributes /s/ "probe-stack"="[^"]*"//' \
+    -e '/^attributes /s/ "stack-probe-size"="[^"]*"//' \
     -e 's/@\(bias_[a-z_]*\)(/@\1_raw(/' "$work/module.ll" > "$port/module.ll"
 if grep -n -i 'x86\|ptrtoint\|inttoptr\|addrspacecast' "$port/module.ll" >&2; then
     fail "the module has something that is for x86-64 alone"
