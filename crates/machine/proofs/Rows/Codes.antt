@@ -95,7 +95,7 @@ module _ (h : Terms) (c : Command) (f : Flows c.code (row_of c.code).flow) where
   pub counts_flow : (t b : ℕ) (calls : Calls) → counts c t b calls ≡ count_f (flow_of h c) t b calls
   unfolding counts flow_of count_by
   counts_flow t b calls =
-      rw (f.calls, f.returns, f.begins-plc, f.begins-bias, f.begins-mathematics, f.computes-bias, f.ends)
+      rw (f.calls, f.returns, f.begins_plc, f.begins_bias, f.begins_mathematics, f.computes_bias, f.ends)
       (counted c.x c.word t b calls (row_of c.code).flow f.some).count
 
   -- a 53 returns
@@ -107,7 +107,7 @@ module _ (h : Terms) (c : Command) (f : Flows c.code (row_of c.code).flow) where
   -- a start of a task names it
   pub start_code : (ls : List ℕ) (u a : ℕ) → Allows ls (flow_of h c) (Start u a) → starts_anew c.code u ≡ true
   unfolding flow_of
-  start_code ls u a m = rw (f.begins-bias, f.begins-plc, f.begins-mathematics, f.computes-bias) (begun (flow_of h c) m refl)
+  start_code ls u a m = rw (f.begins_bias, f.begins_plc, f.begins_mathematics, f.computes_bias) (begun (flow_of h c) m refl)
     where
       all : Flowing (row_of c.code).flow c.word (flow_of h c)
       all = flowing c.x c.word (row_of c.code).flow f.some

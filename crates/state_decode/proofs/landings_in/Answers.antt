@@ -33,7 +33,6 @@ read_more b r k v l h e = let n = h.long in record {
   long = length-set r k v ∙ h.long;
   front = λ j u. go j u (ℕ_discrete j k);
   rest = λ j u. get_or-set_other r k j v 0 (λ q. absurd (omega arith)) ∙ h.rest j (omega arith);
-
 }
   where
     go : (j : ℕ) → j < k + 1 → Dec (j ≡ k) → entry b j ≡ get_or (set r k v) j 0
