@@ -41,5 +41,5 @@ returns c =
     record {
       value = r.ensures.value;
       after = after_more (omega (arith, c.requires.good_header.count.1)) (after_front (pair_marks * (task_count * h.count)) c.args.marks.now r.new.marks e
-          r.auto.1.1.1.0);
+          r.auto.marks);
     }

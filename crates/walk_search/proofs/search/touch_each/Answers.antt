@@ -43,7 +43,7 @@ loop-i-preserved c =
     let q = c.pair_of.ensures in
     let e = c.touch-n.ensures ∙ ap (λ (q : ℕ). touched q c.args.s (listing v.marks v.n)) q in (
       omega arith,
-      c.touch-n.auto.0 ∙ v.invariant.1,
+      c.touch-n.auto.marks ∙ v.invariant.1,
       room_again v.invariant.2 _ i _ e,
       each_next c.args.landings.now c.args.count c.args.t c.args.s v.i enough (listing v.marks v.n) taken _ e
           ∙ v.invariant.3,

@@ -66,7 +66,7 @@ pub shape_of-marks : goal.shape_of-marks
 shape_of-marks c =
     let l = c.args.marks.now in
     let p = c.read_u16-p.result in
-    omega (arith, c.land-pending.auto.1.1.0, c.touch-m.auto.0, c.touch-n.auto.0, length-set l (pair_marks * p + 1) (seen_in l p))
+    omega (arith, c.land-pending.auto.marks, c.touch-m.auto.marks, c.touch-n.auto.marks, length-set l (pair_marks * p + 1) (seen_in l p))
 
 pub returns : goal.returns
 returns c =
