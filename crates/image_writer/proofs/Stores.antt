@@ -25,9 +25,6 @@ pub from_front : (l vs : List ℕ) → length vs ≤ length l → sets l 0 vs �
 from_front l vs h =
     sets-eq vs l 0 (omega arith) ∙ let e : 0 + length vs ≡ length vs = omega arith in ap (λ (k : ℕ). vs ++ drop k l) e
 
--- what `bytes::copy` of s into the part of d from index a on leaves of d
-pub filled : (d s x : List ℕ) (a : ℕ) → a + length s ≤ length d → x ≡ take (length s) s ++ drop (length s) (mid_of a (length d - a) d)
-    → put_mid a (length d - a) d x ≡ sets d a s
-filled d s x a h e =
-    let long : length (drop a d) ≤ length d - a = omega (arith, length-drop a d) in
-    rw (e, sets-eq s d a h, take-length, take_all (length d - a) (drop a d) long, drop_of_length-le (drop a d) long, append-nil, drop-drop, append_assoc)
+-- what a copy of s over the k bytes of d from index a on leaves of d, where it is as long as they are
+pub filled : (d s x : List ℕ) (a k : ℕ) → a + length s ≤ length d → k ≡ length s → x ≡ s → put_mid a k d x ≡ sets d a s
+filled d s x a k h q e = rw (e, q, sets-eq s d a h, drop-drop, append_assoc)

@@ -230,7 +230,8 @@ fn put_image(numbers: [u32; HEADER_ROWS], landings: &[u8], blocks: &[u8], out: &
     ensures { out.new ≡ overlaid (image_of (numbers ++ words_of landings.now) blocks.now) out.old }
 {
     let at = put_numbers(numbers, landings, out);
-    out[at..at + blocks.len()].copy_from_slice(blocks);
+    let end = at + blocks.len();
+    out[at..end].copy_from_slice(blocks);
 }
 
 // The numbers' bytes, one after the other; gives the place behind them.

@@ -368,7 +368,7 @@ module _ (h : Terms) (bs : List ℕ) (task block s : ℕ) (small : s < sets) whe
   unfolding flow_onward
   by_flow is = record {
     foreign_is = λ d. rw (is d, (on_bad h.landings task block (broken past f s) left lowered f).1) (never past (too_deep f d) (no_call f d));
-    bad_of = λ d e. rw (is d) ((split past f s d small).bad-of (rw (on_bad h.landings task block (broken past f s) left lowered f).0 at e));
+    bad_of = λ d e. rw (is d) ((split past f s d small).bad_of (rw (on_bad h.landings task block (broken past f s) left lowered f).0 at e));
     bad_has = λ d e b. rw (on_bad h.landings task block (broken past f s) left lowered f).0 (bad_here d e (rw (is d) at b));
     bad_small = rw (on_bad h.landings task block (broken past f s) left lowered f).0 (omega (arith, broken_within past f s));
     into_small = into_small h.landings task block (broken past f s) left lowered f;
@@ -395,7 +395,7 @@ module _ (h : Terms) (bs : List ℕ) (task block s : ℕ) (small : s < sets) whe
 
       followed : {a : ℕ} (e : ℕ) → Led h.landings task block f left a e → Follows h bs task block s a e
       followed e l =
-          let t = (split past f s l.from small).left-of l.has in
+          let t = (split past f s l.from small).left_of l.has in
           record {
             from = l.from;
             has = t.0;
@@ -467,13 +467,13 @@ module _ (h : Terms) (bs : List ℕ) (p s : ℕ) (small : s < sets) where
 
   pub hands : Hands (next_of h bs) h.landings p s o.named o.into (p + task_count) o.behind o.lander o.landing
   hands = record {
-    a_set = all.into-small;
-    b_set = all.behind-small;
-    t_task = all.lander-small (omega arith);
-    t_set = all.landing-small;
-    a_sound = λ e i. by_number o.named e (all.into-follows e i);
-    b_sound = λ e i. by_number (p + task_count) e (rw after at (all.behind-follows e i));
-    t_sound = λ c m e i. by_number (pair_of o.lander c) e (all.landing-follows c m e i);
+    a_set = all.into_small;
+    b_set = all.behind_small;
+    t_task = all.lander_small (omega arith);
+    t_set = all.landing_small;
+    a_sound = λ e i. by_number o.named e (all.into_follows e i);
+    b_sound = λ e i. by_number (p + task_count) e (rw after at (all.behind_follows e i));
+    t_sound = λ c m e i. by_number (pair_of o.lander c) e (all.landing_follows c m e i);
     whole = λ d i q m.
         let w = indexed _ q (rw (next_is d (is_depth s d small i)) at m) in
         ⊎_elim (λ y. inl (apart q w.at o.named o.into w.number y))
@@ -499,13 +499,13 @@ module _ (h : Terms) (bs : List ℕ) (p s : ℕ) (small : s < sets) where
 
   -- a 51 there is foreign at all depths or none, and the bad points are those of the bad depths
   pub foreign_at_lem : (d : ℕ) → d < depths → is_foreign (fault_at h bs (point_at (depths * p + d))) ≡ o.foreign
-  foreign_at_lem d l = rw (point_is d l) (all.foreign-is d)
+  foreign_at_lem d l = rw (point_is d l) (all.foreign_is d)
 
   pub bad_of : (d : ℕ) → Has o.bad d → Has s d × (is_bad (fault_at h bs (point_at (depths * p + d))) ≡ true)
-  bad_of d e = let w = all.bad-of d e in rw (point_is d (is_depth s d small w.0)) w
+  bad_of d e = let w = all.bad_of d e in rw (point_is d (is_depth s d small w.0)) w
 
   pub bad_has : (d : ℕ) → Has s d → is_bad (fault_at h bs (point_at (depths * p + d))) ≡ true → Has o.bad d
-  bad_has d e b = all.bad-has d e (rw (point_is d (is_depth s d small e)) at b)
+  bad_has d e b = all.bad_has d e (rw (point_is d (is_depth s d small e)) at b)
 
   pub bad_small : o.bad < sets
-  bad_small = all.bad-small
+  bad_small = all.bad_small

@@ -44,7 +44,7 @@ pub record LeastOf (P : ℕ → Type 0) (test : ℕ → Bool) (key : ℕ → ℕ
 module _ {P Q : ℕ → Type 0} {test : ℕ → Bool} {key : ℕ → ℕ} {none m : ℕ} (s : LeastOf P test key none m) (more : (k : ℕ) → P k → Q k) where
   further : (m ≡ none) ⊎ Among P test key m → (m ≡ none) ⊎ Among Q test key m
   further (inl e) = inl e
-  further (inr a) = inr (record { at = a.at; one = more a.at a.one; passes = a.passes; key_is = a.key-is })
+  further (inr a) = inr (record { at = a.at; one = more a.at a.one; passes = a.passes; key_is = a.key_is })
 
   -- further numbers, none of which passes
   least_kept : ((k : ℕ) → Q k → test k ≡ true → P k) → LeastOf Q test key none m
@@ -157,7 +157,7 @@ module _ (h : Terms) (bs : List ℕ) where
             (record { at = depths * p + least_depth o.bad; one = here (least_depth o.bad) l.1 b.0; passes = b.1; key_is = refl })
 
     pub minima_visit : (foreign bad : ℕ) → Minima hs foreign bad → Minima hs' (foreign_with o.foreign (block_of p) foreign) (bad_with o.bad p bad)
-    minima_visit foreign bad w = record { foreign_least = foreign_visit w.foreign-least; bad_least = bad_visit w.bad-least }
+    minima_visit foreign bad w = record { foreign_least = foreign_visit w.foreign_least; bad_least = bad_visit w.bad_least }
 
   -- ---- the beginning and the end
 
@@ -176,12 +176,12 @@ module _ (h : Terms) (bs : List ℕ) where
         least_only test key none (reached h bs) (λ p k. bound p (number_inside h bs r p (x.sound p k))) m
         (λ p k t. s.below p (whole p (x.sound p k)) t)
         (⊎_elim (λ e. inl e)
-        (λ k. inr (record { at = k.at; member = x.whole k.at (sound k.at k.one); passes = k.passes; key_is = k.key-is }))
+        (λ k. inr (record { at = k.at; member = x.whole k.at (sound k.at k.one); passes = k.passes; key_is = k.key_is }))
         s.found)
 
     pub minima_are : (foreign bad : ℕ) → Minima hs foreign bad → (foreign ≡ least_foreign h bs (reached h bs)) × (bad ≡ least_bad h bs (reached h bs))
     unfolding least_foreign least_bad
     minima_are foreign bad w = (
-      least_is foreign_at block_key most_blocks (λ p l. let b = (has_point p l).block in omega arith) foreign w.foreign-least,
-      least_is bad_at self marks_length (λ p l. omega arith) bad w.bad-least,
+      least_is foreign_at block_key most_blocks (λ p l. let b = (has_point p l).block in omega arith) foreign w.foreign_least,
+      least_is bad_at self marks_length (λ p l. omega arith) bad w.bad_least,
     )

@@ -106,17 +106,17 @@ module _ (h : Terms) (bs : List ℕ) (r : WalkBounds h) (l landed : List ℕ) (n
       omega arith
 
   into_reached : (e : ℕ) → Has o.into e → Reach (next_of h bs) (root_of h) (depths * o.named + e)
-  into_reached e k = let w = handing.a-sound e k in Reach.step (depths * p + w.0) _ (from w.0 w.1 w.2) w.3
+  into_reached e k = let w = handing.a_sound e k in Reach.step (depths * p + w.0) _ (from w.0 w.1 w.2) w.3
 
   behind_reached : (e : ℕ) → Has o.behind e → Reach (next_of h bs) (root_of h) (depths * (p + task_count) + e)
-  behind_reached e k = let w = handing.b-sound e k in Reach.step (depths * p + w.0) _ (from w.0 w.1 w.2) w.3
+  behind_reached e k = let w = handing.b_sound e k in Reach.step (depths * p + w.0) _ (from w.0 w.1 w.2) w.3
 
   -- a task that is handed depths at the landing blocks
   pub lands_in : (o.lander < task_count) × (o.landing < sets)
-  lands_in = (handing.t-task, handing.t-set)
+  lands_in = (handing.t_task, handing.t_set)
 
   landing_reached : (c e : ℕ) → In c h.landings → Has o.landing e → Reach (next_of h bs) (root_of h) (depths * pair_of o.lander c + e)
-  landing_reached c e i k = let w = handing.t-sound c i e k in Reach.step (depths * p + w.0) _ (from w.0 w.1 w.2) w.3
+  landing_reached c e i k = let w = handing.t_sound c i e k in Reach.step (depths * p + w.0) _ (from w.0 w.1 w.2) w.3
 
   pair_of_set : (a u : ℕ) → u < sets → ((e : ℕ) → Has u e → Reach (next_of h bs) (root_of h) (depths * a + e)) → (u ≡ 0 → ⊥) → a < m
   pair_of_set a u small w n =
@@ -126,13 +126,13 @@ module _ (h : Terms) (bs : List ℕ) (r : WalkBounds h) (l landed : List ℕ) (n
       omega arith
 
   named_in : (o.into ≡ 0 → ⊥) → o.named < m
-  named_in = pair_of_set o.named o.into handing.a-set into_reached
+  named_in = pair_of_set o.named o.into handing.a_set into_reached
 
   behind_in : (o.behind ≡ 0 → ⊥) → p + task_count < m
-  behind_in = pair_of_set (p + task_count) o.behind handing.b-set behind_reached
+  behind_in = pair_of_set (p + task_count) o.behind handing.b_set behind_reached
 
   landing_in : (c : ℕ) → In c h.landings → pair_of o.lander c < m
-  landing_in c i = omega (arith, r.below c i, handing.t-task)
+  landing_in c i = omega (arith, r.below c i, handing.t_task)
 
   -- the marks once the pair is taken off the list
   abbrev l₁ : List ℕ
@@ -154,7 +154,7 @@ module _ (h : Terms) (bs : List ℕ) (r : WalkBounds h) (l landed : List ℕ) (n
   b₂ = touched o.named o.into (listing l₁ (n - 1))
 
   touched₂ : Touched m l₁ b₂ o.named o.into
-  touched₂ = touch_keeps m l₁ (n - 1) long₁ listed₁ o.named o.into named_in handing.a-set
+  touched₂ = touch_keeps m l₁ (n - 1) long₁ listed₁ o.named o.into named_in handing.a_set
 
   long₂ : length b₂.marks ≡ pair_marks * m
   long₂ = touched₂.long ∙ long₁
@@ -182,7 +182,7 @@ module _ (h : Terms) (bs : List ℕ) (r : WalkBounds h) (l landed : List ℕ) (n
   b₃ = touched (p + task_count) o.behind b₂
 
   touched₃ : Touched m b₂.marks b₃ (p + task_count) o.behind
-  touched₃ = touch_keeps m b₂.marks b₂.pending long₂ listed₂ (p + task_count) o.behind behind_in handing.b-set
+  touched₃ = touch_keeps m b₂.marks b₂.pending long₂ listed₂ (p + task_count) o.behind behind_in handing.b_set
 
   listed₃ : Listed m (handed_in b₃.marks) (seen_in b₃.marks) (list_in b₃.marks) b₃.pending
   listed₃ = listed_of touched₃.handed refl refl touched₃.grown.listed
@@ -197,8 +197,8 @@ module _ (h : Terms) (bs : List ℕ) (r : WalkBounds h) (l landed : List ℕ) (n
     pairs = m;
     long = touched₃.long ∙ long₂;
     listed = listed₃;
-    task = handing.t-task;
-    small = handing.t-set;
+    task = handing.t_task;
+    small = handing.t_set;
     inside = landing_in;
   }
 

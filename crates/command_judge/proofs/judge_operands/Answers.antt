@@ -3,10 +3,6 @@ use borrow.Author.Tests.{not-true, not-false}
 use Rattle.command_judge.specs.BlockFault.{operand_fault}
 use Rattle.command_judge.proofs.judge_operands.Goals as goal
 
-)
-
-)
-
 pub in_range-requires : goal.in_range-requires
 unfolding operand_fault
 in_range-requires c = tt
@@ -26,6 +22,7 @@ returns-then-not-unused_zero c = rw (
   c.if-not-in_range.false,
   ← c.unused_zero.ensures,
   c.if-not-unused_zero.true,
+)
 
 pub returns : goal.returns
 unfolding operand_fault
@@ -34,3 +31,4 @@ returns c = rw (
   c.if-not-in_range.false,
   ← c.unused_zero.ensures,
   c.if-not-unused_zero.false,
+)

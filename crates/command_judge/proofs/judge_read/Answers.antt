@@ -6,7 +6,7 @@ use Rattle.command_judge.proofs.judge_read.Goals as goal
 
 pub returns-then-not-row : goal.returns-then-not-row
 unfolding row_fault
-returns-then-not-row c = rw (c.if-not-row.true)
+returns-then-not-row c = rw (not-true _ c.if-not-row.true)
 
 pub judge_command-requires : goal.judge_command-requires
 unfolding row_fault
@@ -14,4 +14,4 @@ judge_command-requires c = tt
 
 pub returns : goal.returns
 unfolding row_fault
-returns c = c.judge_command.ensures ∙ rw (c.if-not-row.false, ← c.requires)
+returns c = c.judge_command.ensures ∙ rw (not-false _ c.if-not-row.false, ← c.requires)

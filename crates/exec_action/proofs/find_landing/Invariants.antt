@@ -15,7 +15,7 @@ use Rattle.exec_action.proofs.Landings.{look_at, past_last}
 use Rattle.exec_action.proofs.find_landing.Given as goal
 
 abbrev pub invariant-loop-k : goal.invariant-loop-k
-invariant-loop-k l = (l.k ≤ length l.landings) × (landing_of (drop l.k l.landings) (to_z w32 l.content) ≡ landing_of l.landings (to_z w32 l.content))
+invariant-loop-k l = (l.k ≤ length l.landings) × (landing_of (drop l.k l.landings) l.content ≡ landing_of l.landings l.content)
 
 abbrev pub decreases-loop-k : goal.decreases-loop-k
 decreases-loop-k l = length l.landings - l.k

@@ -41,7 +41,7 @@ put-requires-in-Call c = tt
 pub return_from-requires : goal.return_from-requires
 return_from-requires c =
     let d = subst (DepthAllows c.args.task.depth) c.in-Return.is c.requires.depth_allows in
-    (d.0, omega arith)
+    record { depth_nonzero = d.0; depth_in_range = omega arith; }
 
 pub put-requires-in-Return : goal.put-requires-in-Return
 put-requires-in-Return c = tt
@@ -109,7 +109,6 @@ returns-in-Return c =
 pub returns-in-Start : goal.returns-in-Start
 returns-in-Start c =
     let a = c.args in
-    let u = c.outcome-in-Start-1 in
     c.put-in-Start-2.ensures ∙ ap₂ (λ (l : List Task) (x : Task). set l c.in-Start.u x) (c.put-in-Start.ensures
     ∙ ap (set a.tasks a.t) c.go_to-in-Start.ensures) c.start_anew.ensures
     ∙ ap (λ (o : Outcome). tasks_after a.first a.t a.task o a.tasks) (sym c.in-Start.is)

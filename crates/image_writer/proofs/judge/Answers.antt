@@ -34,7 +34,7 @@ returns c =
     let seven : length a.numbers ≡ header_count = search rules in
     let e = front_number words a.numbers seven 0 (omega arith) in
     let j = c.judge_numbers-s in
-    let l = j.new.1.1.0 in
+    let l = j.new.landings in
     let r = c.landings_stand in
     record {
       landings_after = own_format a.format (a.numbers ++ words) (beside j.result l) (beside r.result l) (e ∙ c.if-numbers-format.false) j.ensures.landings_after

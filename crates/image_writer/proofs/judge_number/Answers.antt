@@ -101,7 +101,7 @@ returns c =
     let m : s.at + z.result ≡ s.at + length (number_bytes w.result) =
     ap (λ (n : ℕ). s.at + n) (z.ensures ∙ ap (λ (v : ℕ). length (number_bytes v)) c.wide.ensures) in
     record {
-      landings_after = given_goes_on (a.numbers ++ words) a.row (beside s l) (beside j.result j.new.1.1.1.1.0) w.result (s.at + z.result) comes e m
-          (subst (λ (k : ℕ). beside j.result j.new.1.1.1.1.0 ≡ judged k (beside s l) w.result (s.at + z.result)) q j.ensures.landings_after);
+      landings_after = given_goes_on (a.numbers ++ words) a.row (beside s l) (beside j.result j.new.landings) w.result (s.at + z.result) comes e m
+          (subst (λ (k : ℕ). beside j.result j.new.landings ≡ judged k (beside s l) w.result (s.at + z.result)) q j.ensures.landings_after);
       length_kept = j.ensures.length_kept;
     }

@@ -43,7 +43,7 @@ loop-row-preserved c =
     let l = c.loop-row in
     let ns = c.args.numbers ++ words_of c.args.bytes.now in
     let j = c.judge_number-s in
-    let t = beside j.result j.new.1.1.1.1.0 in
+    let t = beside j.result j.new.landings in
     (next_row 0 (given_numbers ns) l.row (beside l.s l.landings) t l.invariant.0 j.ensures.landings_after, j.ensures.length_kept, omega arith)
 
 pub returns : goal.returns

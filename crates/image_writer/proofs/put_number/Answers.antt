@@ -9,13 +9,21 @@ use Rattle.image_header.proofs.Beside.{front_stands}
 use Rattle.image_writer.specs.Writer.{words_of}
 use Rattle.image_writer.proofs.put_number.Goals as goal
 
-pub returns-then-not-stands : goal.returns-then-not-stands
-returns-then-not-stands c =
+pub returns-then-not-stands-clause-value : goal.returns-then-not-stands-clause-value
+returns-then-not-stands-clause-value c =
     let a = c.args in
     let long : length a.numbers ≡ header_count = search rules in
     let d = c.stands in
     let no = front_stands (words_of a.landings.now) a.numbers long a.row ∙ sym d.ensures ∙ c.if-not-stands.true in
-    rw no (sym (add-zero a.at), refl)
+    rw no (sym (add-zero a.at))
+
+pub returns-then-not-stands-clause-out_after : goal.returns-then-not-stands-clause-out_after
+returns-then-not-stands-clause-out_after c =
+    let a = c.args in
+    let long : length a.numbers ≡ header_count = search rules in
+    let d = c.stands in
+    let no = front_stands (words_of a.landings.now) a.numbers long a.row ∙ sym d.ensures ∙ c.if-not-stands.true in
+    rw no
 
 pub put-requires : goal.put-requires
 put-requires c =
@@ -25,11 +33,18 @@ put-requires c =
     let e = front_stands (words_of a.landings.now) a.numbers long a.row ∙ sym d.ensures ∙ c.if-not-stands.false in
     rw c.number_given.ensures (c.requires.number_in_range e, rw e at c.requires.row_in_bounds)
 
-pub returns : goal.returns
-returns c =
+pub returns-clause-value : goal.returns-clause-value
+returns-clause-value c =
     let a = c.args in
     let long : length a.numbers ≡ header_count = search rules in
     let d = c.stands in
-    let e = front_stands (words_of a.landings.now) a.numbers long a.row ∙ sym d.ensures
-    ∙ c.if-not-stands.false in
-    rw (e, ← c.number_given.ensures) c.put.ensures
+    let e = front_stands (words_of a.landings.now) a.numbers long a.row ∙ sym d.ensures ∙ c.if-not-stands.false in
+    rw (e, ← c.number_given.ensures) c.put.ensures.0
+
+pub returns-clause-out_after : goal.returns-clause-out_after
+returns-clause-out_after c =
+    let a = c.args in
+    let long : length a.numbers ≡ header_count = search rules in
+    let d = c.stands in
+    let e = front_stands (words_of a.landings.now) a.numbers long a.row ∙ sym d.ensures ∙ c.if-not-stands.false in
+    rw (e, ← c.number_given.ensures) c.put.ensures.1

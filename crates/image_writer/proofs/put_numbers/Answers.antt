@@ -45,7 +45,7 @@ loop-row-preserved c =
     let called = c.put_number-at in
     let i = l.invariant.0 in (
       (let m = one_more ns l.row in let q = called.ensures.value in rw (add-one l.row) (omega arith)),
-      stored ns c.args.out.now l.out called.new.1.1.1.1.0 l.at l.row l.invariant.0 l.invariant.1 called.ensures.out_after,
+      stored ns c.args.out.now l.out called.new.out l.at l.row l.invariant.0 l.invariant.1 called.ensures.out_after,
       omega arith,
     )
 

@@ -23,8 +23,8 @@ fit-w-requires c =
     let g = c.with_count-given in
     let same = with_landings_lem ns landings g.result g.ensures in
     let j = c.judge-s in
-    let is : beside j.result j.new.1.1.1.0 ≡ judged_for c.args.format w = j.ensures.landings_after ∙ ap (judged_for c.args.format) same in
-    judged_near c.args.format w j.result j.new.1.1.1.0 j.ensures.landings_len is
+    let is : beside j.result j.new.landings ≡ judged_for c.args.format w = j.ensures.landings_after ∙ ap (judged_for c.args.format) same in
+    judged_near c.args.format w j.result j.new.landings j.ensures.landings_len is
 
 pub returns-then-not-is_done : goal.returns-then-not-is_done
 returns-then-not-is_done c =
@@ -34,12 +34,12 @@ returns-then-not-is_done c =
     let g = c.with_count-given in
     let same = with_landings_lem ns landings g.result g.ensures in
     let j = c.judge-s in
-    let is : beside j.result j.new.1.1.1.0 ≡ judged_for c.args.format w = j.ensures.landings_after ∙ ap (judged_for c.args.format) same in
+    let is : beside j.result j.new.landings ≡ judged_for c.args.format w = j.ensures.landings_after ∙ ap (judged_for c.args.format) same in
     let l = c.args.blocks.now in
     let o = c.args.out.now in
     let f = c.fit-w in
     let t : f.result ≡ written c.args.format w (length l) (length o) =
-    f.ensures ∙ write_alone c.args.format w j.result j.new.1.1.1.0 j.ensures.landings_len is (length l) (length o) in
+    f.ensures ∙ write_alone c.args.format w j.result j.new.landings j.ensures.landings_len is (length l) (length o) in
     let d = c.is_done in
     record {
       value = t;
@@ -47,23 +47,41 @@ returns-then-not-is_done c =
           (c.if-not-is_done.true));
     }
 
-pub put_image-requires : goal.put_image-requires
-put_image-requires c =
+pub put_image-requires-clause-have_forms : goal.put_image-requires-clause-have_forms
+put_image-requires-clause-have_forms c =
     let ns = c.args.numbers in
     let landings = c.args.landings.now in
     let w = with_landings ns landings in
     let g = c.with_count-given in
     let same = with_landings_lem ns landings g.result g.ensures in
     let j = c.judge-s in
-    let is : beside j.result j.new.1.1.1.0 ≡ judged_for c.args.format w = j.ensures.landings_after ∙ ap (judged_for c.args.format) same in
+    let is : beside j.result j.new.landings ≡ judged_for c.args.format w = j.ensures.landings_after ∙ ap (judged_for c.args.format) same in
     let l = c.args.blocks.now in
     let o = c.args.out.now in
     let f = c.fit-w in
     let t : f.result ≡ written c.args.format w (length l) (length o) =
-    f.ensures ∙ write_alone c.args.format w j.result j.new.1.1.1.0 j.ensures.landings_len is (length l) (length o) in
+    f.ensures ∙ write_alone c.args.format w j.result j.new.landings j.ensures.landings_len is (length l) (length o) in
     let d = c.is_done in
     let ok = answered c.args.format w l o f.result t d.result true d.ensures (c.if-not-is_done.false) in
-    rw same (have_forms c.args.format w l (length o) ok, has_room c.args.format w l (length o) ok)
+    rw same (have_forms c.args.format w l (length o) ok)
+
+pub put_image-requires-clause-blocks_in_bounds : goal.put_image-requires-clause-blocks_in_bounds
+put_image-requires-clause-blocks_in_bounds c =
+    let ns = c.args.numbers in
+    let landings = c.args.landings.now in
+    let w = with_landings ns landings in
+    let g = c.with_count-given in
+    let same = with_landings_lem ns landings g.result g.ensures in
+    let j = c.judge-s in
+    let is : beside j.result j.new.landings ≡ judged_for c.args.format w = j.ensures.landings_after ∙ ap (judged_for c.args.format) same in
+    let l = c.args.blocks.now in
+    let o = c.args.out.now in
+    let f = c.fit-w in
+    let t : f.result ≡ written c.args.format w (length l) (length o) =
+    f.ensures ∙ write_alone c.args.format w j.result j.new.landings j.ensures.landings_len is (length l) (length o) in
+    let d = c.is_done in
+    let ok = answered c.args.format w l o f.result t d.result true d.ensures (c.if-not-is_done.false) in
+    rw same (has_room c.args.format w l (length o) ok)
 
 pub returns : goal.returns
 returns c =
@@ -73,12 +91,12 @@ returns c =
     let g = c.with_count-given in
     let same = with_landings_lem ns landings g.result g.ensures in
     let j = c.judge-s in
-    let is : beside j.result j.new.1.1.1.0 ≡ judged_for c.args.format w = j.ensures.landings_after ∙ ap (judged_for c.args.format) same in
+    let is : beside j.result j.new.landings ≡ judged_for c.args.format w = j.ensures.landings_after ∙ ap (judged_for c.args.format) same in
     let l = c.args.blocks.now in
     let o = c.args.out.now in
     let f = c.fit-w in
     let t : f.result ≡ written c.args.format w (length l) (length o) =
-    f.ensures ∙ write_alone c.args.format w j.result j.new.1.1.1.0 j.ensures.landings_len is (length l) (length o) in
+    f.ensures ∙ write_alone c.args.format w j.result j.new.landings j.ensures.landings_len is (length l) (length o) in
     let d = c.is_done in
     let ok = answered c.args.format w l o f.result t d.result true d.ensures (c.if-not-is_done.false) in
     record {

@@ -66,8 +66,8 @@ module _ (next : ℕ → List ℕ) (root : ℕ) where
   again p todo seen m s = record {
     first = drop root s.first;
     closed = λ o q k t. drop q (s.closed o q k t);
-    seen_ok = s.seen-ok;
-    todo_ok = λ o k. s.todo-ok o (inr k);
+    seen_ok = s.seen_ok;
+    todo_ok = λ o k. s.todo_ok o (inr k);
   }
     where
       drop : (q : ℕ) → In q seen ⊎ In q (p ∷ todo) → In q seen ⊎ In q todo
@@ -80,12 +80,12 @@ module _ (next : ℕ → List ℕ) (root : ℕ) where
   anew p todo seen s = record {
     first = move root s.first;
     closed = λ o q k t. ⊎_elim (λ i. inr (in_left (next p) todo q (rw i at t))) (λ m. move q (s.closed o q m t)) k;
-    seen_ok = λ o k. ⊎_elim (λ i. rw i here) (λ m. s.seen-ok o m) k;
-    todo_ok = λ o k. ⊎_elim (λ t. Reach.step p o here t) (λ m. s.todo-ok o (inr m)) (in_either (next p) todo o k);
+    seen_ok = λ o k. ⊎_elim (λ i. rw i here) (λ m. s.seen_ok o m) k;
+    todo_ok = λ o k. ⊎_elim (λ t. Reach.step p o here t) (λ m. s.todo_ok o (inr m)) (in_either (next p) todo o k);
   }
     where
       here : Reach next root p
-      here = s.todo-ok p (inl refl)
+      here = s.todo_ok p (inl refl)
 
       move : (q : ℕ) → In q seen ⊎ In q (p ∷ todo) → In q (p ∷ seen) ⊎ In q (next p ++ todo)
       move q (inl k) = inl (inr k)
@@ -109,7 +109,7 @@ module _ (next : ℕ → List ℕ) (root : ℕ) where
         go true e old new = old (again p todo seen (has_in seen p e) s) (omega arith)
         go false e old new =
             new (anew p todo seen s)
-            (omega (arith, unseen_less n p seen (inside p (s.todo-ok p (inl refl))) e, length-append (next p) todo, few p))
+            (omega (arith, unseen_less n p seen (inside p (s.todo_ok p (inl refl))) e, length-append (next p) todo, few p))
 
     module _ (f : ℕ) (enough : (most_following + 1) * n + 1 ≤ f) where
       abbrev all : List ℕ
@@ -128,7 +128,7 @@ module _ (next : ℕ → List ℕ) (root : ℕ) where
 
       -- what the closure has is reached, and it has what is reached
       pub closure_sound : (p : ℕ) → In p all → Reach next root p
-      closure_sound = done.seen-ok
+      closure_sound = done.seen_ok
 
       pub closure_whole : (p : ℕ) → Reach next root p → In p all
       closure_whole p Reach.begin = ⊎_elim (λ m. m) (λ k. absurd k) done.first

@@ -56,7 +56,7 @@ module _ (test : ℕ → Bool) (key : ℕ → ℕ) (none : ℕ) where
   least_found (x ∷ ps) = go (least test key none ps) (test x) refl (least_found ps)
     where
       further : {k : ℕ} → Member ps k → Member (x ∷ ps) k
-      further m = record { at = m.at; member = inr m.member; passes = m.passes; key_is = m.key-is }
+      further m = record { at = m.at; member = inr m.member; passes = m.passes; key_is = m.key_is }
 
       lower : (rest : ℕ) → test x ≡ true → (rest ≡ none) ⊎ Member ps rest → (lesser (key x) rest ≡ key x) ⊎ (lesser (key x) rest ≡ rest)
           → (lesser (key x) rest ≡ none) ⊎ Member (x ∷ ps) (lesser (key x) rest)
@@ -76,11 +76,11 @@ module _ (test : ℕ → Bool) (key : ℕ → ℕ) (none : ℕ) where
     where
       go : (least test key none ps ≡ none) ⊎ Member ps (least test key none ps) → (m ≡ none) ⊎ Member ps m → m ≡ least test key none ps
       go (inl e) (inl f) = f ∙ sym e
-      go (inl e) (inr k) = let a = least_below ps k.at k.member k.passes in let b = bound k.at k.member in let c = k.key-is in omega arith
-      go (inr k) (inl f) = let a = below k.at k.member k.passes in let b = bound k.at k.member in let c = k.key-is in omega arith
+      go (inl e) (inr k) = let a = least_below ps k.at k.member k.passes in let b = bound k.at k.member in let c = k.key_is in omega arith
+      go (inr k) (inl f) = let a = below k.at k.member k.passes in let b = bound k.at k.member in let c = k.key_is in omega arith
       go (inr k) (inr j) =
           let a = below k.at k.member k.passes in
           let b = least_below ps j.at j.member j.passes in
-          let c = k.key-is in
-          let d = j.key-is in
+          let c = k.key_is in
+          let d = j.key_is in
           omega arith

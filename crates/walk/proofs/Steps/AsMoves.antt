@@ -35,7 +35,7 @@ module _ (h : Terms) (bs : List ℕ) (path : List Point) (p : Point) (c : Comman
   flow = flowing c.x c.word (row_of c.code).flow codes.some
 
   begins : (u : ℕ) → starts c.code u ≡ starts_by (row_of c.code).flow u
-  begins u = rw (codes.begins-bias, codes.begins-plc, codes.begins-mathematics)
+  begins u = rw (codes.begins_bias, codes.begins_plc, codes.begins_mathematics)
 
   on : (t : ℕ) → goes_on c.code t ≡ on_by (row_of c.code).flow t
   on t =
@@ -45,14 +45,14 @@ module _ (h : Terms) (bs : List ℕ) (path : List Point) (p : Point) (c : Comman
         codes.returns,
         codes.goes_to,
         codes.computes,
-        codes.begins-bias,
-        codes.begins-plc,
-        codes.begins-mathematics,
-        codes.computes-bias,
+        codes.begins_bias,
+        codes.begins_plc,
+        codes.begins_mathematics,
+        codes.computes_bias,
       )
 
   lands : (u : ℕ) → (eqb c.code 0x5B && eqb u bias) ≡ lands_by (row_of c.code).flow u
-  lands u = rw codes.computes-bias
+  lands u = rw codes.computes_bias
 
   called : c.code ≡ 0x52 → call_f (flow_of h c) ≡ true
   called e = sym flow.call ∙ sym codes.calls ∙ eq-eqb _ _ e

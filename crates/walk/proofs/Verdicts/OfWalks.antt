@@ -122,7 +122,7 @@ module _ (h : Terms) (bs : List ℕ) (bounds : WalkBounds h) where
         found (inl e) = absurd (omega arith)
         found (inr m) =
             let p = point_at m.at in
-            let e : p.block ≡ least_foreign h bs is = m.key-is in
+            let e : p.block ≡ least_foreign h bs is = m.key_is in
             rw (← e) (IsWalksVerdict.foreign p (walked m.at m.member, m.passes) (λ q f. rw e (foreign_least q f)))
 
     -- a bad point that is reached, where there is a least one
@@ -134,8 +134,8 @@ module _ (h : Terms) (bs : List ℕ) (bounds : WalkBounds h) where
         found : (least_bad h bs is ≡ marks_length) ⊎ Member bad_test same marks_length is (least_bad h bs is)
             → IsWalksVerdict h bs (verdict.Bad (fault_at h bs (point_at (least_bad h bs is))) (point_at (least_bad h bs is)))
         found (inl e) = absurd (omega arith)
-        found (inr m) = subst (λ (i : ℕ). IsWalksVerdict h bs (verdict.Bad (fault_at h bs (point_at i)) (point_at i))) m.key-is
-            (here m.at m.key-is m.member m.passes)
+        found (inr m) = subst (λ (i : ℕ). IsWalksVerdict h bs (verdict.Bad (fault_at h bs (point_at i)) (point_at i))) m.key_is
+            (here m.at m.key_is m.member m.passes)
           where
             here : (i : ℕ) → i ≡ least_bad h bs is → In i is → bad_test i ≡ true → IsWalksVerdict h bs (verdict.Bad (fault_at h bs (point_at i)) (point_at i))
             here i e k t =

@@ -2,8 +2,6 @@
 use borrow.Author.Rules.{rules}
 use Rattle.walk_blocks.proofs.block_at.Goals as goal
 
-)
-
 pub returns : goal.returns
 returns c = rw (
   c.byte_at.ensures,
@@ -14,3 +12,4 @@ returns c = rw (
   c.byte_at-6.ensures,
   c.byte_at-7.ensures,
   c.byte_at-8.ensures,
+)

@@ -4,10 +4,6 @@ use Rattle.walk_point.specs.PointFault.{flow_fault}
 use borrow.Author.Rules.{rules}
 use Rattle.walk_point.proofs.flow_fault.Goals as goal
 
-)
-
-)
-
 pub returns-then-too_deep : goal.returns-then-too_deep
 unfolding flow_fault
 returns-then-too_deep c = rw (sym c.too_deep.ensures ∙ c.if-too_deep.true)
@@ -24,6 +20,7 @@ returns-then-past_end c = rw (
   sym c.no_call.ensures
       ∙ c.if-no_call.false,
   sym c.past_end.ensures ∙ c.if-past_end.true,
+)
 
 pub returns : goal.returns
 unfolding flow_fault
@@ -33,3 +30,4 @@ returns c = rw (
   sym c.no_call.ensures
       ∙ c.if-no_call.false,
   sym c.past_end.ensures ∙ c.if-past_end.false,
+)

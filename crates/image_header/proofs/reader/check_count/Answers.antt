@@ -2,8 +2,7 @@
 use borrow.Author.Rules.{rules}
 use mathlib.Core.Path.{sym, ◌∙◌}
 use lib.ListN.{get_or}
-use lib.Dec.{ltb}
-use borrow.Author.Tests.{not-true, not-false}
+use borrow.Author.Tests.{le-ltb, lt-ltb}
 use Rattle.image_header.specs.Rows.{header_checked}
 use Rattle.image_header.proofs.reader.check_count.Goals as goal
 
@@ -16,7 +15,7 @@ unfolding header_checked
 returns-then-not-start_fits c =
     let e = sym c.count_in_range-count_fits.ensures ∙ c.if-not-count_fits.false in
     let t = c.args.n in
-    let f = not-true (ltb (get_or t 4 0) (get_or t 5 0)) c.if-not-start_fits.true in
+    let f = le-ltb (get_or t 4 0) (get_or t 5 0) c.if-not-start_fits.true in
     rw (e, f)
 
 pub returns : goal.returns
@@ -24,5 +23,5 @@ unfolding header_checked
 returns c =
     let e = sym c.count_in_range-count_fits.ensures ∙ c.if-not-count_fits.false in
     let t = c.args.n in
-    let f = not-false (ltb (get_or t 4 0) (get_or t 5 0)) c.if-not-start_fits.false in
+    let f = lt-ltb (get_or t 4 0) (get_or t 5 0) c.if-not-start_fits.false in
     rw (e, f)

@@ -26,7 +26,6 @@ pub returns-in-Fails : goal.returns-in-Fails
 unfolding judged
 returns-in-Fails c =
     let a = c.args in
-    let k = c.k-1 in
     let e = sym c.check_row.ensures ∙ c.in-Fails.is in
     rw (header_row a.row (set a.s.numbers a.row a.v) c.requires, e)
     (ap alone c.stop.ensures

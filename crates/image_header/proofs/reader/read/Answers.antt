@@ -25,7 +25,7 @@ close-requires c =
     let m = at_most (length image) (from_image image) (image_near image) row_count in
     record {
       room = omega arith;
-      narrow = numbers_narrow (length image) (from_image image) t.result t.new.1.1.0 t.ensures.length_kept t.ensures.landings_after;
+      narrow = numbers_narrow (length image) (from_image image) t.result t.new.landings t.ensures.length_kept t.ensures.landings_after;
     }
 
 pub returns : goal.returns
@@ -34,6 +34,6 @@ returns c =
     let image = c.args.image.now in
     let t = c.read_landings-t in
     record {
-      value = c.close.ensures ∙ closed_alone (length image) (from_image image) t.result t.new.1.1.0 t.ensures.length_kept t.ensures.landings_after (length image);
-      landings_after = landings_are (length image) (from_image image) t.result t.new.1.1.0 t.ensures.length_kept t.ensures.landings_after;
+      value = c.close.ensures ∙ closed_alone (length image) (from_image image) t.result t.new.landings t.ensures.length_kept t.ensures.landings_after (length image);
+      landings_after = landings_are (length image) (from_image image) t.result t.new.landings t.ensures.length_kept t.ensures.landings_after;
     }

@@ -5,20 +5,20 @@ use Rattle.image_header.specs.Scan.{taken, beside}
 use Rattle.image_header.specs.declared.reader.Scan.{Scan}
 use Rattle.image_header.proofs.reader.read_landing.Goals as goal
 
-pub returns-in-Value : goal.returns-in-Value
+pub returns-in-Value-clause-landings_after : goal.returns-in-Value-clause-landings_after
 unfolding taken
-returns-in-Value c =
+returns-in-Value-clause-landings_after c =
     let e = sym c.read.ensures ∙ c.in-Value.is in
-    rw e c.judge_landing.ensures
+    rw e c.judge_landing.ensures.landings_after
 
-pub returns-in-EndsEarly : goal.returns-in-EndsEarly
+pub returns-in-EndsEarly-clause-landings_after : goal.returns-in-EndsEarly-clause-landings_after
 unfolding taken
-returns-in-EndsEarly c =
+returns-in-EndsEarly-clause-landings_after c =
     let e = sym c.read.ensures ∙ c.in-EndsEarly.is in
-    rw e (ap (λ (r : Scan). beside r c.args.landings.now) c.stop.ensures, c.requires.landings_len)
+    rw e (ap (λ (r : Scan). beside r c.args.landings.now) c.stop.ensures)
 
-pub returns-in-NotShortest : goal.returns-in-NotShortest
+pub returns-in-NotShortest-clause-landings_after : goal.returns-in-NotShortest-clause-landings_after
 unfolding taken
-returns-in-NotShortest c =
+returns-in-NotShortest-clause-landings_after c =
     let e = sym c.read.ensures ∙ c.in-NotShortest.is in
-    rw e (ap (λ (r : Scan). beside r c.args.landings.now) c.stop-in-NotShortest.ensures, c.requires.landings_len)
+    rw e (ap (λ (r : Scan). beside r c.args.landings.now) c.stop-in-NotShortest.ensures)

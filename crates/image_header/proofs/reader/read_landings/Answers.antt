@@ -54,7 +54,7 @@ loop-i-preserved c =
     let d = c.is_next in
     let yes = sym d.ensures ∙ c.if-not-is_next.false in (
       landing_goes_on (length image) (from_image image) l.i l.t l.landings l.invariant.1 l.invariant.0 yes c.read_landing-t.result
-          c.read_landing-t.new.1.1.1.0
+          c.read_landing-t.new.landings
           c.read_landing-t.ensures.landings_after,
       c.read_landing-t.ensures.length_kept,
       omega arith,

@@ -5,10 +5,6 @@ use Rattle.walk_point.specs.PointFault.{fault_of}
 use borrow.Author.Rules.{rules}
 use Rattle.walk_point.proofs.Point.fault.Goals as goal
 
-)
-
-) c.flow_fault.ensures
-
 pub returns-then-foreign : goal.returns-then-foreign
 unfolding fault_of
 returns-then-foreign c = rw (sym c.foreign.ensures ∙ c.if-foreign.true)
@@ -19,6 +15,7 @@ returns-then-not-permitted c = rw (
   sym c.foreign.ensures ∙ c.if-foreign.false,
   sym c.permitted.ensures
       ∙ c.if-not-permitted.true,
+)
 
 pub returns : goal.returns
 unfolding fault_of
@@ -28,3 +25,4 @@ returns c = rw (
   sym c.permitted.ensures
       ∙ c.if-not-permitted.false,
   ← c.of.ensures,
+) c.flow_fault.ensures

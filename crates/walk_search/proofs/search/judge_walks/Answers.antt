@@ -40,6 +40,6 @@ returns c =
     let e = enough h c.requires.good_header c.args.marks.now c.requires.marks_length_in_bounds in
     record {
       value = r.ensures.value;
-      after = after_more (omega (arith, c.requires.good_header.count.1)) (after_front (pair_marks * (task_count * h.count)) c.args.marks.now r.new.1.1.1.0 e
+      after = after_more (omega (arith, c.requires.good_header.count.1)) (after_front (pair_marks * (task_count * h.count)) c.args.marks.now r.new.marks e
           r.auto.1.1.1.0);
     }

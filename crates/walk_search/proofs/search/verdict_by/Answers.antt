@@ -4,8 +4,6 @@ use Rattle.walk.specs.Verdict.{verdict_by}
 use borrow.Author.Rules.{rules}
 use Rattle.walk_search.proofs.search.verdict_by.Goals as goal
 
-)
-
 pub returns-then-foreign : goal.returns-then-foreign
 unfolding verdict_by
 returns-then-foreign c = rw (lt-ltb _ _ c.if-foreign.true)
@@ -17,6 +15,7 @@ returns-then-bad c = rw (
   lt-ltb _ _ c.if-bad.true,
   ← c.point_at-p.ensures,
   ← c.fault_at.ensures,
+)
 
 pub returns : goal.returns
 unfolding verdict_by
