@@ -24,7 +24,7 @@ put_signed-requires c =
 pub loop-k-preserved : goal.loop-k-preserved
 loop-k-preserved c =
     let l = c.loop-k in
-    let z = to_z-of_z {w = w32} {z = get_or c.args.variables.now l.k (pos 0)} (record { sfits = c.put_signed-arg-in-loop-k-1.given }) in (
+    let z = to_z-of_z {w = w32} {z = get_or c.args.variables.now l.k (pos 0)} (record { sfits = omega arith }) in (
       search rules,
       c.put_signed.ensures
           ∙ ap (λ (y : ℤ). puts l.b (c.args.at + 4 * l.k) (signed_bytes y)) z

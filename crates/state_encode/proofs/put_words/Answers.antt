@@ -38,5 +38,5 @@ returns c =
       b_after = concatenated_all (λ (j : ℕ). le_bytes 2 (get_or c.args.words.now j 0)) c.args.b.now c.args.at l.i (length c.args.words.now) l.b l.invariant.0
           c.loop-i-test.false
           l.invariant.1;
-      words_fit = λ k. (c.shared_slice_known-1.given k).fits;
+      words_fit = search rules;
     }
