@@ -1,9 +1,8 @@
 -- `state_encode::put_words` meets its contract: after i turns the bytes of i blocks are put.
-use Prim.Native.Nat.{ℕ, ◌-◌, ◌≤◌}
-use mathlib.Core.Path.{◌≡◌, refl, ◌∙◌}
+use Prim.Native.Nat.{ℕ}
+use mathlib.Core.Path.{refl, ◌∙◌}
 use lib.ListN.{length, get_or}
 use Rattle.num_le.specs.LittleEndian.{le_bytes}
-use Rattle.state_bytes.specs.Bytes.{puts, concatenated}
 use Rattle.state_bytes.proofs.Puts.{puts_long, concatenated_none, concatenated_more, concatenated_all}
 use Rattle.state_layout.specs.Codecs.{word_bytes}
 use native.Mathlib.Omega.{arith}

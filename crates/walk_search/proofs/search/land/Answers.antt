@@ -1,6 +1,5 @@
 -- `land` meets its contract by its test.
 use mathlib.Core.Path.{refl, ◌∙◌}
-use borrow.Author.Rules.{rules}
 use lib.ListN.{take}
 use Rattle.walk_search.specs.Search.{listing}
 use Rattle.walk_search.proofs.Landings.{land_known, land_new}

@@ -1,10 +1,10 @@
 -- `touch_each` meets its contract: the touches that are left come to the same at each turn, and there is room for them.
-use Prim.Native.Nat.{ℕ, ◌-◌, ◌≤◌}
-use mathlib.Core.Path.{◌≡◌, refl, ap, ◌∙◌}
+use Prim.Native.Nat.{ℕ, ◌≤◌}
+use mathlib.Core.Path.{refl, ap, ◌∙◌}
 use native.Mathlib.Omega.{arith}
-use lib.ListN.{length, take, drop}
+use lib.ListN.{length}
 use Rattle.walk.proofs.Points.Bounds.{placed_taken}
-use Rattle.walk_search.specs.Search.{listing, touched, touched_each, RoomEach}
+use Rattle.walk_search.specs.Search.{listing, touched}
 use Rattle.walk_search.proofs.Landings.{each_next, each_done, each_room, room_again}
 use Rattle.walk_search.proofs.search.touch_each.Goals as goal
 

@@ -3,7 +3,6 @@ use Prim.Native.Nat.{◌+◌, ◌*◌}
 use mathlib.Core.Path.{◌∙◌}
 use native.Mathlib.Omega.{arith}
 use lib.ListN.{length-set}
-use borrow.Author.Rules.{rules}
 use Rattle.walk_flow.specs.Terms.{under}
 use Rattle.image_header.proofs.Rows.{most_of_lem}
 use Rattle.walk.proofs.Points.Bounds.{good_bounds}
