@@ -22,35 +22,41 @@ values_of_lem : {vs vs' : List ℤ} {fs fs' os os' : List ℕ} {m m' : Motion} {
 values_of_lem ev ef eo em en = λ ι. values_of (cells_of (ev ι) (ef ι) (eo ι)) (em ι) (en ι)
 
 pub tasks_in-tasks-requires : goal.tasks_in-tasks-requires
-tasks_in-tasks-requires c =     state_long c.args.state.now (λ k. (c.slice_known-1.given k).fits) c.requires.state_value
+tasks_in-tasks-requires c =
+    state_long c.args.state.now (λ k. (c.slice_known-1.given k).fits) c.requires.state_value
 
 pub variables_in-variables-requires : goal.variables_in-variables-requires
-variables_in-variables-requires c =     state_long c.args.state.now (λ k. (c.slice_known-1.given k).fits) c.requires.state_value
+variables_in-variables-requires c =
+    state_long c.args.state.now (λ k. (c.slice_known-1.given k).fits) c.requires.state_value
 
 pub flags_in-flags-requires : goal.flags_in-flags-requires
-flags_in-flags-requires c =     state_long c.args.state.now (λ k. (c.slice_known-1.given k).fits) c.requires.state_value
+flags_in-flags-requires c =
+    state_long c.args.state.now (λ k. (c.slice_known-1.given k).fits) c.requires.state_value
 
 pub outputs_in-outputs-requires : goal.outputs_in-outputs-requires
-outputs_in-outputs-requires c =     state_long c.args.state.now (λ k. (c.slice_known-1.given k).fits) c.requires.state_value
+outputs_in-outputs-requires c =
+    state_long c.args.state.now (λ k. (c.slice_known-1.given k).fits) c.requires.state_value
 
 pub motion_in-motion_before-requires : goal.motion_in-motion_before-requires
-motion_in-motion_before-requires c =     state_long c.args.state.now (λ k. (c.slice_known-1.given k).fits) c.requires.state_value
+motion_in-motion_before-requires c =
+    state_long c.args.state.now (λ k. (c.slice_known-1.given k).fits) c.requires.state_value
 
 pub notes_in-notes_before-requires : goal.notes_in-notes_before-requires
-notes_in-notes_before-requires c =     state_long c.args.state.now (λ k. (c.slice_known-1.given k).fits) c.requires.state_value
+notes_in-notes_before-requires c =
+    state_long c.args.state.now (λ k. (c.slice_known-1.given k).fits) c.requires.state_value
 
 pub action_of-action-requires : goal.action_of-action-requires
 action_of-action-requires c =
     let a = c.args in
     (task_room a.state.now (λ k. (c.slice_known-1.given k).fits) c.requires.state_value a.image.now
-    (inputs_of a.t a.inputs.now a.start a.ramp-ended a.in_window) c.requires.task_in_range a.task a.c
+    (inputs_of a.t a.inputs.now a.start a.ramp_ended a.in_window) c.requires.task_in_range a.task a.c
     c.requires.task_value c.requires.c_value).turns
 
 pub after-after-requires : goal.after-after-requires
 after-after-requires c =
     let a = c.args in
     let bytes : Bytes a.state.now = λ k. (c.slice_known-1.given k).fits in
-    let x = inputs_of a.t a.inputs.now a.start a.ramp-ended a.in_window in
+    let x = inputs_of a.t a.inputs.now a.start a.ramp_ended a.in_window in
     record {
       block_in_range = (task_room a.state.now bytes c.requires.state_value a.image.now x c.requires.task_in_range a.task a.c c.requires.task_value c.requires.c_value).block;
       depth_allows = subst (λ (e : Effect). DepthAllows a.task.depth e.outcome) (sym c.action_of-action.ensures)
@@ -65,7 +71,7 @@ pub returns : goal.returns
 returns c =
     let a = c.args in
     let e = carried_is a.state.now
-    (λ k. (c.slice_known-1.given k).fits) c.requires.state_value a.image.now (inputs_of a.t a.inputs.now a.start a.ramp-ended a.in_window)
+    (λ k. (c.slice_known-1.given k).fits) c.requires.state_value a.image.now (inputs_of a.t a.inputs.now a.start a.ramp_ended a.in_window)
     c.requires.task_in_range a.task a.c
     c.requires.task_value c.requires.c_value c.action_of-action.result _ _ _ _ _ _ _ _ _ _ _ _
     c.requires.header_value c.requires.landings_value c.tasks_in-tasks.ensures

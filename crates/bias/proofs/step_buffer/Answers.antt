@@ -17,9 +17,10 @@ use Rattle.bias.proofs.step_buffer.Goals as goal
 pub returns-then-not-is_state : goal.returns-then-not-is_state
 returns-then-not-is_state c =
     let a = c.args in
-    step_refused _ _ _ _ (no_state_lem a.image.now a.state.now (inputs_of a.t a.inputs.now a.start a.ramp-ended a.in_window) (sym
+    let r = step_refused _ _ _ _ (no_state_lem a.image.now a.state.now (inputs_of a.t a.inputs.now a.start a.ramp_ended a.in_window) (sym
     c.is_state.ensures ∙ c.if-not-is_state.true))
-    c.no_state.ensures
+    c.no_state.ensures in
+    record { value = r.0; state_after = r.1; }
 
 pub header_in-header-requires : goal.header_in-header-requires
 header_in-header-requires c = state_long c.args.state.now (λ k. (c.slice_known-1.given k).fits) (sym c.is_state.ensures ∙ c.if-not-is_state.false)
@@ -33,7 +34,7 @@ landings_in-landings-requires c =
     record {
       b_len = state_long b bytes holds;
       count_in_range = few_landings b bytes holds _ read;
-      by_index = zeros_behind b bytes holds _ read;
+      zeros_behind = zeros_behind b bytes holds _ read;
     }
 
 pub task_at-task-requires : goal.task_at-task-requires
@@ -68,19 +69,20 @@ carry_out-requires c =
 pub returns-in-Refused : goal.returns-in-Refused
 returns-in-Refused c =
     let a = c.args in
-    let x = inputs_of a.t a.inputs.now a.start a.ramp-ended a.in_window in
+    let x = inputs_of a.t a.inputs.now a.start a.ramp_ended a.in_window in
     let holds = sym c.is_state.ensures ∙ c.if-not-is_state.false in
     let e = of_state a.image.now a.state.now x holds
     ∙ refused_is a.state.now (λ k. (c.slice_known-1.given k).fits) holds a.image.now x c.requires.task_in_range _ _ c.requires.inputs_len
     c.task_at-task.ensures
     (sym c.in-Refused.is ∙ ready_of a.state.now a.image.now _ _ _ _ _ c.header_in-header.ensures c.landings_in-landings.ensures
     c.ready_for.ensures) in
-    step_refused _ _ _ _ e c.answer.ensures
+    let r = step_refused _ _ _ _ e c.answer.ensures in
+    record { value = r.0; state_after = r.1; }
 
 pub returns-in-Carries : goal.returns-in-Carries
 returns-in-Carries c =
     let a = c.args in
-    let x = inputs_of a.t a.inputs.now a.start a.ramp-ended a.in_window in
+    let x = inputs_of a.t a.inputs.now a.start a.ramp_ended a.in_window in
     let holds = sym c.is_state.ensures ∙ c.if-not-is_state.false in
     let r = c.carry_out.ensures in
     let e = whole a.state.now a.image.now x _ c.task_at-task.ensures holds c.requires.task_in_range c.requires.inputs_len in

@@ -1,5 +1,4 @@
 -- `judge_command` meets its contract: each arm is the definition's case of what the drive has.
-use borrow.Author.Rules.{rules}
 use Rattle.command_judge.specs.BlockFault.{command_fault}
 use Rattle.command_judge.proofs.judge_command.Goals as goal
 

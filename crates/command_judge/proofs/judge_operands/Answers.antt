@@ -1,5 +1,4 @@
 -- `judge_operands` meets its contract: each of its tests is the definition's next one.
-use borrow.Author.Tests.{not-true, not-false}
 use Rattle.command_judge.specs.BlockFault.{operand_fault}
 use Rattle.command_judge.proofs.judge_operands.Goals as goal
 

@@ -1,5 +1,4 @@
 -- `lay_out` meets its contract, layout by layout.
-use borrow.Author.Rules.{rules}
 use Rattle.logic.proofs.Choice.{arm}
 use Rattle.command_table.specs.declared.Layout.{Layout}
 use Rattle.command_operands.specs.Operands.{laid_out}

@@ -1,14 +1,9 @@
 -- `unused_zero` meets its contract. The loop's invariant: the bytes from k on tell whether all from the first unused one on are 0.
-use borrow.Author.Rules.{rules}
-use mathlib.Core.Path.{◌≡◌, refl, sym, ap, ◌∙◌}
-use Prim.Native.Nat.{ℕ, ◌+◌, ◌-◌}
-use mathlib.Core.List.{List}
-use native.Mathlib.Omega.{arith}
+use mathlib.Core.Path.{◌≡◌}
+use Prim.Native.Nat.{◌-◌}
 use lib.ListN.{drop}
 use Rattle.limits.specs.Limits.{block_length}
-use Rattle.command_table.specs.declared.Layout.{Layout}
-use Rattle.command_operands.specs.Operands.{used_bytes, all_zero, unused_zero}
-use Rattle.command_operands.proofs.Unused.{used_most, done, found, passed}
+use Rattle.command_operands.specs.Operands.{all_zero}
 use Rattle.command_operands.proofs.unused_zero.Given as goal
 
 abbrev pub invariant-loop-k : goal.invariant-loop-k

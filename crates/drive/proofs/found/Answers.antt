@@ -1,5 +1,4 @@
 -- `found` meets its contract: each arm is the definition's case of that home, with the same tests of the type.
-use borrow.Author.Rules.{rules}
 use borrow.Author.Tests.{eq-eqb, ne_eqb, lt-ltb, le-ltb}
 use Rattle.drive.specs.Pins.{presence}
 use Rattle.drive.proofs.found.Goals as goal

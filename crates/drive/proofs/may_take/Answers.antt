@@ -1,7 +1,6 @@
 -- `may_take` meets its contract: its two tests are those of the definition, since the list has three boards.
 use mathlib.Core.Path.{sym}
 use native.Mathlib.Omega.{arith}
-use borrow.Author.Rules.{rules}
 use Rattle.drive.proofs.TypesAndSlots.{past_boards, past_types, by_least}
 use Rattle.drive.proofs.may_take.Goals as goal
 

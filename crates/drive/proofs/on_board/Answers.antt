@@ -1,5 +1,5 @@
 -- `on_board` meets its contract: its two tests are those of the definition.
-use borrow.Author.Tests.{not-true, not-false, eq-eqb, ne_eqb}
+use borrow.Author.Tests.{eq-eqb, ne_eqb}
 use Rattle.drive.specs.Pins.{on_board}
 use Rattle.drive.proofs.on_board.Goals as goal
 

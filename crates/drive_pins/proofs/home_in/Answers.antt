@@ -1,11 +1,7 @@
 -- `home_in` meets its contract. The loop's invariant: the rows from i on tell where the pin is.
 use borrow.Author.Rules.{rules}
-use mathlib.Core.Logic.{⊎_elim}
-use mathlib.Core.Path.{◌≡◌, refl, sym, ◌∙◌}
-use Prim.Native.Nat.{◌≤◌, ◌-◌}
+use mathlib.Core.Path.{refl, sym, ◌∙◌}
 use native.Mathlib.Omega.{arith}
-use lib.ListN.{length, drop}
-use Rattle.drive_pins.specs.Homes.{home_in, rows_of}
 use Rattle.drive_pins.proofs.Homes.{found_in, below, above, no_row}
 use Rattle.drive_pins.proofs.home_in.Goals as goal
 use Rattle.drive_pins.proofs.home_in.Goals.{then-first-i+else-pin-last, else-first-i}
@@ -26,10 +22,10 @@ loop-i-preserved c =
     let i = c.loop-i.i in (
       search rules,
       elim c.if-first-i.branch [
-        then-first-i+else-pin-last w ↦ sym (above c.args.first.now c.args.last.now c.args.homes.now c.requires.0 c.requires.1 i c.args.pin
-          c.loop-i-test.true w.if-first-i.true w.if-pin-last.false) ∙ c.loop-i.invariant.1
+        | then-first-i+else-pin-last w ↦ sym (above c.args.first.now c.args.last.now c.args.homes.now c.requires.0 c.requires.1 i c.args.pin
+            c.loop-i-test.true w.if-first-i.true w.if-pin-last.false) ∙ c.loop-i.invariant.1
         | else-first-i w ↦ sym (below c.args.first.now c.args.last.now c.args.homes.now c.requires.0 c.requires.1 i c.args.pin
-          c.loop-i-test.true w.if-first-i.false) ∙ c.loop-i.invariant.1
+            c.loop-i-test.true w.if-first-i.false) ∙ c.loop-i.invariant.1
       ],
     )
 

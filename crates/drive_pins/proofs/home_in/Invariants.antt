@@ -1,12 +1,8 @@
 -- `home_in` meets its contract. The loop's invariant: the rows from i on tell where the pin is.
-use borrow.Author.Rules.{rules}
-use mathlib.Core.Logic.{⊎_elim}
-use mathlib.Core.Path.{◌≡◌, refl, sym, ◌∙◌}
+use mathlib.Core.Path.{◌≡◌}
 use Prim.Native.Nat.{◌≤◌, ◌-◌}
-use native.Mathlib.Omega.{arith}
 use lib.ListN.{length, drop}
 use Rattle.drive_pins.specs.Homes.{home_in, rows_of}
-use Rattle.drive_pins.proofs.Homes.{found_in, below, above, no_row}
 use Rattle.drive_pins.proofs.home_in.Given as goal
 
 abbrev pub invariant-loop-i : goal.invariant-loop-i

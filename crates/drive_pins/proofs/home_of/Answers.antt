@@ -1,6 +1,5 @@
 -- `home_of` meets its contract: inputs and outputs are found in their rows, and pin 8 is the output that is read only.
 use mathlib.Core.Path.{sym, ◌∙◌}
-use borrow.Author.Rules.{rules}
 use Rattle.drive_pins.specs.Homes.{home_of}
 use Rattle.drive_pins.proofs.Homes.{read_8, read_other}
 use Rattle.drive_pins.proofs.home_of.Goals as goal

@@ -1,5 +1,4 @@
 -- `input_home` meets its contract: the three lists that the code holds are the definition's rows, by computation over all of them.
-use borrow.Author.Rules.{rules}
 use Rattle.drive_pins.specs.Homes.{inputs, home_numbered, rows_of}
 use Rattle.drive_pins.proofs.input_home.Goals as goal
 

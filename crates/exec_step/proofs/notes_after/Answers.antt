@@ -20,9 +20,10 @@ chosen : (t start : ℕ) (o : Outcome) (m : Request) (before : Notes) (l k : ℕ
 chosen t start o m before l k e f g = λ ι. cond (e ι) (record { level = f ι; moved = g ι }) before
 
 pub returns-then-t-ne-BIAS : goal.returns-then-t-ne-BIAS
-returns-then-t-ne-BIAS c =     let a = c.args in
-    chosen a.t a.start a.outcome a.request a _ _ (sym (ne_eqb a.t bias c.if-t-ne-BIAS.true)) (λ ι. level a.start)
-    (λ ι. moved_after a.outcome a.request a.moved)
+returns-then-t-ne-BIAS c =
+    let a = c.args in
+    chosen a.t a.start a.outcome a.request a.before _ _ (sym (ne_eqb a.t bias c.if-t-ne-BIAS.true)) (λ ι. level a.start)
+    (λ ι. moved_after a.outcome a.request a.before.moved)
 
 pub level-requires : goal.level-requires
 level-requires c = tt
@@ -31,6 +32,7 @@ pub moved_after-requires : goal.moved_after-requires
 moved_after-requires c = tt
 
 pub returns : goal.returns
-returns c =     let a = c.args in
-    chosen a.t a.start a.outcome a.request a _ _ (sym (eq-eqb a.t bias c.if-t-ne-BIAS.false)) c.level.ensures
+returns c =
+    let a = c.args in
+    chosen a.t a.start a.outcome a.request a.before _ _ (sym (eq-eqb a.t bias c.if-t-ne-BIAS.false)) c.level.ensures
     c.moved_after.ensures

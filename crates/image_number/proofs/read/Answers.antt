@@ -1,5 +1,4 @@
 -- `image_number::read` meets its contract. Each return cites the law of `number_at` for what the tests found.
-use borrow.Author.Rules.{rules}
 use mathlib.Core.Path.{◌∙◌}
 use native.Mathlib.Omega.{arith}
 use Rattle.image_number.proofs.Numbers.{none, short_one, cut, more, zero_high, big_high, good_high}

@@ -1,5 +1,4 @@
 -- `image_writer::count_given` meets its contract, by its tests: what is not odd is even.
-use borrow.Author.Rules.{rules}
 use mathlib.Core.Path.{◌≡◌}
 use Prim.Native.Nat.{◌*◌, ◌%◌}
 use native.Mathlib.Omega.{arith}

@@ -1,9 +1,7 @@
 -- `image_writer::fit` meets its contract: the refusal of the numbers comes first; blocks that fit the room are counted without overflow.
-use borrow.Author.Rules.{rules}
 use mathlib.Core.Path.{sym, ap, ◌∙◌}
 use native.Mathlib.Omega.{arith}
 use lib.ListN.{get_or}
-use borrow.Author.Tests.{not-true, not-false}
 use Rattle.image_result.specs.ImageResult.{done}
 use Rattle.image_header.specs.Scan.{first_refusal}
 use Rattle.image_writer.specs.Writer.{room_result, written_with, judged_write}

@@ -6,7 +6,6 @@ use mathlib.Core.List.{◌++◌}
 use Prim.Native.Nat.{ℕ, ◌+◌, ◌-◌}
 use native.Mathlib.Omega.{arith}
 use lib.ListN.{length, get_or}
-use borrow.Author.Tests.{not-true, not-false}
 use Rattle.image_number.specs.Number.{number_bytes}
 use Rattle.image_number.proofs.Numbers.{size_most}
 use Rattle.image_result.specs.ImageResult.{done}

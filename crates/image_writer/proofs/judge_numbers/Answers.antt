@@ -1,11 +1,8 @@
 -- `image_writer::judge_numbers` meets its contract. The loop's invariant: the scan is that of the numbers passed.
-use borrow.Author.Rules.{rules}
 use mathlib.Core.Path.{◌≡◌, ap}
 use mathlib.Core.List.{◌++◌}
-use Prim.Native.Nat.{◌≤◌, ◌-◌}
 use native.Mathlib.Omega.{arith}
 use lib.ListN.{length}
-use Rattle.limits.specs.Limits.{most_landings}
 use Rattle.image_header.specs.Rows.{row_count}
 use Rattle.image_header.specs.Scan.{Scanned, scan, beside, no_landings}
 use Rattle.image_header.specs.declared.reader.Scan.{Scan}

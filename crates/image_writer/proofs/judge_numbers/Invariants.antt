@@ -1,17 +1,12 @@
 -- `image_writer::judge_numbers` meets its contract. The loop's invariant: the scan is that of the numbers passed.
-use borrow.Author.Rules.{rules}
-use mathlib.Core.Path.{◌≡◌, ap}
+use mathlib.Core.Path.{◌≡◌}
 use mathlib.Core.List.{◌++◌}
 use Prim.Native.Nat.{◌≤◌, ◌-◌}
-use native.Mathlib.Omega.{arith}
 use lib.ListN.{length}
 use Rattle.limits.specs.Limits.{most_landings}
 use Rattle.image_header.specs.Rows.{row_count}
-use Rattle.image_header.specs.Scan.{Scanned, scan, beside, no_landings}
-use Rattle.image_header.specs.declared.reader.Scan.{Scan}
-use Rattle.image_header.proofs.Scanning.{at_most, next_row}
+use Rattle.image_header.specs.Scan.{scan, beside}
 use Rattle.image_writer.specs.Writer.{words_of, given_numbers}
-use Rattle.image_writer.proofs.HeaderBytes.{given_near}
 use Rattle.image_writer.proofs.judge_numbers.Given as goal
 
 abbrev pub invariant-loop-row : goal.invariant-loop-row

@@ -1,5 +1,4 @@
 -- `image_writer::judge_room` meets its contract, by its tests.
-use borrow.Author.Rules.{rules}
 use native.Mathlib.Omega.{arith}
 use Prim.Native.Nat.{◌*◌}
 use borrow.Author.Tests.{lt-ltb, le-ltb}

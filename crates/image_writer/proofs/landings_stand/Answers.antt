@@ -1,5 +1,4 @@
 -- `image_writer::landings_stand` meets its contract, by its test.
-use borrow.Author.Rules.{rules}
 use mathlib.Core.Path.{sym, ap, ◌∙◌}
 use mathlib.Core.Bool.{Bool, ◌||◌}
 use lib.ListN.{get_or}

@@ -1,5 +1,4 @@
 -- `image_writer::put` meets its contract, by the two forms of a number: the stores of each are those of `sets`.
-use borrow.Author.Rules.{rules}
 use mathlib.Core.Path.{refl, ap}
 use native.Mathlib.Omega.{arith}
 use native.Mathlib.Numerals.{add-one}

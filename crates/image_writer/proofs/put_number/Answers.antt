@@ -1,9 +1,8 @@
 -- `image_writer::put_number` meets its contract, by whether the number stands.
 use borrow.Author.Rules.{rules}
-use mathlib.Core.Path.{◌≡◌, refl, sym, ◌∙◌}
+use mathlib.Core.Path.{◌≡◌, sym, ◌∙◌}
 use native.Mathlib.Nat.{add-zero}
 use lib.ListN.{length}
-use borrow.Author.Tests.{not-true, not-false}
 use Rattle.image_header.specs.Rows.{header_count}
 use Rattle.image_header.proofs.Beside.{front_stands}
 use Rattle.image_writer.specs.Writer.{words_of}

@@ -1,11 +1,11 @@
 -- `image_writer::put_numbers` meets its contract. The loop's invariant: the numbers passed stand at the front.
 use mathlib.Core.Path.{◌≡◌, refl, ap, ◌∙◌}
 use mathlib.Core.List.{◌++◌}
-use Prim.Native.Nat.{◌≤◌, ◌<◌, ◌-◌}
+use Prim.Native.Nat.{◌<◌}
 use native.Mathlib.Omega.{arith}
 use native.Mathlib.Numerals.{add-one}
 use lib.ListN.{length}
-use lib.Seq.{sets, length-sets}
+use lib.Seq.{length-sets}
 use Rattle.image_header.specs.Rows.{row_count}
 use Rattle.image_writer.specs.Writer.{words_of, first_numbers}
 use Rattle.image_writer.proofs.HeaderBytes.{one_more, room, stored}

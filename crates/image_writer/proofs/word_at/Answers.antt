@@ -1,5 +1,4 @@
 -- `image_writer::word_at` meets its contract: its two bytes, or none.
-use borrow.Author.Rules.{rules}
 use mathlib.Core.Path.{sym, ◌∙◌}
 use native.Mathlib.Omega.{arith}
 use Rattle.image_writer.proofs.Words.{word_at, word_past}

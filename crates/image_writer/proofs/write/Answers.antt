@@ -1,11 +1,9 @@
 -- `image_writer::write` meets its contract: a refusal comes before any store, and an image that is written has room.
-use borrow.Author.Rules.{rules}
 use mathlib.Core.Path.{◌≡◌, refl, ap, ◌∙◌}
 use mathlib.Core.Bool.{true, false}
 use mathlib.Core.List.{List}
 use Prim.Native.Nat.{ℕ}
 use lib.ListN.{length}
-use borrow.Author.Tests.{not-true, not-false}
 use Rattle.image_header.specs.Scan.{beside}
 use Rattle.image_writer.specs.Writer.{with_landings, judged_for, image_of, overlaid, written}
 use Rattle.image_writer.proofs.Words.{with_landings_lem}

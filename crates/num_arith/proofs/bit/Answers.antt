@@ -5,7 +5,6 @@ use mir.Syntax.{w32}
 use mir.Facts.{to_z-of_z}
 use Rattle.num_arith.specs.Ops.{bit_at}
 use Rattle.num_arith.proofs.Cut.{no_bit}
-use borrow.Author.Rules.{rules}
 use Rattle.num_arith.proofs.bit.Goals as goal
 
 pub returns-then-n-ge32 : goal.returns-then-n-ge32

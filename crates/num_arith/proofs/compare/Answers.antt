@@ -1,6 +1,5 @@
 -- `num_arith::compare` meets its contract: a test of two numbers is the test of their bits.
 use mathlib.Core.Path.{sym, ap}
-use borrow.Author.Rules.{rules}
 use mathlib.Core.Bool.{Bool, false}
 use lib.IntN.{ℤ}
 use lib.ListN.{get_or-eq_default}

@@ -1,6 +1,5 @@
 -- `num_arith::div` meets its contract: -1 alone is a divisor by which a quotient may not fit.
 use mathlib.Core.Path.{◌≡◌, sym, ap, ◌∙◌}
-use borrow.Author.Rules.{rules}
 use native.Mathlib.Omega.{arith}
 use lib.IntN.{negsuc, neg_ℤ}
 use lib.Signed.{quot_z}

@@ -1,6 +1,5 @@
 -- `num_arith::mul` meets its contract: the exact product fits 64 bits.
 use mathlib.Core.Path.{ap, ◌∙◌}
-use borrow.Author.Rules.{rules}
 use lib.IntN.{◌*ℤ◌}
 use mir.Syntax.{w32, w64}
 use Rattle.num_arith.specs.Wrap.{wrap}

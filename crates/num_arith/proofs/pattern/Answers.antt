@@ -3,7 +3,6 @@ use mathlib.Core.Path.{ap, ◌∙◌}
 use mir.Syntax.{w32, w64}
 use Rattle.num_arith.specs.Wrap.{word}
 use Rattle.num_arith.proofs.Range.{widens, widened}
-use borrow.Author.Rules.{rules}
 use Rattle.num_arith.proofs.pattern.Goals as goal
 
 pub overflow_cast-a : goal.overflow_cast-a

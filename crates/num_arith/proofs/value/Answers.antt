@@ -1,6 +1,5 @@
 -- `num_arith::value` meets its contract: the bits of an upper half, inverted twice, are those that came in.
 use mathlib.Core.Path.{ap}
-use borrow.Author.Rules.{rules}
 use mir.Syntax.{w32}
 use mir.Val.{to_z}
 use Rattle.num_arith.proofs.Range.{inverted}

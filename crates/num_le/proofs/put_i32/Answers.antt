@@ -4,7 +4,6 @@ use mir.Syntax.{w32}
 use mir.Facts.{to_z-of_z}
 use Rattle.num_arith.specs.Wrap.{word}
 use Rattle.num_le.specs.LittleEndian.{le_bytes}
-use borrow.Author.Rules.{rules}
 use Rattle.num_le.proofs.put_i32.Goals as goal
 
 pub returns : goal.returns

@@ -3,7 +3,6 @@ use mathlib.Core.Path.{ap, ◌∙◌}
 use mir.Syntax.{w32}
 use mir.Val.{to_z}
 use Rattle.num_arith.proofs.Range.{got}
-use borrow.Author.Rules.{rules}
 use Rattle.num_le.proofs.read_i32.Goals as goal
 
 pub returns : goal.returns

@@ -1,7 +1,6 @@
 -- `num_arith::le::read_u16` meets its contract: the number of two bytes, spelled out.
 use native.Mathlib.Omega.{arith}
 use Rattle.num_le.proofs.LittleEndian.{spell}
-use borrow.Author.Rules.{rules}
 use Rattle.num_le.proofs.read_u16.Goals as goal
 
 pub returns : goal.returns

@@ -1,5 +1,4 @@
 -- `state_bytes::long` meets its contract: the number of four bytes, low byte first.
-use borrow.Author.Rules.{rules}
 use Rattle.state_bytes.proofs.long.Goals as goal
 
 pub returns : goal.returns

@@ -4,7 +4,6 @@ use Prim.Native.Nat.{◌%◌}
 use native.Mathlib.Omega.{arith}
 use lib.ListN.{set}
 use Rattle.state_bytes.specs.Bytes.{puts}
-use borrow.Author.Rules.{rules}
 use Rattle.state_bytes.proofs.put_byte.Goals as goal
 
 pub returns : goal.returns

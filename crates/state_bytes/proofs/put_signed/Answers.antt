@@ -6,7 +6,6 @@ use mir.Facts.{to_z-of_z}
 use Rattle.num_arith.specs.Wrap.{word}
 use Rattle.num_le.specs.LittleEndian.{le_bytes}
 use Rattle.state_bytes.specs.Bytes.{puts}
-use borrow.Author.Rules.{rules}
 use Rattle.state_bytes.proofs.put_signed.Goals as goal
 
 pub returns : goal.returns

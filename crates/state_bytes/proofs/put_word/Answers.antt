@@ -3,7 +3,6 @@ use mathlib.Core.Path.{refl}
 use native.Mathlib.Omega.{arith}
 use lib.ListN.{length-set}
 use Rattle.state_bytes.proofs.Puts.{two}
-use borrow.Author.Rules.{rules}
 use Rattle.state_bytes.proofs.put_word.Goals as goal
 
 pub bounds-s-at-2 : goal.bounds-s-at-2

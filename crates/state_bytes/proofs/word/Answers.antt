@@ -1,5 +1,4 @@
 -- `state_bytes::word` meets its contract: the number of two bytes, low byte first.
-use borrow.Author.Rules.{rules}
 use Rattle.state_bytes.proofs.word.Goals as goal
 
 pub returns : goal.returns

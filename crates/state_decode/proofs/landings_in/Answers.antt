@@ -1,32 +1,19 @@
 -- `landings_in` meets its contract: after k turns the first k entries are read, and those behind them are still 0, as they are in the buffer.
-use Prim.Native.Nat.{ℕ, ◌+◌, ◌*◌, ◌-◌, ◌<◌, ◌≤◌}
+use Prim.Native.Nat.{ℕ, ◌+◌, ◌<◌, ◌≤◌}
 use native.Mathlib.Omega.{arith}
 use native.Mathlib.Decide.{ℕ_discrete}
-use mathlib.Core.Path.{◌≡◌, refl, sym, ap, ◌∙◌}
+use mathlib.Core.Path.{◌≡◌, refl, sym, ◌∙◌}
 use mathlib.Core.List.{List}
-use lib.ListN.{length, get_or, set, length-set}
+use lib.ListN.{get_or, set, length-set}
 use lib.Seq.{get_or-set_same, get_or-set_other}
 use Rattle.limits.specs.Limits.{most_landings}
 use Rattle.logic.proofs.Choice.{by}
 use Rattle.state.proofs.Fresh.{get_d_replicate}
-use Rattle.state_bytes.specs.Bytes.{le_number_at}
 use Rattle.state_bytes.proofs.Tables.{table_is, get_or_table}
 use Rattle.state_layout.specs.Codecs.{words_in}
 use Rattle.state_layout.specs.Layout.{landings_at}
-use borrow.Author.Rules.{rules}
+use Rattle.state_decode.proofs.landings_in.Invariants.{entry, Read}
 use Rattle.state_decode.proofs.landings_in.Goals as goal
-
--- entry k of the list in a buffer
-
-abbrev entry : List ℕ → ℕ → ℕ
-entry b j = le_number_at 2 b (landings_at + 2 * j)
-
--- the first k entries of r are those of the buffer, and the others are 0
-
-record Read (b r : List ℕ) (k : ℕ) : Type 0 where
-  long : length r ≡ most_landings
-  front : (j : ℕ) → j < k → entry b j ≡ get_or r j 0
-  rest : (j : ℕ) → k ≤ j → get_or r j 0 ≡ 0
 
 read_more : (b r : List ℕ) (k v : ℕ) → k < most_landings → Read b r k → v ≡ entry b k → Read b (set r k v) (k + 1)
 read_more b r k v l h e = let n = h.long in record {

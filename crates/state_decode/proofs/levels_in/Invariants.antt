@@ -1,13 +1,9 @@
 -- `state_decode::levels_in` meets its contract: a table filled from the front.
 use Prim.Native.Nat.{ℕ, ◌+◌, ◌-◌, ◌≤◌}
-use native.Mathlib.Omega.{arith}
-use mathlib.Core.Path.{◌≡◌, refl}
-use lib.ListN.{length, get_or, take, length-set}
+use mathlib.Core.Path.{◌≡◌}
+use lib.ListN.{length, get_or, take}
 use Rattle.limits.specs.Limits.{cells}
 use Rattle.state_bytes.specs.Bytes.{table}
-use Rattle.state_bytes.proofs.Tables.{none, more, all}
-use Rattle.state_layout.specs.Codecs.{levels_in}
-use borrow.Author.Rules.{rules}
 use Rattle.state_decode.proofs.levels_in.Given as goal
 
 abbrev pub invariant-loop-k : goal.invariant-loop-k

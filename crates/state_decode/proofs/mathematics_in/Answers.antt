@@ -1,6 +1,5 @@
 -- `state_decode::mathematics_in` meets its contract: the record at its place.
 use mathlib.Core.Path.{◌∙◌}
-use borrow.Author.Rules.{rules}
 use Rattle.state_decode.proofs.mathematics_in.Goals as goal
 
 pub returns : goal.returns

@@ -1,7 +1,6 @@
 -- `state_decode::motion_in` meets its contract, field by field.
 use mir.Syntax.{w32}
 use Rattle.num_arith.proofs.Range.{got}
-use borrow.Author.Rules.{rules}
 use Rattle.state_decode.proofs.motion_in.Goals as goal
 
 pub returns : goal.returns

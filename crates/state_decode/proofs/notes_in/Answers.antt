@@ -1,5 +1,4 @@
 -- `state_decode::notes_in` meets its contract, field by field.
-use borrow.Author.Rules.{rules}
 use Rattle.state_decode.proofs.notes_in.Goals as goal
 
 pub returns : goal.returns

@@ -1,13 +1,9 @@
 -- `state_decode::stack_in` meets its contract: a table filled from the front.
 use Prim.Native.Nat.{ℕ, ◌+◌, ◌*◌, ◌-◌, ◌≤◌}
-use native.Mathlib.Omega.{arith}
 use mathlib.Core.Path.{◌≡◌}
-use lib.ListN.{length, take, length-set}
+use lib.ListN.{length, take}
 use Rattle.limits.specs.Limits.{most_depth}
 use Rattle.state_bytes.specs.Bytes.{table, le_number_at}
-use Rattle.state_bytes.proofs.Tables.{none, more, all}
-use Rattle.state_layout.specs.Codecs.{words_in}
-use borrow.Author.Rules.{rules}
 use Rattle.state_decode.proofs.stack_in.Given as goal
 
 abbrev pub invariant-loop-i : goal.invariant-loop-i

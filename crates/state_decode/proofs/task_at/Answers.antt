@@ -3,7 +3,6 @@ use mathlib.Core.Path.{◌≡◌, ◌∙◌}
 use native.Mathlib.Omega.{arith}
 use Rattle.limits.specs.Limits.{mathematics}
 use Rattle.state_layout.specs.Layout.{decoded}
-use borrow.Author.Rules.{rules}
 use Rattle.state_decode.proofs.task_at.Goals as goal
 
 pub returns-then-t-eq-BIAS : goal.returns-then-t-eq-BIAS

@@ -1,5 +1,4 @@
 -- `state_decode::task_in` meets its contract, field by field.
-use borrow.Author.Rules.{rules}
 use Rattle.state_decode.proofs.task_in.Goals as goal
 
 pub returns : goal.returns

@@ -1,10 +1,9 @@
 -- `state_decode::variables_in` meets its contract: a table filled from the front.
-use Prim.Native.Nat.{ℕ, ◌+◌, ◌*◌, ◌-◌, ◌≤◌}
+use Prim.Native.Nat.{ℕ, ◌+◌, ◌*◌}
 use native.Mathlib.Omega.{arith}
-use mathlib.Core.Path.{◌≡◌}
-use lib.ListN.{length, take, length-set}
+use lib.ListN.{length-set}
 use Rattle.limits.specs.Limits.{cells}
-use Rattle.state_bytes.specs.Bytes.{table, signed_at}
+use Rattle.state_bytes.specs.Bytes.{signed_at}
 use Rattle.state_bytes.proofs.Tables.{none, more, all}
 use mir.Syntax.{w32}
 use Rattle.num_arith.proofs.Range.{got}

@@ -1,16 +1,10 @@
 -- `state_decode::variables_in` meets its contract: a table filled from the front.
 use Prim.Native.Nat.{ℕ, ◌+◌, ◌*◌, ◌-◌, ◌≤◌}
-use native.Mathlib.Omega.{arith}
 use mathlib.Core.Path.{◌≡◌}
-use lib.ListN.{length, take, length-set}
+use lib.ListN.{length, take}
 use Rattle.limits.specs.Limits.{cells}
 use Rattle.state_bytes.specs.Bytes.{table, signed_at}
-use Rattle.state_bytes.proofs.Tables.{none, more, all}
-use mir.Syntax.{w32}
-use Rattle.num_arith.proofs.Range.{got}
-use Rattle.state_layout.specs.Codecs.{variables_in}
 use Rattle.state_layout.specs.Layout.{variables_at}
-use borrow.Author.Rules.{rules}
 use Rattle.state_decode.proofs.variables_in.Given as goal
 
 abbrev pub invariant-loop-k : goal.invariant-loop-k

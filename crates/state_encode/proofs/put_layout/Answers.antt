@@ -5,7 +5,6 @@ use Rattle.state_sections.proofs.Sections.{put, done}
 use Rattle.state_sections.proofs.Records.{record_put}
 use Rattle.state_layout.specs.Codecs.{layout_number, layout_widths}
 use Rattle.state_layout.specs.Layout.{layout_at}
-use borrow.Author.Rules.{rules}
 use Rattle.state_encode.proofs.put_layout.Goals as goal
 
 pub returns : goal.returns

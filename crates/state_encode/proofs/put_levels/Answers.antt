@@ -1,9 +1,7 @@
 -- `state_encode::put_levels` meets its contract: after k turns the first k levels are put.
-use Prim.Native.Nat.{◌-◌, ◌≤◌}
 use native.Mathlib.Omega.{arith}
-use mathlib.Core.Path.{◌≡◌, refl}
-use lib.ListN.{length, take}
-use Rattle.state_bytes.specs.Bytes.{puts}
+use mathlib.Core.Path.{refl}
+use lib.ListN.{length}
 use Rattle.state_bytes.proofs.Puts.{puts_long, puts_none, puts_more, puts_all}
 use borrow.Author.Rules.{rules}
 use Rattle.state_encode.proofs.put_levels.Goals as goal

@@ -1,11 +1,8 @@
 -- `state_encode::put_levels` meets its contract: after k turns the first k levels are put.
 use Prim.Native.Nat.{◌-◌, ◌≤◌}
-use native.Mathlib.Omega.{arith}
-use mathlib.Core.Path.{◌≡◌, refl}
+use mathlib.Core.Path.{◌≡◌}
 use lib.ListN.{length, take}
 use Rattle.state_bytes.specs.Bytes.{puts}
-use Rattle.state_bytes.proofs.Puts.{puts_long, puts_none, puts_more, puts_all}
-use borrow.Author.Rules.{rules}
 use Rattle.state_encode.proofs.put_levels.Given as goal
 
 abbrev pub invariant-loop-k : goal.invariant-loop-k

@@ -11,17 +11,14 @@ use Rattle.state_sections.proofs.Sections.{put, done}
 use Rattle.state_sections.proofs.Records.{record_put}
 use Rattle.state_layout.specs.Codecs.{motion_widths, motion_record}
 use Rattle.state_layout.specs.Layout.{motion_at}
-use borrow.Author.Rules.{rules}
 use Rattle.state_encode.proofs.put_motion.Goals as goal
 
 pub returns : goal.returns
 returns c =
-    let st = k7 in
-    let m = st.args.motion in
-    let f : mag m.axis.position < 2147483648 = omega
-    (arith, c.struct_told-1.given) in
+    let m = c.args.motion in
+    let f : mag m.axis.position < 2147483648 = omega arith in
     let z = to_z-of_z {w = w32} {z = m.axis.position} (record { sfits = f }) in
-    let p = c.put_signed.ensures ∙ ap (λ (y : ℤ). puts st.args.b.now motion_at (signed_bytes y)) z in
+    let p = c.put_signed.ensures ∙ ap (λ (y : ℤ). puts c.args.b.now motion_at (signed_bytes y)) z in
     record_put motion_widths (motion_record m) motion_at refl
     (put p
     (put c.put_word.ensures

@@ -1,7 +1,7 @@
 -- `state_encode::put_task` meets its contract: one number put behind the other.
+use native.Mathlib.Omega.{arith}
 use Rattle.state_sections.proofs.Sections.{put, done, put_first, chained_first}
 use Rattle.state_layout.proofs.Codecs.{words_put, parts_long}
-use borrow.Author.Rules.{rules}
 use Rattle.state_encode.proofs.put_task.Goals as goal
 
 pub returns : goal.returns
@@ -10,7 +10,7 @@ returns c =
     (put_first c.put_byte.ensures
     (put c.put_byte-2.ensures
     (put c.put_word.ensures
-    (put (words_put _ _ _ _ _ c.put_words.ensures.b_after c.put_words-arg-3-1.given.0)
+    (put (words_put _ _ _ _ _ c.put_words.ensures.b_after (omega arith))
     (put c.put_long.ensures
     (put c.put_long-2.ensures
     done))))))

@@ -1,13 +1,13 @@
 -- `state_encode::put_variables` meets its contract: after k turns the bytes of k variables are put.
-use Prim.Native.Nat.{ℕ, ◌+◌, ◌*◌, ◌-◌, ◌≤◌}
-use mathlib.Core.Path.{◌≡◌, refl, ap, ◌∙◌}
+use Prim.Native.Nat.{ℕ, ◌+◌, ◌*◌}
+use mathlib.Core.Path.{refl, ap, ◌∙◌}
 use native.Mathlib.Omega.{arith}
 use lib.ListN.{get_or}
 use lib.IntN.{ℤ, pos}
 use mir.Syntax.{w32}
 use mir.Facts.{to_z-of_z}
 use Rattle.limits.specs.Limits.{cells}
-use Rattle.state_bytes.specs.Bytes.{puts, concatenated, signed_bytes}
+use Rattle.state_bytes.specs.Bytes.{puts, signed_bytes}
 use Rattle.state_bytes.proofs.Puts.{puts_long, concatenated_none, concatenated_more, concatenated_all}
 use Rattle.state_layout.specs.Codecs.{variable_bytes}
 use borrow.Author.Rules.{rules}
@@ -24,7 +24,7 @@ put_signed-requires c =
 pub loop-k-preserved : goal.loop-k-preserved
 loop-k-preserved c =
     let l = c.loop-k in
-    let z = to_z-of_z {w = w32} {z = get_or c.args.variables.now l.k (pos 0)} (record { sfits = c.put_signed-arg-in-loop-k-1.given }) in (
+    let z = to_z-of_z {w = w32} {z = get_or c.args.variables.now l.k (pos 0)} (record { sfits = omega arith }) in (
       search rules,
       c.put_signed.ensures
           ∙ ap (λ (y : ℤ). puts l.b (c.args.at + 4 * l.k) (signed_bytes y)) z

@@ -1,16 +1,10 @@
 -- `state_encode::put_variables` meets its contract: after k turns the bytes of k variables are put.
-use Prim.Native.Nat.{ℕ, ◌+◌, ◌*◌, ◌-◌, ◌≤◌}
-use mathlib.Core.Path.{◌≡◌, refl, ap, ◌∙◌}
-use native.Mathlib.Omega.{arith}
+use Prim.Native.Nat.{ℕ, ◌-◌, ◌≤◌}
+use mathlib.Core.Path.{◌≡◌}
 use lib.ListN.{get_or}
-use lib.IntN.{ℤ, pos}
-use mir.Syntax.{w32}
-use mir.Facts.{to_z-of_z}
+use lib.IntN.{pos}
 use Rattle.limits.specs.Limits.{cells}
 use Rattle.state_bytes.specs.Bytes.{puts, concatenated, signed_bytes}
-use Rattle.state_bytes.proofs.Puts.{puts_long, concatenated_none, concatenated_more, concatenated_all}
-use Rattle.state_layout.specs.Codecs.{variable_bytes}
-use borrow.Author.Rules.{rules}
 use Rattle.state_encode.proofs.put_variables.Given as goal
 
 abbrev pub invariant-loop-k : goal.invariant-loop-k

@@ -1,9 +1,8 @@
 -- `state_encode::put_words` meets its contract: after i turns the bytes of i blocks are put.
-use Prim.Native.Nat.{ℕ, ◌-◌, ◌≤◌}
-use mathlib.Core.Path.{◌≡◌, refl, ◌∙◌}
+use Prim.Native.Nat.{ℕ}
+use mathlib.Core.Path.{refl, ◌∙◌}
 use lib.ListN.{length, get_or}
 use Rattle.num_le.specs.LittleEndian.{le_bytes}
-use Rattle.state_bytes.specs.Bytes.{puts, concatenated}
 use Rattle.state_bytes.proofs.Puts.{puts_long, concatenated_none, concatenated_more, concatenated_all}
 use Rattle.state_layout.specs.Codecs.{word_bytes}
 use native.Mathlib.Omega.{arith}
@@ -38,5 +37,5 @@ returns c =
       b_after = concatenated_all (λ (j : ℕ). le_bytes 2 (get_or c.args.words.now j 0)) c.args.b.now c.args.at l.i (length c.args.words.now) l.b l.invariant.0
           c.loop-i-test.false
           l.invariant.1;
-      words_fit = λ k. (c.shared_slice_known-1.given k).fits;
+      words_fit = search rules;
     }

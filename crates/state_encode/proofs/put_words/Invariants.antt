@@ -1,13 +1,9 @@
 -- `state_encode::put_words` meets its contract: after i turns the bytes of i blocks are put.
 use Prim.Native.Nat.{ℕ, ◌-◌, ◌≤◌}
-use mathlib.Core.Path.{◌≡◌, refl, ◌∙◌}
+use mathlib.Core.Path.{◌≡◌}
 use lib.ListN.{length, get_or}
 use Rattle.num_le.specs.LittleEndian.{le_bytes}
 use Rattle.state_bytes.specs.Bytes.{puts, concatenated}
-use Rattle.state_bytes.proofs.Puts.{puts_long, concatenated_none, concatenated_more, concatenated_all}
-use Rattle.state_layout.specs.Codecs.{word_bytes}
-use native.Mathlib.Omega.{arith}
-use borrow.Author.Rules.{rules}
 use Rattle.state_encode.proofs.put_words.Given as goal
 
 abbrev pub invariant-loop-i : goal.invariant-loop-i

@@ -1,6 +1,5 @@
 -- `frame_is` meets its contract, test by test.
 use Rattle.state_layout.specs.IsState.{frame_is}
-use borrow.Author.Rules.{rules}
 use Rattle.state_judge.proofs.frame_is.Goals as goal
 
 pub returns : goal.returns

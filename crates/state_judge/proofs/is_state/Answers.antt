@@ -1,7 +1,6 @@
 -- `is_state` meets its contract: the length, then the rest.
 use borrow.Author.Tests.{eq-eqb, ne_eqb}
 use Rattle.state_layout.specs.IsState.{is_state}
-use borrow.Author.Rules.{rules}
 use Rattle.state_judge.proofs.is_state.Goals as goal
 
 pub returns-then-b-ne-STATE_LENGTH : goal.returns-then-b-ne-STATE_LENGTH

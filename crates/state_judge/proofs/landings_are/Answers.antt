@@ -1,10 +1,6 @@
 -- `landings_are` meets its contract: entry by entry as far as the landing count, and the rest together.
-use Prim.Native.Nat.{◌-◌}
-use mathlib.Core.Path.{◌≡◌}
 use native.Mathlib.Omega.{arith}
-use Rattle.limits.specs.Limits.{most_landings}
-use borrow.Author.Rules.{rules}
-use Rattle.state_judge.proofs.Landings.{Judged, judged_none, judged_more, judged_rest, judged_all}
+use Rattle.state_judge.proofs.Landings.{judged_none, judged_more, judged_rest, judged_all}
 use Rattle.state_judge.proofs.landings_are.Goals as goal
 
 pub loop-i-init : goal.loop-i-init
@@ -16,7 +12,7 @@ together-requires c = omega (arith, c.requires)
 pub returns-then-i-header : goal.returns-then-i-header
 returns-then-i-header c =
     let v = c.loop-i in
-    judged_rest c.args.b.now c.args.header v.pass v v.i _ v.invariant c.if-i-header.true c.together.ensures
+    judged_rest c.args.b.now c.args.header v.pass _ v.i _ v.invariant c.if-i-header.true c.together.ensures
 
 pub word-block-requires : goal.word-block-requires
 word-block-requires c = omega (arith, c.requires)
@@ -30,9 +26,9 @@ loop-i-smaller c = omega arith
 pub loop-i-preserved : goal.loop-i-preserved
 loop-i-preserved c =
     let v = c.loop-i in
-    judged_more c.args.b.now c.args.header v.pass v v.i _ _ v.invariant (omega arith) (omega arith)
+    judged_more c.args.b.now c.args.header v.pass _ v.i _ _ v.invariant (omega arith) (omega arith)
     c.word-block.ensures c.landing_fits-pass.ensures
 
 pub returns : goal.returns
 returns c =     let v = c.loop-i in
-    judged_all c.args.b.now c.args.header v.pass v v.i v.invariant (omega arith)
+    judged_all c.args.b.now c.args.header v.pass _ v.i v.invariant (omega arith)

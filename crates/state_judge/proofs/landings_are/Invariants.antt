@@ -1,10 +1,7 @@
 -- `landings_are` meets its contract: entry by entry as far as the landing count, and the rest together.
 use Prim.Native.Nat.{◌-◌}
-use mathlib.Core.Path.{◌≡◌}
-use native.Mathlib.Omega.{arith}
 use Rattle.limits.specs.Limits.{most_landings}
-use borrow.Author.Rules.{rules}
-use Rattle.state_judge.proofs.Landings.{Judged, judged_none, judged_more, judged_rest, judged_all}
+use Rattle.state_judge.proofs.Landings.{Judged}
 use Rattle.state_judge.proofs.landings_are.Given as goal
 
 abbrev pub invariant-loop-i : goal.invariant-loop-i

@@ -4,7 +4,6 @@ use mathlib.Core.Path.{ap, ◌∙◌}
 use lib.Dec.{leb}
 use Rattle.limits.specs.Limits.{most_level}
 use Rattle.state_judge.proofs.Union.{levels_together}
-use borrow.Author.Rules.{rules}
 use Rattle.state_judge.proofs.levels_are.Goals as goal
 
 pub returns : goal.returns

@@ -1,5 +1,4 @@
 -- `motion_is` meets its contract, test by test.
-use borrow.Author.Rules.{rules}
 use Rattle.state_judge.proofs.motion_is.Goals as goal
 
 pub returns : goal.returns

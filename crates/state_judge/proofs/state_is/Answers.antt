@@ -1,7 +1,6 @@
 -- `state_is` meets its contract, part by part.
 use Rattle.state_layout.specs.IsState.{state_is}
 use Rattle.state_layout.specs.Layout.{decoded}
-use borrow.Author.Rules.{rules}
 use Rattle.state_judge.proofs.state_is.Goals as goal
 
 pub returns : goal.returns

@@ -1,9 +1,6 @@
 -- `together` meets its contract: after k turns the first k bytes are taken.
 use Prim.Native.Nat.{◌-◌, ◌≤◌}
-use native.Mathlib.Omega.{arith}
-use native.Mathlib.Numerals.{add-one}
-use mathlib.Core.Path.{◌≡◌, refl, ap, ◌∙◌}
-use borrow.Author.Rules.{rules}
+use mathlib.Core.Path.{◌≡◌}
 use Rattle.state_judge.specs.Together.{together}
 use Rattle.state_judge.proofs.together.Given as goal
 

@@ -3,7 +3,6 @@ use Prim.Native.Nat.{ℕ}
 use mathlib.Core.Path.{ap, ◌∙◌}
 use lib.Dec.{eqb}
 use Rattle.state_judge.proofs.Union.{unused_together}
-use borrow.Author.Rules.{rules}
 use Rattle.state_judge.proofs.unused_zero.Goals as goal
 
 pub returns : goal.returns

@@ -1,5 +1,4 @@
 -- `values_are` meets its contract, part by part.
-use borrow.Author.Rules.{rules}
 use Rattle.state_judge.proofs.values_are.Goals as goal
 
 pub returns : goal.returns

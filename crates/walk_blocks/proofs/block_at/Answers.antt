@@ -1,5 +1,4 @@
 -- `block_at` meets its contract: eight bytes, one after the other, whether all are there or not.
-use borrow.Author.Rules.{rules}
 use Rattle.walk_blocks.proofs.block_at.Goals as goal
 
 pub returns : goal.returns

@@ -1,5 +1,4 @@
 -- `decode` meets its contract: the row of the code, and the operands where its layout has them.
-use borrow.Author.Rules.{rules}
 use Rattle.command_operands.specs.Operands.{operands}
 use Rattle.walk_blocks.proofs.decode.Goals as goal
 

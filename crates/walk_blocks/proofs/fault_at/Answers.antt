@@ -1,6 +1,5 @@
 -- `fault_at` meets its contract: what the command breaks at the point.
 use mathlib.Core.Path.{ap, ◌∙◌}
-use borrow.Author.Rules.{rules}
 use Rattle.command_operands.specs.declared.Command.{Command}
 use Rattle.walk_flow.specs.Terms.{by_header}
 use Rattle.walk_point.specs.PointFault.{fault_of}

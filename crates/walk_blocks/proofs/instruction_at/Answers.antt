@@ -1,6 +1,5 @@
 -- `instruction_at` meets its contract: the block's bytes, decoded.
 use mathlib.Core.Path.{ap, ◌∙◌}
-use borrow.Author.Rules.{rules}
 use Rattle.walk_blocks.specs.Instructions.{instruction_of, instruction_at}
 use Rattle.walk_blocks.proofs.instruction_at.Goals as goal
 

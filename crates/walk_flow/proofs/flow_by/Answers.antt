@@ -1,5 +1,4 @@
 -- `flow_by` meets its contract, kind by kind.
-use borrow.Author.Rules.{rules}
 use mathlib.Core.Path.{refl}
 use Rattle.logic.proofs.Choice.{arm}
 use Rattle.command_table.specs.declared.FlowKind.{FlowKind}

@@ -1,8 +1,7 @@
 -- `foreign` meets its contract: its three tests are the definition's.
 use mathlib.Core.Bool.{and-false}
-use borrow.Author.Tests.{ne_eqb, not-true, not-false}
+use borrow.Author.Tests.{ne_eqb}
 use Rattle.walk_flow.specs.Permission.{foreign}
-use borrow.Author.Rules.{rules}
 use Rattle.walk_flow.proofs.foreign.Goals as goal
 
 pub returns-then-not-is_ending : goal.returns-then-not-is_ending

@@ -1,5 +1,4 @@
 -- `broken` meets its contract, flow by flow.
-use borrow.Author.Rules.{rules}
 use Rattle.walk_graph.proofs.broken.Goals as goal
 
 pub returns-in-Call : goal.returns-in-Call

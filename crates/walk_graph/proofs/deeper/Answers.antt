@@ -1,6 +1,5 @@
 -- `deeper` meets its contract: the greatest depth is cut off, and the others are one deeper.
 use mathlib.Core.Path.{refl}
-use borrow.Author.Rules.{rules}
 use Rattle.walk_graph.proofs.deeper.Goals as goal
 
 pub returns : goal.returns

@@ -1,6 +1,5 @@
 -- `hand_on` meets its contract, flow by flow.
 use mathlib.Core.Path.{◌∙◌}
-use borrow.Author.Rules.{rules}
 use Rattle.logic.proofs.Choice.{arm}
 use Rattle.walk_flow.specs.declared.Flow.{Flow}
 use Rattle.walk_graph.specs.Onward.{handed_on}

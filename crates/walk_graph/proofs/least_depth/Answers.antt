@@ -1,9 +1,9 @@
 -- `least_depth` meets its contract: what is left of the set has the same least depth at each turn.
-use Prim.Native.Nat.{◌+◌, ◌-◌, ◌≤◌}
+use Prim.Native.Nat.{◌+◌, ◌-◌}
 use mathlib.Core.Path.{◌≡◌, refl, ◌∙◌}
 use native.Mathlib.Omega.{arith}
 use Rattle.limits.specs.Limits.{depths}
-use Rattle.walk_graph.specs.Depths.{digit, least_from, least_depth}
+use Rattle.walk_graph.specs.Depths.{digit, least_from}
 use Rattle.walk_graph.proofs.Depths.{least_here, least_further}
 use Rattle.walk_graph.proofs.least_depth.Goals as goal
 

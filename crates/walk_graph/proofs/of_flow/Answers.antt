@@ -1,7 +1,6 @@
 -- `of_flow` meets its contract: what is broken is no more than all, and the rest is handed on.
 use mathlib.Core.Path.{◌∙◌}
 use native.Mathlib.Omega.{arith}
-use borrow.Author.Rules.{rules}
 use Rattle.walk_graph.specs.Onward.{flow_onward}
 use Rattle.walk_graph.proofs.BadDepths.{broken_within}
 use Rattle.walk_graph.proofs.of_flow.Goals as goal

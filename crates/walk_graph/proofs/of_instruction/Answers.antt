@@ -1,7 +1,5 @@
 -- `of_instruction` meets its contract: its tests are the definition's, in its order.
 use mathlib.Core.Path.{sym, ◌∙◌}
-use borrow.Author.Tests.{not-true, not-false}
-use borrow.Author.Rules.{rules}
 use Rattle.walk_graph.specs.Onward.{command_onward}
 use Rattle.walk_graph.proofs.of_instruction.Goals as goal
 

@@ -1,6 +1,5 @@
 -- `onward_of` meets its contract: the command is that of the block.
 use mathlib.Core.Path.{ap, ◌∙◌}
-use borrow.Author.Rules.{rules}
 use Rattle.command_operands.specs.declared.Command.{Command}
 use Rattle.walk_flow.specs.Terms.{by_header}
 use Rattle.walk_blocks.specs.declared.Instruction.{Instruction}

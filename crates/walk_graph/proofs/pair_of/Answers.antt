@@ -1,6 +1,5 @@
 -- `pair_of` meets its contract: it counts by block, then task.
 use mathlib.Core.Path.{refl}
-use borrow.Author.Rules.{rules}
 use Rattle.walk_graph.proofs.pair_of.Goals as goal
 
 pub returns : goal.returns

@@ -1,7 +1,6 @@
 -- `either_past` meets its contract: its two tests are the list's.
 use mathlib.Core.Path.{sym, ◌∙◌}
 use Rattle.walk_point.proofs.TwoBlocks.{first_past, first_not}
-use borrow.Author.Rules.{rules}
 use Rattle.walk_point.proofs.either_past.Goals as goal
 
 pub returns-then-past : goal.returns-then-past

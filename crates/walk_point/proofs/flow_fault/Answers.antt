@@ -1,7 +1,6 @@
 -- `flow_fault` meets its contract: its tests are the definition's, in its order.
 use mathlib.Core.Path.{sym, ◌∙◌}
 use Rattle.walk_point.specs.PointFault.{flow_fault}
-use borrow.Author.Rules.{rules}
 use Rattle.walk_point.proofs.flow_fault.Goals as goal
 
 pub returns-then-too_deep : goal.returns-then-too_deep

@@ -1,5 +1,4 @@
 -- `no_call` meets its contract, flow by flow.
-use borrow.Author.Rules.{rules}
 use Rattle.walk_point.proofs.no_call.Goals as goal
 
 pub returns-in-Return : goal.returns-in-Return

@@ -1,5 +1,4 @@
 -- `other_past` meets its contract: a start of its own task goes on with nothing.
-use borrow.Author.Rules.{rules}
 use Rattle.walk_point.proofs.other_past.Goals as goal
 
 pub returns-then-own : goal.returns-then-own

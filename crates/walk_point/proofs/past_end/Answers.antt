@@ -1,5 +1,4 @@
 -- `past_end` meets its contract, flow by flow: the blocks that it looks at are those of `continues`.
-use borrow.Author.Rules.{rules}
 use Rattle.walk_point.proofs.past_end.Goals as goal
 
 pub returns-in-Next : goal.returns-in-Next

@@ -1,5 +1,4 @@
 -- `start_past` meets its contract by its one test.
-use borrow.Author.Rules.{rules}
 use Rattle.walk_point.proofs.start_past.Goals as goal
 
 pub returns-then-own : goal.returns-then-own

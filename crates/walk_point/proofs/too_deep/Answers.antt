@@ -1,5 +1,4 @@
 -- `too_deep` meets its contract, flow by flow.
-use borrow.Author.Rules.{rules}
 use Rattle.walk_point.proofs.too_deep.Goals as goal
 
 pub returns-in-Call : goal.returns-in-Call

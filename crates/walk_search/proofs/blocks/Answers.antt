@@ -2,7 +2,6 @@
 use mathlib.Core.Path.{sym}
 use lib.Seq.{length-take-le}
 use Rattle.walk_search.proofs.PartByPart.{kept_within, kept_blocks}
-use borrow.Author.Rules.{rules}
 use Rattle.walk_search.proofs.blocks.Goals as goal
 
 pub slice_bounds-result-end : goal.slice_bounds-result-end

@@ -1,11 +1,8 @@
 -- `first_refused` meets its contract: the blocks before b pass at each turn.
-use Prim.Native.Nat.{ℕ, ◌-◌, ◌<◌, ◌≤◌}
-use mathlib.Core.Path.{◌≡◌, sym, ap, ◌∙◌}
+use mathlib.Core.Path.{sym, ap, ◌∙◌}
 use native.Mathlib.Omega.{arith}
 use borrow.Author.Count.{below_more}
-use Rattle.walk_flow.specs.Terms.{by_header}
 use Rattle.command_judge.specs.BlockFault.{block_fault_number}
-use Rattle.walk.specs.Blocks.{block_number}
 use Rattle.walk_search.proofs.first_refused.Goals as goal
 
 pub loop-b-init : goal.loop-b-init

@@ -1,10 +1,7 @@
 -- `first_refused` meets its contract: the blocks before b pass at each turn.
 use Prim.Native.Nat.{ℕ, ◌-◌, ◌<◌, ◌≤◌}
-use mathlib.Core.Path.{◌≡◌, sym, ap, ◌∙◌}
-use native.Mathlib.Omega.{arith}
-use borrow.Author.Count.{below_more}
+use mathlib.Core.Path.{◌≡◌}
 use Rattle.walk_flow.specs.Terms.{by_header}
-use Rattle.command_judge.specs.BlockFault.{block_fault_number}
 use Rattle.walk.specs.Blocks.{block_number}
 use Rattle.walk_search.proofs.first_refused.Given as goal
 

@@ -1,9 +1,8 @@
 -- `judge` meets its contract: 13, the header and the landing blocks, then the blocks and the walks.
 use mathlib.Core.Path.{refl, sym, ◌∙◌}
-use borrow.Author.Tests.{lt-ltb, not-true, not-false}
+use borrow.Author.Tests.{lt-ltb}
 use native.Mathlib.Omega.{arith}
 use lib.ListN.{length}
-use borrow.Author.Rules.{rules}
 use Rattle.limits.specs.Limits.{marks_length}
 use Rattle.walk.specs.Verdict.{verdict_of}
 use Rattle.walk_search.proofs.PartByPart.{refused_image, ready, judged_image}

@@ -2,7 +2,6 @@
 use mathlib.Core.Path.{refl, ap, ◌∙◌}
 use Rattle.walk_search.proofs.ByHeader.{refused_by_header}
 use Rattle.walk_search.proofs.Upwards.{first_refused_is, none_refused_is}
-use borrow.Author.Rules.{rules}
 use Rattle.command_judge.specs.declared.BlockFault.{BlockFault}
 use Rattle.walk_flow.specs.Terms.{under}
 use Rattle.walk.specs.declared.Verdict.TheVariants.{Block}

@@ -1,7 +1,5 @@
 -- `kept_length` meets its contract by its one test.
 use mathlib.Core.Path.{sym, ◌∙◌}
-use borrow.Author.Tests.{not-true, not-false}
-use borrow.Author.Rules.{rules}
 use Rattle.walk_search.proofs.kept_length.Goals as goal
 
 pub returns-then-not-is_accepted : goal.returns-then-not-is_accepted

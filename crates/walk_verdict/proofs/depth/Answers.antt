@@ -1,6 +1,5 @@
 -- `depth` meets its contract: each arm gives the definition's depth of its variant.
 use mathlib.Core.Path.{sym, ap}
-use borrow.Author.Rules.{rules}
 use Rattle.walk.specs.Verdict.{verdict_depth}
 use Rattle.walk_verdict.proofs.depth.Goals as goal
 

@@ -1,6 +1,5 @@
 -- `is_accepted` meets its contract: each arm gives the definition's answer for its variant.
 use mathlib.Core.Path.{sym, ap}
-use borrow.Author.Rules.{rules}
 use Rattle.walk.specs.Verdict.{is_accepted}
 use Rattle.walk_verdict.proofs.is_accepted.Goals as goal
 

@@ -1,6 +1,5 @@
 -- `number` meets its contract: each arm gives the definition's number of its variant.
 use mathlib.Core.Path.{sym, ap}
-use borrow.Author.Rules.{rules}
 use Rattle.walk.specs.Verdict.{verdict_number}
 use Rattle.walk_verdict.proofs.number.Goals as goal
 

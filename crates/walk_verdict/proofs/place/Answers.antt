@@ -1,6 +1,5 @@
 -- `place` meets its contract: each arm gives the definition's place of its variant.
 use mathlib.Core.Path.{sym, ap}
-use borrow.Author.Rules.{rules}
 use Rattle.walk.specs.Verdict.{verdict_place}
 use Rattle.walk_verdict.proofs.place.Goals as goal
 

@@ -1,6 +1,5 @@
 -- `task` meets its contract: each arm gives the definition's task of its variant.
 use mathlib.Core.Path.{sym, ap}
-use borrow.Author.Rules.{rules}
 use Rattle.walk.specs.Verdict.{verdict_task}
 use Rattle.walk_verdict.proofs.task.Goals as goal
 

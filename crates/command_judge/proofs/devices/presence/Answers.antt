@@ -1,5 +1,4 @@
 -- `presence` meets its contract, device by device.
-use borrow.Author.Rules.{rules}
 use mathlib.Core.Path.{refl}
 use Rattle.logic.proofs.Choice.{arm}
 use Rattle.command_table.specs.declared.Device.{Device}

@@ -1,5 +1,4 @@
 -- `flag_run` meets its contract, by its first test.
-use borrow.Author.Rules.{rules}
 use Rattle.command_judge.proofs.ranges.flag_run.Goals as goal
 
 pub up_to-requires : goal.up_to-requires

@@ -1,5 +1,4 @@
 -- `in_range` meets its contract, test by test.
-use borrow.Author.Rules.{rules}
 use mathlib.Core.Bool.{not}
 use mathlib.Core.Path.{◌≡◌, refl, ap}
 use Prim.Native.Nat.{◌<◌, ◌^◌}

@@ -1,6 +1,5 @@
 -- `Drive::pin` meets its contract: it is `found` at the home that `home_of` gives.
 use mathlib.Core.Path.{ap, ◌∙◌}
-use borrow.Author.Rules.{rules}
 use Rattle.drive.specs.Pins.{presence, pin_of}
 use Rattle.drive.proofs.Drive.pin.Goals as goal
 

@@ -1,5 +1,4 @@
 -- `Drive::takes_b` meets its contract: the code's list of least types is the definition's list of slot B.
-use borrow.Author.Rules.{rules}
 use Rattle.drive.proofs.Drive.takes_b.Goals as goal
 
 pub returns : goal.returns

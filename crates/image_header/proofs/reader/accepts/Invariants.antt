@@ -1,13 +1,8 @@
 -- `image_header::reader::accepts` meets its contract: after k turns the first k rows let the header pass.
-use borrow.Author.Rules.{rules}
-use mathlib.Core.Path.{◌≡◌, refl, ap, ◌∙◌}
-use Prim.Native.Nat.{ℕ, ◌-◌, ◌≤◌}
-use mathlib.Core.List.{List}
-use native.Mathlib.Omega.{arith}
-use native.Mathlib.Numerals.{add-one}
-use Rattle.logic.specs.Each.{each_below}
+use mathlib.Core.Path.{◌≡◌}
+use Prim.Native.Nat.{◌-◌, ◌≤◌}
 use Rattle.image_header.specs.Numbers.{header_from}
-use Rattle.image_header.specs.Rows.{header_count, first_pass, accepts}
+use Rattle.image_header.specs.Rows.{header_count, first_pass}
 use Rattle.image_header.proofs.reader.accepts.Given as goal
 
 abbrev pub invariant-loop-row : goal.invariant-loop-row

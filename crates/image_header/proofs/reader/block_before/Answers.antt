@@ -1,5 +1,4 @@
 -- `image_header::reader::block_before` meets its contract, by its test.
-use borrow.Author.Rules.{rules}
 use borrow.Author.Tests.{eq-eqb, ne_eqb}
 use Rattle.image_header.proofs.reader.block_before.Goals as goal
 

@@ -1,5 +1,4 @@
 -- `image_header::reader::check_count` meets its contract, test by test.
-use borrow.Author.Rules.{rules}
 use mathlib.Core.Path.{sym, ◌∙◌}
 use lib.ListN.{get_or}
 use borrow.Author.Tests.{le-ltb, lt-ltb}

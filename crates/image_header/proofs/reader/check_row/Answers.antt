@@ -1,5 +1,4 @@
 -- `image_header::reader::check_row` meets its contract: each arm has its row's tests, and there is no row past the last.
-use borrow.Author.Rules.{rules}
 use mathlib.Core.Path.{sym, ap, ◌∙◌}
 use mathlib.Core.Bool.{Bool, cond}
 use mathlib.Core.List.{List, []}

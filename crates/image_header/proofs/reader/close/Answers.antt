@@ -1,7 +1,5 @@
 -- `image_header::reader::close` meets its contract: the refusal of the numbers comes before that of the length, and numbers that were not refused fit.
-use borrow.Author.Rules.{rules}
 use mathlib.Core.Path.{sym, ap, ◌∙◌}
-use borrow.Author.Tests.{not-true, not-false}
 use lib.ListN.{get_or}
 use Rattle.image_result.specs.ImageResult.{done}
 use Rattle.image_header.specs.Scan.{first_refusal, length_result, read_with, closed}

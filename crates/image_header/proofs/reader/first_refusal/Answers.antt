@@ -1,5 +1,4 @@
 -- `image_header::reader::first_refusal` meets its contract, by its test.
-use borrow.Author.Rules.{rules}
 use mathlib.Core.Path.{sym, ◌∙◌}
 use Rattle.image_header.specs.Scan.{first_refusal}
 use Rattle.image_header.proofs.reader.first_refusal.Goals as goal

@@ -1,5 +1,4 @@
 -- `image_header::reader::is_next` meets its contract: its tests are the definition's.
-use borrow.Author.Rules.{rules}
 use Rattle.image_header.proofs.reader.is_next.Goals as goal
 
 pub returns : goal.returns

@@ -1,5 +1,4 @@
 -- `image_header::reader::judge` meets its contract, by what the row finds.
-use borrow.Author.Rules.{rules}
 use native.Mathlib.Omega.{arith}
 use mathlib.Core.Path.{sym, ap, ◌∙◌}
 use lib.ListN.{set}

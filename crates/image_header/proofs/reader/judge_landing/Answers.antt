@@ -4,7 +4,6 @@ use mathlib.Core.Path.{◌≡◌, sym, ap, ◌∙◌}
 use Prim.Native.Nat.{ℕ, ◌<◌}
 use native.Mathlib.Omega.{arith}
 use lib.ListN.{length, get_or, length-set}
-use borrow.Author.Tests.{not-true, not-false}
 use Rattle.image_result.specs.declared.ImageResult.TheVariants.{BadLanding}
 use Rattle.image_header.specs.Rows.{header_count}
 use Rattle.image_header.specs.Scan.{stopped, beside}

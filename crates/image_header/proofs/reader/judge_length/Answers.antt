@@ -1,7 +1,6 @@
 -- `image_header::reader::judge_length` meets its contract, by its tests: each is read as what it says of the length.
 use Prim.Native.Nat.{◌+◌, ◌*◌}
 use native.Mathlib.Omega.{arith}
-use borrow.Author.Rules.{rules}
 use borrow.Author.Tests.{lt-ltb, le-ltb}
 use Rattle.limits.specs.Limits.{block_length}
 use Rattle.image_header.specs.Scan.{length_result}

@@ -1,7 +1,5 @@
 -- `image_header::reader::part_of` meets its contract: the blocks of an image that is read begin within it, and are all that follows.
-use borrow.Author.Rules.{rules}
 use mathlib.Core.Bool.{true, false}
-use borrow.Author.Tests.{not-true, not-false}
 use Rattle.image_header.proofs.Read.{asked, no_blocks, inside, all_blocks}
 use Rattle.image_header.proofs.reader.part_of.Goals as goal
 

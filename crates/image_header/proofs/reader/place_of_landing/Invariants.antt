@@ -1,13 +1,7 @@
 -- `image_header::reader::place_of_landing` meets its contract: after j turns the bytes of the first j landing blocks are counted behind the header's.
-use borrow.Author.Rules.{rules}
-use mathlib.Core.Path.{◌≡◌, ap, ◌∙◌}
-use Prim.Native.Nat.{ℕ, ◌+◌, ◌-◌, ◌*◌, ◌≤◌}
-use native.Mathlib.Omega.{arith}
-use native.Mathlib.Numerals.{add-one}
-use lib.ListN.{length, get_or}
-use Rattle.image_number.specs.Number.{number_bytes}
-use Rattle.image_number.proofs.Numbers.{size_most}
-use Rattle.image_header.proofs.Beside.{landing_bytes, landing_place}
+use mathlib.Core.Path.{◌≡◌}
+use Prim.Native.Nat.{◌+◌, ◌-◌, ◌*◌, ◌≤◌}
+use Rattle.image_header.proofs.Beside.{landing_bytes}
 use Rattle.image_header.proofs.reader.place_of_landing.Given as goal
 
 abbrev pub invariant-loop-j : goal.invariant-loop-j

@@ -1,5 +1,4 @@
 -- `image_header::reader::read` meets its contract: the numbers take at most two bytes each, and fit their widths, as `close` asks.
-use borrow.Author.Rules.{rules}
 use mathlib.Core.Path.{ap, ◌∙◌}
 use native.Mathlib.Omega.{arith}
 use lib.ListN.{length}

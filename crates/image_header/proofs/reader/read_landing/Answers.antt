@@ -1,5 +1,4 @@
 -- `image_header::reader::read_landing` meets its contract, by what is found at the scan's place.
-use borrow.Author.Rules.{rules}
 use mathlib.Core.Path.{sym, ap, ◌∙◌}
 use Rattle.image_header.specs.Scan.{taken, beside}
 use Rattle.image_header.specs.declared.reader.Scan.{Scan}

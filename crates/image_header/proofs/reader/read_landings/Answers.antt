@@ -1,14 +1,10 @@
 -- `image_header::reader::read_landings` meets its contract. The loop's invariant: the scan is that of the header's rows and of the landing blocks passed.
-use borrow.Author.Rules.{rules}
 use mathlib.Core.Path.{◌≡◌, sym, ◌∙◌}
-use Prim.Native.Nat.{◌+◌, ◌≤◌, ◌-◌}
 use native.Mathlib.Omega.{arith}
 use lib.ListN.{length}
-use borrow.Author.Tests.{not-true, not-false}
 use Rattle.limits.specs.Limits.{most_landings}
 use Rattle.image_result.specs.ImageResult.{done}
-use Rattle.image_header.specs.Rows.{header_count}
-use Rattle.image_header.specs.Scan.{from_image, scan, beside}
+use Rattle.image_header.specs.Scan.{from_image}
 use Rattle.image_header.proofs.Rows.{landing_listed}
 use Rattle.image_header.proofs.Beside.{landings_over, landing_goes_on}
 use Rattle.image_header.proofs.reader.read_landings.Goals as goal

@@ -1,8 +1,6 @@
 -- `image_header::reader::read_row` meets its contract: where the number does not come next the scan stays, else what `image_number::read` finds is taken.
-use borrow.Author.Rules.{rules}
 use mathlib.Core.Path.{sym, ◌∙◌}
 use lib.ListN.{length}
-use borrow.Author.Tests.{not-true, not-false}
 use Rattle.image_header.specs.Scan.{from_image, alone}
 use Rattle.image_header.proofs.Scanning.{stays, takes}
 use Rattle.image_header.proofs.reader.read_row.Goals as goal

@@ -1,7 +1,5 @@
 -- `image_header::reader::read_rows` meets its contract. The loop's invariant: beside no landing block, the scan is that of the rows passed.
-use borrow.Author.Rules.{rules}
 use mathlib.Core.Path.{◌≡◌, refl, ap}
-use Prim.Native.Nat.{◌≤◌, ◌-◌}
 use native.Mathlib.Omega.{arith}
 use lib.ListN.{length}
 use Rattle.image_header.specs.Rows.{header_count}

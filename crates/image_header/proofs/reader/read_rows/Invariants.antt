@@ -1,14 +1,9 @@
 -- `image_header::reader::read_rows` meets its contract. The loop's invariant: beside no landing block, the scan is that of the rows passed.
-use borrow.Author.Rules.{rules}
-use mathlib.Core.Path.{◌≡◌, refl, ap}
+use mathlib.Core.Path.{◌≡◌}
 use Prim.Native.Nat.{◌≤◌, ◌-◌}
-use native.Mathlib.Omega.{arith}
 use lib.ListN.{length}
 use Rattle.image_header.specs.Rows.{header_count}
 use Rattle.image_header.specs.Scan.{from_image, scan, beside, no_landings}
-use Rattle.image_header.specs.declared.reader.Scan.{Scan}
-use Rattle.image_header.proofs.Scanning.{scan_long, next_row}
-use Rattle.image_header.proofs.Beside.{header_long, header_goes_on}
 use Rattle.image_header.proofs.reader.read_rows.Given as goal
 
 abbrev pub invariant-loop-row : goal.invariant-loop-row

@@ -1,13 +1,8 @@
 -- `image_header::reader::same_first` meets its contract: after i turns the first i are compared; past the ends there is nothing that differs.
-use borrow.Author.Rules.{rules}
-use mathlib.Core.Path.{◌≡◌, refl, ap, ◌∙◌}
-use Prim.Native.Nat.{ℕ, ◌+◌, ◌-◌, ◌≤◌}
-use native.Mathlib.Omega.{arith}
-use native.Mathlib.Numerals.{add-one}
+use mathlib.Core.Path.{◌≡◌}
+use Prim.Native.Nat.{◌-◌, ◌≤◌}
 use lib.ListN.{length}
-use Rattle.logic.specs.Each.{each_below}
 use Rattle.image_header.specs.Rows.{first_same}
-use Rattle.image_header.proofs.Numbers.{first_past}
 use Rattle.image_header.proofs.reader.same_first.Given as goal
 
 abbrev pub invariant-loop-i : goal.invariant-loop-i

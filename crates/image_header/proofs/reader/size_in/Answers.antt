@@ -1,9 +1,7 @@
 -- `image_header::reader::size_in` meets its contract, by whether the number stands.
-use borrow.Author.Rules.{rules}
 use mathlib.Core.Path.{refl, sym, ◌∙◌}
 use native.Mathlib.Omega.{arith}
 use lib.ListN.{get_or}
-use borrow.Author.Tests.{not-true, not-false}
 use Rattle.image_number.proofs.Numbers.{size_most}
 use Rattle.image_header.proofs.reader.size_in.Goals as goal
 

@@ -1,5 +1,4 @@
 -- `image_header::reader::stands` meets its contract: its tests are the definition's, for a number of a header and for a landing block.
-use borrow.Author.Rules.{rules}
 use borrow.Author.Tests.{lt-ltb, le-ltb}
 use Rattle.image_header.specs.Rows.{stands}
 use Rattle.image_header.proofs.reader.stands.Goals as goal

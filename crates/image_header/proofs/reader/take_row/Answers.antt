@@ -1,5 +1,4 @@
 -- `image_header::reader::take_row` meets its contract, by what was found.
-use borrow.Author.Rules.{rules}
 use mathlib.Core.Path.{ap}
 use Rattle.image_header.specs.Scan.{taken, alone}
 use Rattle.image_header.proofs.reader.take_row.Goals as goal

@@ -1,6 +1,5 @@
 -- `State::fresh` meets its contract: its parts are the definition's.
 use Rattle.state.specs.State.{fresh}
-use borrow.Author.Rules.{rules}
 use Rattle.state.proofs.State.fresh.Goals as goal
 
 pub returns : goal.returns

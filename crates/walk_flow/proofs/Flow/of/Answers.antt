@@ -2,7 +2,6 @@
 use mathlib.Core.Path.{ap, ◌∙◌}
 use Rattle.walk_flow.specs.Flow.{flow_by, flow_of}
 use Rattle.command_table.specs.declared.Row.{Row}
-use borrow.Author.Rules.{rules}
 use Rattle.walk_flow.proofs.Flow.of.Goals as goal
 
 pub returns : goal.returns

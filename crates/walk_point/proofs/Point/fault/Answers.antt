@@ -1,8 +1,6 @@
 -- `Point::fault` meets its contract: its tests are the definition's, in its order.
 use mathlib.Core.Path.{sym, ◌∙◌}
-use borrow.Author.Tests.{not-true, not-false}
 use Rattle.walk_point.specs.PointFault.{fault_of}
-use borrow.Author.Rules.{rules}
 use Rattle.walk_point.proofs.Point.fault.Goals as goal
 
 pub returns-then-foreign : goal.returns-then-foreign

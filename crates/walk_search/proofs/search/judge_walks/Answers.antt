@@ -10,7 +10,6 @@ use Rattle.image_header.specs.GoodHeader.{GoodHeader}
 use Rattle.image_header.specs.declared.Header.{Header}
 use Rattle.walk_search.specs.Search.{pair_marks}
 use Rattle.walk_search.proofs.Front.{after_front, after_more}
-use borrow.Author.Rules.{rules}
 use Rattle.walk_search.proofs.search.judge_walks.Goals as goal
 
 -- they are no more than what 13 asks for
@@ -41,5 +40,5 @@ returns c =
     record {
       value = r.ensures.value;
       after = after_more (omega (arith, c.requires.good_header.count.1)) (after_front (pair_marks * (task_count * h.count)) c.args.marks.now r.new.marks e
-          r.auto.1.1.1.0);
+          r.auto.marks);
     }

@@ -2,7 +2,6 @@
 use mathlib.Core.Path.{◌∙◌}
 use native.Mathlib.Omega.{arith}
 use borrow.Author.Tests.{eq-eqb, ne_eqb}
-use borrow.Author.Rules.{rules}
 use Rattle.walk_graph.proofs.Depths.{least_within}
 use Rattle.walk_search.proofs.search.least_bad.Goals as goal
 

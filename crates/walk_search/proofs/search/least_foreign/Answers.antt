@@ -1,7 +1,5 @@
 -- `least_foreign` meets its contract by its test.
 use mathlib.Core.Path.{◌∙◌}
-use borrow.Author.Tests.{not-true, not-false}
-use borrow.Author.Rules.{rules}
 use Rattle.walk_search.proofs.search.least_foreign.Goals as goal
 
 pub returns-then-not-foreign : goal.returns-then-not-foreign

@@ -1,7 +1,6 @@
 -- `point_at` meets its contract: the fields are the definition's, and fit.
 use mathlib.Core.Path.{refl}
 use Rattle.walk.specs.Index.{point_at}
-use borrow.Author.Rules.{rules}
 use Rattle.walk_search.proofs.search.point_at.Goals as goal
 
 pub returns : goal.returns

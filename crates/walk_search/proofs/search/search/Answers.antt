@@ -1,7 +1,6 @@
 -- `search` meets its contract: the marks begin with the first pair alone, are walked to the end, and the least is told.
 use mathlib.Core.Path.{◌∙◌}
 use native.Mathlib.Omega.{arith}
-use borrow.Author.Rules.{rules}
 use Rattle.walk_flow.specs.Terms.{under}
 use Rattle.walk.specs.Verdict.{walks_verdict}
 use Rattle.walk_search.specs.Search.{found}

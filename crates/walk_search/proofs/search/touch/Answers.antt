@@ -4,7 +4,6 @@ use mathlib.Core.Path.{◌≡◌, sym, ◌∙◌}
 use mathlib.Core.List.{List}
 use lib.ListN.{length-set}
 use native.Mathlib.Omega.{arith}
-use borrow.Author.Rules.{rules}
 use Rattle.walk_search.specs.Search.{seen_in, handed_in, with_seen}
 use Rattle.walk_graph.specs.Depths.{union}
 use Rattle.walk_search.proofs.Stores.{handed_at}

@@ -1,10 +1,10 @@
 -- `touch_each` meets its contract: the touches that are left come to the same at each turn, and there is room for them.
-use Prim.Native.Nat.{ℕ, ◌-◌, ◌≤◌}
-use mathlib.Core.Path.{◌≡◌, refl, ap, ◌∙◌}
+use Prim.Native.Nat.{ℕ, ◌≤◌}
+use mathlib.Core.Path.{refl, ap, ◌∙◌}
 use native.Mathlib.Omega.{arith}
-use lib.ListN.{length, take, drop}
+use lib.ListN.{length}
 use Rattle.walk.proofs.Points.Bounds.{placed_taken}
-use Rattle.walk_search.specs.Search.{listing, touched, touched_each, RoomEach}
+use Rattle.walk_search.specs.Search.{listing, touched}
 use Rattle.walk_search.proofs.Landings.{each_next, each_done, each_room, room_again}
 use Rattle.walk_search.proofs.search.touch_each.Goals as goal
 
@@ -43,7 +43,7 @@ loop-i-preserved c =
     let q = c.pair_of.ensures in
     let e = c.touch-n.ensures ∙ ap (λ (q : ℕ). touched q c.args.s (listing v.marks v.n)) q in (
       omega arith,
-      c.touch-n.auto.0 ∙ v.invariant.1,
+      c.touch-n.auto.marks ∙ v.invariant.1,
       room_again v.invariant.2 _ i _ e,
       each_next c.args.landings.now c.args.count c.args.t c.args.s v.i enough (listing v.marks v.n) taken _ e
           ∙ v.invariant.3,

@@ -1,11 +1,8 @@
 -- `touch_each` meets its contract: the touches that are left come to the same at each turn, and there is room for them.
-use Prim.Native.Nat.{ℕ, ◌-◌, ◌≤◌}
-use mathlib.Core.Path.{◌≡◌, refl, ap, ◌∙◌}
-use native.Mathlib.Omega.{arith}
+use Prim.Native.Nat.{◌-◌, ◌≤◌}
+use mathlib.Core.Path.{◌≡◌}
 use lib.ListN.{length, take, drop}
-use Rattle.walk.proofs.Points.Bounds.{placed_taken}
-use Rattle.walk_search.specs.Search.{listing, touched, touched_each, RoomEach}
-use Rattle.walk_search.proofs.Landings.{each_next, each_done, each_room, room_again}
+use Rattle.walk_search.specs.Search.{listing, touched_each, RoomEach}
 use Rattle.walk_search.proofs.search.touch_each.Given as goal
 
 abbrev pub invariant-loop-i : goal.invariant-loop-i

@@ -1,7 +1,6 @@
 -- `verdict_by` meets its contract by its tests.
 use borrow.Author.Tests.{lt-ltb, le-ltb}
 use Rattle.walk.specs.Verdict.{verdict_by}
-use borrow.Author.Rules.{rules}
 use Rattle.walk_search.proofs.search.verdict_by.Goals as goal
 
 pub returns-then-foreign : goal.returns-then-foreign

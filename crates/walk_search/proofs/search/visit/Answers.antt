@@ -3,7 +3,6 @@ use Prim.Native.Nat.{◌+◌, ◌*◌}
 use mathlib.Core.Path.{◌∙◌}
 use native.Mathlib.Omega.{arith}
 use lib.ListN.{length-set}
-use borrow.Author.Rules.{rules}
 use Rattle.walk_flow.specs.Terms.{under}
 use Rattle.image_header.proofs.Rows.{most_of_lem}
 use Rattle.walk.proofs.Points.Bounds.{good_bounds}
@@ -66,7 +65,7 @@ pub shape_of-marks : goal.shape_of-marks
 shape_of-marks c =
     let l = c.args.marks.now in
     let p = c.read_u16-p.result in
-    omega (arith, c.land-pending.auto.1.1.0, c.touch-m.auto.0, c.touch-n.auto.0, length-set l (pair_marks * p + 1) (seen_in l p))
+    omega (arith, c.land-pending.auto.marks, c.touch-m.auto.marks, c.touch-n.auto.marks, length-set l (pair_marks * p + 1) (seen_in l p))
 
 pub returns : goal.returns
 returns c =

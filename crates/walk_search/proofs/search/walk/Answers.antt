@@ -2,12 +2,10 @@
 use mathlib.Core.Path.{◌≡◌, sym, ap, ◌∙◌}
 use native.Mathlib.Omega.{arith}
 use lib.ListN.{length}
-use borrow.Author.Rules.{rules}
 use Rattle.walk_flow.specs.Terms.{under}
 use Rattle.walk.proofs.Points.Bounds.{good_bounds}
-use Rattle.walk_search.specs.Search.{pairs, handed_in, board}
-use Rattle.walk_search.proofs.Counts.{left}
-use Rattle.walk_search.proofs.Ends.{begun, fresh_long, Running, running_after, less_after, found_is, searched}
+use Rattle.walk_search.specs.Search.{board}
+use Rattle.walk_search.proofs.Ends.{begun, fresh_long, running_after, less_after, found_is, searched}
 use Rattle.walk_search.proofs.search.walk.Goals as goal
 
 pub loop-found-init : goal.loop-found-init
