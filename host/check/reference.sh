@@ -1,7 +1,7 @@
 # Tests of the reference on what is stored beside the crates, for host/check.sh.
 
 numbers() {
-    sed -n 's/^ *number_row(b"\(.*\)"),$/\1/p' crates/vectors/src/main.rt | sed 's/\\x//g' \
+    sed -n 's/^ *number_row(\(rt, \)*b"\([^"]*\)")[?]*,$/\2/p' crates/vectors/src/main.rt | sed 's/\\x//g' \
         | "$out/read_numbers" > "$out/numbers.out"
     grep '^number ' crates/vectors/stdout | cmp - "$out/numbers.out" && counted "$(lines_of "$out/numbers.out") numbers"
 }
