@@ -64,6 +64,7 @@ not_header (NotShortest p) t = t
 not_header (OutOfRange p) t = t
 not_header (LeftOver p) t = t
 not_header (NoRoom p) t = t
+not_header (BadLanding p) t = t
 
 not_walk : (f : Fault) → T (of_drive (fault_number f)) → ⊥
 not_walk fault.Fine t = t

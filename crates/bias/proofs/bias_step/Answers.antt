@@ -11,14 +11,14 @@ returns-then-task-ge-TASK_COUNT c =
     let a = c.args in
     let r = step_refused _ _ _ _ (no_task_lem a.image.now a.state.now (inputs_of a.task a.inputs.now a.start a.ramp_ended a.in_window)
     c.if-task-ge-TASK_COUNT.true) c.answer.ensures in
-    record { value = r.0; state_after = r.1; }
+    record { value = r.0; state_after = r.1 }
 
 pub returns-then-n-ne-INPUTS_LENGTH : goal.returns-then-n-ne-INPUTS_LENGTH
 returns-then-n-ne-INPUTS_LENGTH c =
     let a = c.args in
     let r = step_refused _ _ _ _ (bad_inputs_lem a.image.now a.state.now (inputs_of a.task a.inputs.now a.start a.ramp_ended a.in_window)
     c.if-task-ge-TASK_COUNT.false c.if-n-ne-INPUTS_LENGTH.true) c.answer-then-n-ne-INPUTS_LENGTH.ensures in
-    record { value = r.0; state_after = r.1; }
+    record { value = r.0; state_after = r.1 }
 
 pub step_buffer-requires : goal.step_buffer-requires
 step_buffer-requires c =

@@ -29,6 +29,6 @@ returns c =
     record {
       value = c.verdict-2.ensures ∙ ap verdict_for j.ensures.value ∙ sym (verdict_is a.image.now _ a.state.now);
       state_after = c.encode.ensures ∙ ap encoded c.fresh.ensures
-            ∙ sym (begins a.image.now _ a.state.now accepted);
+          ∙ sym (begins a.image.now _ a.state.now accepted);
       after = j.ensures.after;
     }

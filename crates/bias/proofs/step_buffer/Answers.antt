@@ -20,7 +20,7 @@ returns-then-not-is_state c =
     let r = step_refused _ _ _ _ (no_state_lem a.image.now a.state.now (inputs_of a.t a.inputs.now a.start a.ramp_ended a.in_window) (sym
     c.is_state.ensures ∙ c.if-not-is_state.true))
     c.no_state.ensures in
-    record { value = r.0; state_after = r.1; }
+    record { value = r.0; state_after = r.1 }
 
 pub header_in-header-requires : goal.header_in-header-requires
 header_in-header-requires c = state_long c.args.state.now (λ k. (c.slice_known-1.given k).fits) (sym c.is_state.ensures ∙ c.if-not-is_state.false)
@@ -77,7 +77,7 @@ returns-in-Refused c =
     (sym c.in-Refused.is ∙ ready_of a.state.now a.image.now _ _ _ _ _ c.header_in-header.ensures c.landings_in-landings.ensures
     c.ready_for.ensures) in
     let r = step_refused _ _ _ _ e c.answer.ensures in
-    record { value = r.0; state_after = r.1; }
+    record { value = r.0; state_after = r.1 }
 
 pub returns-in-Carries : goal.returns-in-Carries
 returns-in-Carries c =

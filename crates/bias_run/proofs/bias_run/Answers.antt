@@ -19,7 +19,7 @@ returns-then-verdict-ne0 c =
       state_after = l.state_after ∙ refused a.image.now n a.state.now a.steps.now _ l.value c.if-verdict-ne0.true;
       after = l.after;
       run = theorem a.image.now n a.state.now a.steps.now _ l.value
-              (λ k. (c.shared_slice_known-1.given k).fits);
+          (λ k. (c.shared_slice_known-1.given k).fits);
     }
 
 pub returns : goal.returns
@@ -30,9 +30,9 @@ returns c =
     record {
       value = l.value;
       state_after = c.run_steps.ensures
-            ∙ ap (λ (b : List ℕ). buffer_after a.image.now b (steps_of a.steps.now)) l.state_after
-            ∙ accepted a.image.now n a.state.now a.steps.now _ l.value c.if-verdict-ne0.false;
+          ∙ ap (λ (b : List ℕ). buffer_after a.image.now b (steps_of a.steps.now)) l.state_after
+          ∙ accepted a.image.now n a.state.now a.steps.now _ l.value c.if-verdict-ne0.false;
       after = l.after;
       run = theorem a.image.now n a.state.now a.steps.now _ l.value
-              (λ k. (c.shared_slice_known-1.given k).fits);
+          (λ k. (c.shared_slice_known-1.given k).fits);
     }

@@ -8,5 +8,5 @@ pub sets-requires : goal.sets-requires
 sets-requires c = tt
 
 pub returns : goal.returns
-returns c =     let a = c.args in
+returns c = let a = c.args in
     c.sets.ensures ∙ ap (assigning a.c) (to_z-of_z c.ranges.value)

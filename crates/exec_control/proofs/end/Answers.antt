@@ -10,12 +10,12 @@ pub flows-requires : goal.flows-requires
 flows-requires c = tt
 
 pub returns-then-c-eq0 : goal.returns-then-c-eq0
-returns-then-c-eq0 c =     let a = c.args in
+returns-then-c-eq0 c = let a = c.args in
     c.flows.ensures ∙ ap (λ (t : Bool). flowing (cond t Restart End)) (sym (eq-eqb a.c.x 0 c.if-c-eq0.true))
 
 pub flows-requires-2 : goal.flows-requires-2
 flows-requires-2 c = tt
 
 pub returns : goal.returns
-returns c =     let a = c.args in
+returns c = let a = c.args in
     c.flows-2.ensures ∙ ap (λ (t : Bool). flowing (cond t Restart End)) (sym (ne_eqb a.c.x 0 c.if-c-eq0.false))

@@ -21,13 +21,13 @@ pub halts-requires : goal.halts-requires
 halts-requires c = tt
 
 pub returns-in-At : goal.returns-in-At
-returns-in-At c =     let found = c.find_landing in
+returns-in-At c = let found = c.find_landing in
     let x = c.content in
     landing_done (Start bias) c.args.landings.now (c.flows.ensures ∙ ap (on_to (Start bias)) (sym c.in-At.is)) found.ensures
     (got w32 x.type_inv x.ensures)
 
 pub returns-in-Nowhere : goal.returns-in-Nowhere
-returns-in-Nowhere c =     let found = c.find_landing in
+returns-in-Nowhere c = let found = c.find_landing in
     let x = c.content in
     landing_done (Start bias) c.args.landings.now (c.halts.ensures ∙ ap (on_to (Start bias)) (sym c.in-Nowhere.is)) found.ensures
     (got w32 x.type_inv x.ensures)

@@ -11,4 +11,4 @@ pub flows-requires : goal.flows-requires
 flows-requires c = tt
 
 pub returns : goal.returns
-returns c =     c.flows.ensures ∙ ap flowing c.waits.ensures
+returns c = c.flows.ensures ∙ ap flowing c.waits.ensures

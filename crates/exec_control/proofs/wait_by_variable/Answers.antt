@@ -31,7 +31,7 @@ pub flows-requires : goal.flows-requires
 flows-requires c = tt
 
 pub returns-then-context-is_time : goal.returns-then-context-is_time
-returns-then-context-is_time c =     let a = c.args in
+returns-then-context-is_time c = let a = c.args in
     let g = a.context in
     let x = c.content-content in
     let e = got w32 x.type_inv x.ensures in
@@ -48,7 +48,7 @@ pub halts-requires : goal.halts-requires
 halts-requires c = tt
 
 pub returns : goal.returns
-returns c =     let a = c.args in
+returns c = let a = c.args in
     let g = a.context in
     let x = c.content-content in
     let e = got w32 x.type_inv x.ensures in

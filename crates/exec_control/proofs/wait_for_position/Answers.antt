@@ -9,10 +9,10 @@ pub flows-requires : goal.flows-requires
 flows-requires c = tt
 
 pub returns-then-context-notes : goal.returns-then-context-notes
-returns-then-context-notes c =     c.flows.ensures ∙ ap (λ (t : Bool). flowing (cond t GoOn (Stay 0 0))) (sym c.if-context-notes.true)
+returns-then-context-notes c = c.flows.ensures ∙ ap (λ (t : Bool). flowing (cond t GoOn (Stay 0 0))) (sym c.if-context-notes.true)
 
 pub flows-requires-2 : goal.flows-requires-2
 flows-requires-2 c = tt
 
 pub returns : goal.returns
-returns c =     c.flows-2.ensures ∙ ap (λ (t : Bool). flowing (cond t GoOn (Stay 0 0))) (sym c.if-context-notes.false)
+returns c = c.flows-2.ensures ∙ ap (λ (t : Bool). flowing (cond t GoOn (Stay 0 0))) (sym c.if-context-notes.false)

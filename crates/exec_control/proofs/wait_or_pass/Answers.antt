@@ -8,9 +8,9 @@ pub is_due-requires : goal.is_due-requires
 is_due-requires c = tt
 
 pub returns-then-is_due : goal.returns-then-is_due
-returns-then-is_due c =     let a = c.args in
+returns-then-is_due c = let a = c.args in
     ap (λ (t : Bool). cond t GoOn (Stay a.time a.turns)) (sym c.if-is_due.true ∙ c.is_due.ensures)
 
 pub returns : goal.returns
-returns c =     let a = c.args in
+returns c = let a = c.args in
     ap (λ (t : Bool). cond t GoOn (Stay a.time a.turns)) (sym c.if-is_due.false ∙ c.is_due.ensures)

@@ -8,7 +8,7 @@ pub wait_or_pass-requires : goal.wait_or_pass-requires
 wait_or_pass-requires c = tt
 
 pub returns-then-context-eq0 : goal.returns-then-context-eq0
-returns-then-context-eq0 c =     let a = c.args in
+returns-then-context-eq0 c = let a = c.args in
     c.wait_or_pass.ensures ∙ waits_first a.time a.context c.if-context-eq0.true
 
 pub overflow_add-context : goal.overflow_add-context
@@ -18,5 +18,5 @@ pub wait_or_pass-requires-2 : goal.wait_or_pass-requires-2
 wait_or_pass-requires-2 c = tt
 
 pub returns : goal.returns
-returns c =     let a = c.args in
+returns c = let a = c.args in
     c.wait_or_pass-2.ensures ∙ waits_later a.time a.context c.if-context-eq0.false

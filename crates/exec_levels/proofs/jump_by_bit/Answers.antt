@@ -20,9 +20,9 @@ jump_if-requires c = tt
 
 pub returns : goal.returns
 returns c = rw (
-      c.jump_if.ensures,
-      c.compares.ensures,
-      c.bit-b.ensures,
-      c.bit.ensures,
-      got w32 c.content.type_inv c.content.ensures,
-    )
+  c.jump_if.ensures,
+  c.compares.ensures,
+  c.bit-b.ensures,
+  c.bit.ensures,
+  got w32 c.content.type_inv c.content.ensures,
+)

@@ -21,10 +21,10 @@ sets-requires c = tt
 
 pub returns : goal.returns
 returns c = rw (
-      c.sets.ensures,
-      c.bit.ensures,
-      c.is_set-z.ensures,
-      c.level_of-2.ensures,
-      c.is_set-y.ensures,
-      c.level_of.ensures,
-    )
+  c.sets.ensures,
+  c.bit.ensures,
+  c.is_set-z.ensures,
+  c.level_of-2.ensures,
+  c.is_set-y.ensures,
+  c.level_of.ensures,
+)

@@ -13,7 +13,7 @@ pub asks-requires : goal.asks-requires
 asks-requires c = tt
 
 pub returns-then-started : goal.returns-then-started
-returns-then-started c =     let a = c.args in
+returns-then-started c = let a = c.args in
     c.asks.ensures ∙ ap (λ (t : Bool). cond t (asking (Mark 0) a.request) (flowing (Stay 0 0)))
     (sym c.if-started.true ∙ c.started.ensures)
 
@@ -21,6 +21,6 @@ pub flows-requires : goal.flows-requires
 flows-requires c = tt
 
 pub returns : goal.returns
-returns c =     let a = c.args in
+returns c = let a = c.args in
     c.flows.ensures ∙ ap (λ (t : Bool). cond t (asking (Mark 0) a.request) (flowing (Stay 0 0)))
     (sym c.if-started.false ∙ c.started.ensures)

@@ -41,7 +41,7 @@ put-requires-in-Call c = tt
 pub return_from-requires : goal.return_from-requires
 return_from-requires c =
     let d = subst (DepthAllows c.args.task.depth) c.in-Return.is c.requires.depth_allows in
-    record { depth_nonzero = d.0; depth_in_range = omega arith; }
+    record { depth_nonzero = d.0; depth_in_range = omega arith }
 
 pub put-requires-in-Return : goal.put-requires-in-Return
 put-requires-in-Return c = tt

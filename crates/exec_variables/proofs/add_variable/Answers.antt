@@ -17,8 +17,8 @@ assigns-requires c = tt
 
 pub returns : goal.returns
 returns c = rw (
-      c.assigns.ensures,
-      got w32 c.add.type_inv c.add.ensures,
-      got w32 c.content-2.type_inv c.content-2.ensures,
-      got w32 c.content.type_inv c.content.ensures,
-    )
+  c.assigns.ensures,
+  got w32 c.add.type_inv c.add.ensures,
+  got w32 c.content-2.type_inv c.content-2.ensures,
+  got w32 c.content.type_inv c.content.ensures,
+)

@@ -17,8 +17,8 @@ divide-requires c = tt
 
 pub returns : goal.returns
 returns c = rw (
-      c.divide.ensures,
-      c.div.ensures,
-      got w32 c.content-2.type_inv c.content-2.ensures,
-      got w32 c.content.type_inv c.content.ensures,
-    )
+  c.divide.ensures,
+  c.div.ensures,
+  got w32 c.content-2.type_inv c.content-2.ensures,
+  got w32 c.content.type_inv c.content.ensures,
+)

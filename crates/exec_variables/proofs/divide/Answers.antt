@@ -11,11 +11,11 @@ pub halts-requires : goal.halts-requires
 halts-requires c = tt
 
 pub returns-in-Value : goal.returns-in-Value
-returns-in-Value c =     let a = c.args in
+returns-in-Value c = let a = c.args in
     c.assigns.ensures
     ∙ ap (assigning a.c) (got w32 c.in-Value.known_told-1-own.given.0.1 refl)
     ∙ ap (dividing a.c) (sym c.in-Value.is)
 
 pub returns-in-ByZero : goal.returns-in-ByZero
-returns-in-ByZero c =     let a = c.args in
+returns-in-ByZero c = let a = c.args in
     c.halts.ensures ∙ ap (dividing a.c) (sym c.in-ByZero.is)

@@ -19,7 +19,7 @@ assigns-requires c = tt
 
 pub returns : goal.returns
 unfolding wrap
-returns c =     let a = c.args in
+returns c = let a = c.args in
     let o = c.value in
     c.assigns.ensures
     ∙ ap (assigning a.c)

@@ -14,8 +14,8 @@ jump_if-requires c = tt
 
 pub returns : goal.returns
 returns c = rw (
-      c.jump_if.ensures,
-      c.compare.ensures,
-      got w32 {x = c.args.c.value} c.struct_told-1.given.1.1.1.1.1.0.1 refl,
-      got w32 c.content.type_inv c.content.ensures,
-    )
+  c.jump_if.ensures,
+  c.compare.ensures,
+  got w32 {x = c.args.c.value} c.struct_told-1.given.1.1.1.1.1.0.1 refl,
+  got w32 c.content.type_inv c.content.ensures,
+)

@@ -17,8 +17,8 @@ jump_if-requires c = tt
 
 pub returns : goal.returns
 returns c = rw (
-      c.jump_if.ensures,
-      c.compare.ensures,
-      got w32 c.content-2.type_inv c.content-2.ensures,
-      got w32 c.content.type_inv c.content.ensures,
-    )
+  c.jump_if.ensures,
+  c.compare.ensures,
+  got w32 c.content-2.type_inv c.content-2.ensures,
+  got w32 c.content.type_inv c.content.ensures,
+)

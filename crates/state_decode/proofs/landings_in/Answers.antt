@@ -41,7 +41,7 @@ pub loop-k-smaller : goal.loop-k-smaller
 loop-k-smaller c = omega arith
 
 pub loop-k-preserved : goal.loop-k-preserved
-loop-k-preserved c =     let v = c.loop-k in
+loop-k-preserved c = let v = c.loop-k in
     (omega arith, read_more c.args.b.now v.r v.k _ (omega (arith, c.requires.count_in_range)) v.invariant.1 c.word.ensures)
 
 pub returns : goal.returns

@@ -11,11 +11,11 @@ loop-k-init c = (search rules, puts_none _ _ c.args.levels.now)
 
 pub bounds-b-at : goal.bounds-b-at
 bounds-b-at c = let l = c.loop-k in omega (
-      arith,
-      puts_long l.b c.args.b.now c.args.at _
-          l.invariant.1,
-      c.requires,
-    )
+  arith,
+  puts_long l.b c.args.b.now c.args.at _
+      l.invariant.1,
+  c.requires,
+)
 
 pub loop-k-preserved : goal.loop-k-preserved
 loop-k-preserved c =

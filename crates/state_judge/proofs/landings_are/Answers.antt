@@ -30,5 +30,5 @@ loop-i-preserved c =
     c.word-block.ensures c.landing_fits-pass.ensures
 
 pub returns : goal.returns
-returns c =     let v = c.loop-i in
+returns c = let v = c.loop-i in
     judged_all c.args.b.now c.args.header v.pass _ v.i v.invariant (omega arith)

@@ -6,14 +6,14 @@ use Rattle.state_judge.proofs.state_is.Goals as goal
 pub returns : goal.returns
 unfolding state_is decoded
 returns c = rw (
-      c.task_is-3.ensures,
-      c.mathematics_in.ensures,
-      c.task_is-2.ensures,
-      c.plc_in.ensures,
-      c.task_is.ensures,
-      c.bias_in.ensures,
-      c.values_are.ensures,
-      c.landings_are.ensures,
-      c.accepts.ensures,
-      c.header_in-header.ensures,
-    )
+  c.task_is-3.ensures,
+  c.mathematics_in.ensures,
+  c.task_is-2.ensures,
+  c.plc_in.ensures,
+  c.task_is.ensures,
+  c.bias_in.ensures,
+  c.values_are.ensures,
+  c.landings_are.ensures,
+  c.accepts.ensures,
+  c.header_in-header.ensures,
+)

@@ -14,7 +14,7 @@ fault-requires c = rw c.instruction_at-i.ensures (row_at _ _)
 
 pub returns : goal.returns
 unfolding fault_at
-returns c =     let a = c.args in
+returns c = let a = c.args in
     c.fault.ensures
     ∙ ap (λ (k : Command). fault_of (by_header a.header) k a.p)
     (ap (λ (i : Instruction). i.command) c.instruction_at-i.ensures ∙ command_is a.blocks.now a.p.block)

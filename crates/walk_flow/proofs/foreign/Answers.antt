@@ -14,5 +14,5 @@ returns-then-mode-eq0 c = rw c.if-mode-eq0.true (simp and-false)
 
 pub returns : goal.returns
 unfolding foreign
-returns c =     let ends = c.is_ending in
+returns c = let ends = c.is_ending in
     rw (← c.requires, ← ends.ensures, c.if-not-is_ending.false) (simp (ne_eqb _ _ c.if-mode-eq0.false))

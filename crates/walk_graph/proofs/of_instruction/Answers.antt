@@ -9,7 +9,7 @@ returns-then-foreign c = c.foreign-then-foreign.ensures ∙ rw (sym c.foreign.en
 
 pub returns-then-not-permitted : goal.returns-then-not-permitted
 unfolding command_onward
-returns-then-not-permitted c =     c.nowhere.ensures
+returns-then-not-permitted c = c.nowhere.ensures
     ∙ rw (
       sym c.foreign.ensures ∙ c.if-foreign.false,
       sym c.permitted.ensures ∙ c.if-not-permitted.true,
@@ -17,7 +17,7 @@ returns-then-not-permitted c =     c.nowhere.ensures
 
 pub returns : goal.returns
 unfolding command_onward
-returns c =     c.of_flow.ensures
+returns c = c.of_flow.ensures
     ∙ rw (
       sym c.foreign.ensures ∙ c.if-foreign.false,
       sym c.permitted.ensures ∙ c.if-not-permitted.false,

@@ -49,7 +49,7 @@ bounds-marks-entry-2 c =
     simp length-set (omega (arith, c.requires.entry c.if-s-eq0.false e))
 
 pub overflow_add-result : goal.overflow_add-result
-overflow_add-result c =     let e = sym (same c.args.marks.now c.args.q c.args.s) ∙ c.if-marks-at.false in
+overflow_add-result c = let e = sym (same c.args.marks.now c.args.q c.args.s) ∙ c.if-marks-at.false in
     omega (arith, c.requires.entry c.if-s-eq0.false e, c.requires.few)
 
 pub returns : goal.returns

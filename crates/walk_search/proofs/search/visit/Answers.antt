@@ -55,7 +55,7 @@ land-pending-requires c =
       count_in_range = omega (arith, c.requires.good_header.landings, most_of_lem h.format);
       landings_len = c.requires.good_landings.long;
       room_each = landing_room _ _ (good_bounds _ _ c.requires.good_header c.requires.good_landings) _ _ _ c.requires.going c.requires.pending_nonzero _ _ c.read_u16-p.ensures
-            (c.onward_of-o.ensures ∙ onward_by_header (under h c.args.landings.now) _ _ _ _) _ _ c.touch-n.ensures c.touch-m.ensures;
+          (c.onward_of-o.ensures ∙ onward_by_header (under h c.args.landings.now) _ _ _ _) _ _ c.touch-n.ensures c.touch-m.ensures;
     }
 
 pub least_bad-requires : goal.least_bad-requires
