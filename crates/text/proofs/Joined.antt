@@ -6,7 +6,7 @@ use native.Mathlib.Omega.{arith}
 use lib.ListN.{length, take, drop, length-append, length-take, length-drop, drop_of_length-le, take-append-drop}
 use lib.Seq.{take_all, take-length, take_at, take-append-le, drop-append-add, drop-drop, length-take-le}
 use borrow.Rule.Slice.PartMut.{mid_of, put_mid}
-use Rattle.io.specs.Counts.{IsPrefixLen}
+use Rattle.text_hex.specs.Counts.{IsPrefixLen}
 use Rattle.logic.proofs.Choice.{by}
 use Rattle.text.specs.Put.{put_at, end_after, Put}
 
