@@ -29,17 +29,17 @@ use num_arith::Quotient;
 use std::io;
 
 fn main(rt: HostRuntime) -> io::Result<()> {
-    arith_rows();
-    bytes_rows();
-    number_rows();
-    case_rows();
-    range_rows();
-    landing_rows();
-    block_rows();
-    write_rows();
-    landing_write_rows();
-    room_rows();
-    pin_rows();
+    arith_rows(&rt)?;
+    bytes_rows(&rt)?;
+    number_rows(&rt)?;
+    case_rows(&rt)?;
+    range_rows(&rt)?;
+    landing_rows(&rt)?;
+    block_rows(&rt)?;
+    write_rows(&rt)?;
+    landing_write_rows(&rt)?;
+    room_rows(&rt)?;
+    pin_rows(&rt)?;
     Ok(())
 }
 
