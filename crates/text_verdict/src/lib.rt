@@ -3,7 +3,7 @@
 
 ghost use Rattle.std.specs.Prelude.{◌≡◌, ◌≤◌, length, IfOk};
 ghost use Rattle.limits.specs.Limits.{marks_length};
-ghost use Rattle.text_hex.specs.Counts.{IsPrefixLen};
+ghost use Rattle.std.specs.Counts.{IsPrefixLen};
 ghost use Rattle.walk.specs.Verdict.{verdict_of};
 ghost use Rattle.text.specs.Put.{Put};
 ghost use Rattle.text_verdict.specs.Input.{input_length, zeros};
