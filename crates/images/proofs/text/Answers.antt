@@ -3,6 +3,9 @@ use Rattle.std.proofs.Common.{refl}
 use Rattle.text_verdict.specs.Input.{zeros}
 use Rattle.images.proofs.text.Goals as goal
 
+pub returns-clause-len : goal.returns-clause-len
+returns-clause-len c = refl
+
 pub returns-clause-value : goal.returns-clause-value
 unfolding zeros
 returns-clause-value c = refl
