@@ -14,14 +14,14 @@ loop-i-preserved g c =
     let v = c.loop-i in
     let text = c.args.text.now in
     elim c.if-text-i-eq-LINE_END.branch [
-      then-text-i-eq-LINE_END+in_ok-row w ↦
+      | then-text-i-eq-LINE_END+in_ok-row w ↦
           record {
             begins = omega arith;
             within = omega arith;
             few = omega arith;
             counted = w.n-is ∙ ap (λ (k : ℕ). k + 1) v.invariant.counted ∙ sym (ends text v.i w.if-text-i-eq-LINE_END.true);
           }
-    | else-text-i-eq-LINE_END w ↦
+      | else-text-i-eq-LINE_END w ↦
           record {
             begins = omega arith;
             within = omega arith;

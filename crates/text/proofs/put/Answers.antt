@@ -1,5 +1,5 @@
 -- Nothing is put where the buffer is full, else the word, or so much of it as there is room for.
-use Rattle.std.proofs.Common.{rules, arith}
+use Rattle.std.proofs.Common.{arith}
 use Rattle.text.proofs.Joined.{full, copied_cut, copied_whole}
 use Rattle.text.proofs.put.Goals as goal
 

@@ -1,5 +1,5 @@
 -- The byte of digits 2 i and 2 i + 1 is put behind the first i.
-use Rattle.std.proofs.Common.{◌++◌, ◌∙◌, refl, ap, length, drop, List, ℕ, arith}
+use Rattle.std.proofs.Common.{◌∙◌, refl, ap, List, ℕ, arith}
 use Rattle.std.proofs.Math.ListN.{set, length-set}
 use Rattle.text_hex.specs.Hex.{hex_bytes}
 use Rattle.text_hex.proofs.Bytes.{one_more}

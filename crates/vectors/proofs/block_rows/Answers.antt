@@ -7,4 +7,4 @@ use Rattle.vectors.proofs.block_rows.Goals as goal
 pub returns : goal.returns
 returns g c =
     (c.in_ok-block_row.ensures ◂ c.in_ok-block_row-2.ensures ◂ c.in_ok-block_row-3.ensures ◂ c.in_ok-block_row-4.ensures ◂
-        c.in_ok-block_row-5.ensures ◂ c.in_ok-block_row-6.ensures ◂ refl) ∙ known
+    c.in_ok-block_row-5.ensures ◂ c.in_ok-block_row-6.ensures ◂ refl) ∙ known
