@@ -26,16 +26,10 @@ const TEXT_LENGTH: usize = 65536;
 const STEPS_LENGTH: usize = 4096;
 
 fn main(rt: HostRuntime) -> io::Result<()> {
-    let mut space = text();
+    let mut space = [0u8; TEXT_LENGTH];
     let n = text_input::read_full(&mut rt.stdin(), &mut space)?;
     examples(&rt, &space[..n])?;
     Ok(())
-}
-
-fn text() -> [u8; TEXT_LENGTH]
-    ensures { 65536 ≡ length result }
-{
-    [0; TEXT_LENGTH]
 }
 
 // An example for each line; gives how many. An error is the printing's.

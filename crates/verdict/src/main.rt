@@ -18,7 +18,15 @@ pub enum Purpose {
 
 // What an input has past the room for an image is left unread: the verdict is the same without it (crates/text_verdict/proofs/Beginning.antt).
 fn main(rt: HostRuntime) -> io::Result<()> {
-    match purpose_of(argument_count(&rt)) {
+    // the program's own name among them; none of them is kept
+    let mut arguments = 0;
+    for i in 0..usize::MAX {
+        if let Err(FillError::NotPresent) = rt.arg(i, &mut []) {
+            break;
+        }
+        arguments = i + 1;
+    }
+    match purpose_of(arguments) {
         Purpose::Judge => {
             let mut image = text_verdict::input();
             let n = text_input::read_full(&mut rt.stdin(), &mut image)?;
@@ -31,16 +39,6 @@ fn main(rt: HostRuntime) -> io::Result<()> {
         }
     }
     Ok(())
-}
-
-// How many arguments the program was given, its own name among them. None of them is kept.
-fn argument_count(rt: &impl Env) -> usize {
-    for i in 0..usize::MAX {
-        if let Err(FillError::NotPresent) = rt.arg(i, &mut []) {
-            return i;
-        }
-    }
-    usize::MAX
 }
 
 // What so many arguments ask for, the program's own name among them.
