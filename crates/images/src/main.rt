@@ -3,7 +3,7 @@
 // from a second reading of the papers (host/reference/judge_images.rs prints them).
 #![tactic(auto)]
 
-ghost use Rattle.std.specs.Prelude.{◌≡◌, ◌+◌, ◌*◌, ◌%◌, ◌<◌, length};
+ghost use Rattle.std.specs.Prelude.{◌≡◌, ◌+◌, ◌*◌, ◌%◌, ◌<◌, length, IfOk};
 ghost use Rattle.limits.specs.Limits.{marks_length};
 ghost use Rattle.walk.specs.Verdict.{verdict_of, accepted_blocks};
 ghost use Rattle.text_hex.specs.Hex.{all_bytes};
@@ -11,7 +11,7 @@ ghost use Rattle.text_hex.specs.Lines.{lines_of};
 ghost use Rattle.text_verdict.specs.Input.{zeros};
 ghost use Rattle.images.specs.Part.{part_of};
 
-use libc::{STDIN_FILENO, STDOUT_FILENO};
+use std::io;
 use walk::Verdict;
 
 // Room for the whole input.
@@ -19,35 +19,36 @@ const TEXT_LENGTH: usize = 524288;
 
 const LINE_END: u8 = b'\n';
 
-fn main() {
+fn main(rt: HostRuntime) -> io::Result<()> {
     let mut space = text();
-    let n = io::read_full(STDIN_FILENO, &mut space);
-    rows(&space[..n]);
+    let n = text_input::read_full(&mut rt.stdin(), &mut space)?;
+    rows(&rt, &space[..n])?;
+    Ok(())
 }
 
 fn text() -> [u8; TEXT_LENGTH]
-    ensures value { 524288 ≡ length result }
-    ensures value_2 { result ≡ zeros 524288 }
+    ensures len { 524288 ≡ length result }
+    ensures value { result ≡ zeros 524288 }
 {
     [0; TEXT_LENGTH]
 }
 
-// A row for each line; gives how many.
-fn rows(text: &[u8]) -> usize
-    ensures { result ≡ lines_of text.now (length text.now) }
+// A row for each line; gives how many. An error is the printing's.
+fn rows<P: Print>(rt: &P, text: &[u8]) -> io::Result<usize>
+    ensures { IfOk result (λ count. count ≡ lines_of text.now (length text.now)) }
 {
     let mut from = 0;
     let mut n = 0;
     let mut i = 0;
     while i < text.len() {
         if text[i] == LINE_END {
-            row(&text[from..i]);
+            row(rt, &text[from..i])?;
             from = i + 1;
             n += 1;
         }
         i += 1;
     }
-    n
+    Ok(n)
 }
 
 // What is shown of an image.
@@ -64,17 +65,17 @@ pub struct Blocks {
     pub check: u64,
 }
 
-// Judges the image of a line, writes the line of its verdict and that of its blocks; gives what is shown.
-fn row(line: &[u8]) -> Shown
-    ensures verdict_value { result.verdict ≡ verdict_of (all_bytes line.now) marks_length }
-    ensures blocks_value { result.blocks ≡ part_of (accepted_blocks (all_bytes line.now) marks_length) }
+// Judges the image of a line, prints the line of its verdict and that of its blocks; gives what is shown.
+fn row<P: Print>(rt: &P, line: &[u8]) -> io::Result<Shown>
+    ensures verdict { IfOk result (λ shown. shown.verdict ≡ verdict_of (all_bytes line.now) marks_length) }
+    ensures blocks { IfOk result (λ shown. shown.blocks ≡ part_of (accepted_blocks (all_bytes line.now) marks_length)) }
 {
     let mut image = text_verdict::input();
     let n = text_hex::decode(line, &mut image);
-    let judged = text_verdict::judge(&image[..n]);
+    let judged = text_verdict::judge(rt, &image[..n])?;
     let verdict = judged.verdict;
-    let blocks = show_blocks(blocks_of(&image[..n]));
-    Shown { verdict, blocks }
+    let blocks = show_blocks(rt, blocks_of(&image[..n]))?;
+    Ok(Shown { verdict, blocks })
 }
 
 // The blocks of an image, none where it is refused.
@@ -106,14 +107,14 @@ fn next(check: u64, byte: u8) -> u64
     (257 * check + byte as u64) % 65521
 }
 
-// Writes the line of blocks, nothing where there are none; gives them back.
-fn show_blocks(b: Blocks) -> Blocks
-    ensures { result ≡ b }
+// Prints the line of blocks, nothing where there are none; gives them back.
+fn show_blocks<P: Print>(rt: &P, b: Blocks) -> io::Result<Blocks>
+    ensures { IfOk result (λ shown. shown ≡ b) }
 {
     if 0 < b.length {
-        text_print::show(b"blocks ", b.length as u64);
-        text_print::show(b" sum ", b.check);
-        io::write_all(STDOUT_FILENO, b"\n");
+        text_print::show(rt, b"blocks ", b.length as u64)?;
+        text_print::show(rt, b" sum ", b.check)?;
+        rt.write_all(b"\n")?;
     }
-    b
+    Ok(b)
 }

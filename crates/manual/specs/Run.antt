@@ -1,7 +1,7 @@
 -- What the program does with a line: an image, a space, and records, each of steps or of a byte to put.
-use Rattle.std.specs.Prelude.{ℕ, zero, suc, ◌+◌, ◌*◌, ◌/◌, min, cond, List, eqb, length, get_or, set, replicate, take, drop}
+use Rattle.std.specs.Prelude.{ℕ, zero, suc, ◌+◌, ◌*◌, ◌/◌, min, cond, List, eqb, length, get_or, set, replicate, take, drop, ◌==◌}
+use Rattle.std.specs.List.{position_or_len}
 use Rattle.limits.specs.Limits.{cells, marks_length, state_length}
-use Rattle.bytes.specs.Bytes.{index_of}
 use Rattle.num_le.specs.LittleEndian.{le_bytes}
 use Rattle.state_bytes.specs.Bytes.{le_number_at, puts}
 use Rattle.machine.specs.Inputs.{Inputs, inputs_of}
@@ -52,7 +52,7 @@ after_example image steps b = after_load image steps (load image marks_length b)
 
 -- where its space stands, or its end
 unfoldable pub space_of : List ℕ → ℕ
-space_of line = index_of 32 line
+space_of line = position_or_len (λ (b : ℕ). b == 32) line
 
 unfoldable pub behind : List ℕ → ℕ → List ℕ
 behind line k = drop (k + 1) line

@@ -2,15 +2,15 @@
 // held to the file stdout, which comes from other readings of the papers and not from this code; docs/EXAMPLES.md says which, and names the examples.
 #![tactic(auto)]
 
-ghost use Rattle.std.specs.Prelude.{◌≡◌, ◌+◌, ◌/◌, ◌≤◌, length, set};
+ghost use Rattle.std.specs.Prelude.{◌≡◌, ◌+◌, ◌/◌, ◌≤◌, length, set, IfOk, OnOk};
 ghost use Rattle.limits.specs.Limits.{state_length};
 ghost use Rattle.text_hex.specs.Lines.{lines_of};
 ghost use Rattle.machine.specs.Inputs.{inputs_of};
 ghost use Rattle.bias.specs.Step.{stepped};
 ghost use Rattle.manual.specs.Run.{record_length, levels_at, repeated, with_byte, recorded, after, after_example, space_of, behind, example};
 
-use libc::{STDIN_FILENO, STDOUT_FILENO};
 use limits::{CELLS, STATE_LENGTH};
+use std::io;
 
 const LINE_END: u8 = b'\n';
 
@@ -20,44 +20,50 @@ const SPACE: u8 = b' ';
 // the state buffer instead: its place, low byte first, and the byte. So examples can show 16 and 17, which no run from a load meets.
 const RECORD_LENGTH: usize = 9;
 
-fn main() {
-    let mut space = io::large_buffer();
-    let n = io::read_full(STDIN_FILENO, &mut space);
-    examples(&space[..n]);
+// Room for the whole input, and for the steps of an example.
+const TEXT_LENGTH: usize = 65536;
+
+const STEPS_LENGTH: usize = 4096;
+
+fn main(rt: HostRuntime) -> io::Result<()> {
+    let mut space = [0u8; TEXT_LENGTH];
+    let n = text_input::read_full(&mut rt.stdin(), &mut space)?;
+    examples(&rt, &space[..n])?;
+    Ok(())
 }
 
-// An example for each line; gives how many.
-fn examples(text: &[u8]) -> usize
-    ensures { result ≡ lines_of text.now (length text.now) }
+// An example for each line; gives how many. An error is the printing's.
+fn examples<P: Print>(rt: &P, text: &[u8]) -> io::Result<usize>
+    ensures { IfOk result (λ count. count ≡ lines_of text.now (length text.now)) }
 {
     let mut from = 0;
     let mut n = 0;
     let mut i = 0;
     while i < text.len() {
         if text[i] == LINE_END {
-            text_print::show(b"example ", n as u64 + 1);
-            example(&text[from..i]);
+            text_print::show(rt, b"example ", n as u64 + 1)?;
+            example(rt, &text[from..i])?;
             from = i + 1;
             n += 1;
         }
         i += 1;
     }
-    n
+    Ok(n)
 }
 
 // Runs the image and the steps of a line: digits, a space, digits. Gives the state buffer at the end.
-fn example(line: &[u8]) -> [u8; STATE_LENGTH]
-    ensures { result ≡ example line.now }
+fn example<P: Print>(rt: &P, line: &[u8]) -> io::Result<[u8; STATE_LENGTH]>
+    ensures { IfOk result (λ state. state ≡ example line.now) }
 {
-    io::write_all(STDOUT_FILENO, b"\n");
+    rt.write_all(b"\n")?;
     let mut image = text_verdict::input();
-    let mut steps = io::buffer();
+    let mut steps = [0u8; STEPS_LENGTH];
     let k = space_of(line);
     let n = text_hex::decode(&line[..k], &mut image);
     let m = text_hex::decode(behind(line, k), &mut steps);
     let mut state = [0u8; STATE_LENGTH];
-    run(&image[..n], &steps[..m], &mut state);
-    state
+    run(rt, &image[..n], &steps[..m], &mut state)?;
+    Ok(state)
 }
 
 // Where the space stands, or the end.
@@ -65,7 +71,9 @@ fn space_of(line: &[u8]) -> usize
     ensures value { result ≡ space_of line.now }
     ensures upper_bound { result ≤ length line.now }
 {
-    bytes::scan::find(line, 0, line.len(), SPACE)
+    line.iter()
+        .position(|byte| *byte == SPACE)
+        .unwrap_or(line.len())
 }
 
 // What stands behind a place.
@@ -79,43 +87,51 @@ fn behind(line: &[u8], k: usize) -> &[u8]
 }
 
 // Loads an image and carries out the steps, if it is accepted.
-fn run(image: &[u8], steps: &[u8], state: &mut [u8])
+fn run<P: Print>(rt: &P, image: &[u8], steps: &[u8], state: &mut [u8]) -> io::Result<()>
     requires { length state.old ≡ state_length }
-    ensures { state.new ≡ after_example image.now steps.now state.old }
+    ensures { OnOk result (state.new ≡ after_example image.now steps.now state.old) }
 {
     let mut marks = text_verdict::marks();
     let v = bias::bias_load(image, &mut marks, state);
-    if text_step::show_load(v) != 0 {
-        return;
+    if text_step::show_load(rt, v)? != 0 {
+        return Ok(());
     }
-    run_records(image, steps, state);
+    run_records(rt, image, steps, state)
 }
 
 // The records of steps, one after the other.
-fn run_records(image: &[u8], steps: &[u8], state: &mut [u8])
+fn run_records<P: Print>(rt: &P, image: &[u8], steps: &[u8], state: &mut [u8]) -> io::Result<()>
     requires { length state.old ≡ state_length }
-    ensures { state.new ≡ after image.now steps.now (length steps.now / record_length) state.old }
+    ensures { OnOk result (state.new ≡ after image.now steps.now (length steps.now / record_length) state.old) }
 {
     let n = steps.len() / RECORD_LENGTH;
     let mut k = 0;
     while k < n {
-        run_record(image, steps, RECORD_LENGTH * k, state);
+        run_record(rt, image, steps, RECORD_LENGTH * k, state)?;
         k += 1;
     }
+    Ok(())
 }
 
 // The record at a place: its steps, or the byte that it puts.
-fn run_record(image: &[u8], steps: &[u8], at: usize, state: &mut [u8])
+fn run_record<P: Print>(
+    rt: &P,
+    image: &[u8],
+    steps: &[u8],
+    at: usize,
+    state: &mut [u8],
+) -> io::Result<()>
     requires state_len { length state.old ≡ state_length }
-    requires record_length_in_bounds { at + record_length ≤ length steps.now }
-    ensures { state.new ≡ recorded image.now steps.now at state.old }
+    requires record_in_bounds { at + record_length ≤ length steps.now }
+    ensures { OnOk result (state.new ≡ recorded image.now steps.now at state.old) }
 {
     if steps[at] == 0 {
         put_byte(steps, at, state);
-        return;
+        return Ok(());
     }
     let inputs = levels(steps, at);
     repeat(
+        rt,
         image,
         steps[at] as usize,
         steps[at + 1] as u32,
@@ -124,13 +140,13 @@ fn run_record(image: &[u8], steps: &[u8], at: usize, state: &mut [u8])
         steps[at + 3],
         steps[at + 4],
         state,
-    );
+    )
 }
 
 // The byte of the record at a place, put into the state buffer; none is put past its end.
 fn put_byte(steps: &[u8], at: usize, state: &mut [u8])
     requires state_len { length state.old ≡ state_length }
-    requires record_length_in_bounds { at + record_length ≤ length steps.now }
+    requires record_in_bounds { at + record_length ≤ length steps.now }
     ensures { state.new ≡ with_byte steps.now at state.old }
 {
     let low = steps[at + 1];
@@ -164,7 +180,8 @@ fn with_high(mut levels: [u8; CELLS], pin: u8) -> [u8; CELLS]
 }
 
 // The same step, n times.
-fn repeat(
+fn repeat<P: Print>(
+    rt: &P,
     image: &[u8],
     n: usize,
     task: u32,
@@ -173,20 +190,22 @@ fn repeat(
     ramp_ended: u8,
     in_window: u8,
     state: &mut [u8],
-)
+) -> io::Result<()>
     requires { length state.old ≡ state_length }
-    ensures { state.new
-        ≡ repeated image.now (inputs_of task inputs.now start ramp_ended in_window) n state.old }
+    ensures { OnOk result
+        (state.new ≡ repeated image.now (inputs_of task inputs.now start ramp_ended in_window) n state.old) }
 {
     let mut i = 0;
     while i < n {
-        step(image, task, inputs, start, ramp_ended, in_window, state);
+        step(rt, image, task, inputs, start, ramp_ended, in_window, state)?;
         i += 1;
     }
+    Ok(())
 }
 
 // One step and its line.
-fn step(
+fn step<P: Print>(
+    rt: &P,
     image: &[u8],
     task: u32,
     inputs: &[u8],
@@ -194,7 +213,7 @@ fn step(
     ramp_ended: u8,
     in_window: u8,
     state: &mut [u8],
-)
+) -> io::Result<()>
     requires { length state.old ≡ state_length }
     ensures { state.new
         ≡ (stepped image.now state.old (inputs_of task inputs.now start ramp_ended in_window)).buffer }
@@ -202,5 +221,6 @@ fn step(
     let a = state_copy::copy_in(state);
     let r = bias::bias_step(image, state, task, inputs, start, ramp_ended, in_window);
     let b = state_copy::copy_in(state);
-    text_step::show_step(image, &a, &b, task, r);
+    text_step::show_step(rt, image, &a, &b, task, r)?;
+    Ok(())
 }

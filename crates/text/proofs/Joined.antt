@@ -1,12 +1,12 @@
 -- Words put one behind the other are one word put, so a line is put word by word; and where there is room, the text stands whole at the front.
 use mathlib.Core.Path.{◌≡◌, refl, sym, ap, ◌∙◌}
-use mathlib.Core.List.{List, [], ◌++◌, append-nil, append_assoc}
+use mathlib.Core.List.{List, [], ◌++◌, append_assoc}
 use Prim.Native.Nat.{ℕ, ◌+◌, ◌-◌, ◌≤◌, min}
 use native.Mathlib.Omega.{arith}
-use lib.ListN.{length, take, drop, length-append, length-take, length-drop, drop_of_length-le, take-append-drop}
-use lib.Seq.{take_all, take-length, take_at, take-append-le, drop-append-add, drop-drop, length-take-le}
-use borrow.Rule.Slice.PartMut.{mid_of, put_mid}
-use Rattle.io.specs.Counts.{IsPrefixLen}
+use lib.ListN.{length, take, drop, length-append, length-take, length-drop, take-append-drop}
+use lib.Seq.{take_all, take_at, take-append-le, drop-append-add, drop-drop, length-take-le}
+use borrow.Rule.Slice.PartMut.{put_mid}
+use Rattle.std.specs.Counts.{IsPrefixLen}
 use Rattle.logic.proofs.Choice.{by}
 use Rattle.text.specs.Put.{put_at, end_after, Put}
 
@@ -119,12 +119,9 @@ full out at word h = record {
   holds = sym (rw (take_all at out h) (take-append-le (length out) out _ (omega arith) ∙ take_all (length out) out (omega arith)));
 }
 
--- `bytes::copy` of s into the part of d from index a on, where there is room
-copied : (d s x : List ℕ) (a : ℕ) → a + length s ≤ length d → x ≡ take (length s) s ++ drop (length s) (mid_of a (length d - a) d)
-    → put_mid a (length d - a) d x ≡ put_at d a s
-copied d s x a h e =
-    let long : length (drop a d) ≤ length d - a = omega (arith, length-drop a d) in
-    rw (e, whole d a s h, take-length, take_all (length d - a) (drop a d) long, drop_of_length-le (drop a d) long, append-nil, drop-drop)
+-- s copied over the k bytes of d from index a on, where it is as long as they are
+copied : (d s x : List ℕ) (a k : ℕ) → a + length s ≤ length d → k ≡ length s → x ≡ s → put_mid a k d x ≡ put_at d a s
+copied d s x a k h q e = rw (e, q, whole d a s h, drop-drop)
 
 -- so much of a word as there is room for
 kept : (d s : List ℕ) (a n : ℕ) → a ≤ length d → n ≡ length d - a → n ≤ length s → put_at d a (take n s) ≡ put_at d a s
@@ -136,22 +133,20 @@ kept d s a n h q l =
     ∙ ap (λ (x : List ℕ). take (length d) (take a d ++ x)) (sym (append_assoc (take n s) (drop n s) _)
     ∙ ap (λ (x : List ℕ). x ++ drop (a + length s) d) (take-append-drop n s))
 
-pub copied_whole : (d s x : List ℕ) (a : ℕ) → a + length s ≤ length d → x ≡ take (length s) s ++ drop (length s) (mid_of a (length d - a) d)
-    → Put d a s (a + length s) (put_mid a (length d - a) d x)
+pub copied_whole : (d s x : List ℕ) (a k : ℕ) → a + length s ≤ length d → k ≡ length s → x ≡ s → Put d a s (a + length s) (put_mid a k d x)
 unfolding end_after
-copied_whole d s x a h e =
-    let is = copied d s x a h e in
+copied_whole d s x a k h q e =
+    let is = copied d s x a k h q e in
     let n : a + length s ≡ end_after (length d) a s = omega arith in
     record { ends = n; counts = rw (is, n) (counts d a s); holds = is }
 
 -- the same of the beginning of a word that fills the buffer
-pub copied_cut : (d s x : List ℕ) (a : ℕ) → a ≤ length d → length d - a ≤ length s
-    → x ≡ take (length (take (length d - a) s)) (take (length d - a) s) ++ drop (length (take (length d - a) s)) (mid_of a (length d - a) d)
+pub copied_cut : (d s x : List ℕ) (a : ℕ) → a ≤ length d → length d - a ≤ length s → x ≡ take (length d - a) s
     → Put d a s (length (put_mid a (length d - a) d x)) (put_mid a (length d - a) d x)
 unfolding end_after
 copied_cut d s x a h l e =
     let m = length-take-le (length d - a) s l in
-    let is = copied d (take (length d - a) s) x a (omega arith) e ∙ kept d s a (length d - a) h refl l in
+    let is = copied d (take (length d - a) s) x a (length d - a) (omega arith) (sym m) e ∙ kept d s a (length d - a) h refl l in
     let n : length (put_at d a s) ≡ end_after (length d) a s = omega (arith, put_length d a s) in
     let c = counts d a s in
     record { ends = ap length is ∙ n; counts = rw is (rw (← n) at c); holds = is }

@@ -3,7 +3,7 @@
 use mathlib.Core.Path.{◌≡◌, refl, sym, ap, ◌∙◌}
 use mathlib.Core.List.{List, [], ◌∷◌, ◌++◌}
 use Prim.Native.Nat.{ℕ, zero, suc, ◌+◌, ◌*◌, ◌-◌, ◌/◌, ◌%◌, ◌^◌, ◌<◌, ◌≤◌}
-use native.Mathlib.Nat.{pow-suc, one-le-pow}
+use native.Mathlib.Nat.{pow-suc}
 use native.Mathlib.Omega.{arith}
 use lib.IntN.{ℤ, pos, negsuc}
 use lib.ListN.{length, get_or, take, length-append, get_or-append}
@@ -13,7 +13,6 @@ use mir.Val.{SFits, bits, hbits}
 use mir.ValLaws.{pow-bits}
 use borrow.Author.Tests.{lt-ltb, le-ltb, ne_eqb}
 use Rattle.logic.proofs.Choice.{by}
-use Rattle.io.specs.Digits.{last_digits, IsDigitCount}
 use Rattle.num_arith.specs.Wrap.{word}
 use Rattle.num_arith.proofs.Cut.{word_same}
 use Rattle.text_hex.specs.Hex.{digit_of, hex_byte, hex_bytes, all_bytes}
@@ -180,26 +179,7 @@ module _ (bs : List ℕ) (bytes : (k : ℕ) → k < length bs → get_or bs k 0 
       let half : length (hex_all bs) / 2 ≡ length bs = omega arith in
       rw half (first_back (length bs) (omega arith) ∙ take-length bs)
 
--- ---- what other functions say of digits
-
--- the kit's digits, the fewest that hold n
-pub spelled : (k n : ℕ) → IsDigitCount 10 1 n k → last_digits 10 k n ≡ decimal_of n
-spelled zero n h = absurd (omega (arith, h.0))
-spelled (suc zero) n h =
-    let l : n < 10 = omega (arith, h.1) in
-    let q : n % 10 ≡ n = omega arith in
-    rw (q, lt-ltb n 10 l, small n l)
-spelled (suc (suc k)) n h =
-    let p = pow-suc 10 (suc k) in
-    let q = pow-suc 10 k in
-    let one = one-le-pow k 10 (omega arith) in
-    let above = h.1 in
-    let last : suc (suc k) - 1 ≡ suc k = omega arith in
-    let same : suc k - 1 ≡ k = omega arith in
-    let least : 10 ^ suc k ≤ n = rw last at (h.2 (omega arith)) in
-    let l : 10 ≤ n = omega arith in
-    let fewest : IsDigitCount 10 1 (n / 10) (suc k) = (omega arith, omega arith, λ m. rw same (omega arith)) in
-    rw (large n l, lt-ltb (n % 10) 10 (omega arith)) (ap (λ (x : List ℕ). x ++ (digit (n % 10) ∷ [])) (spelled (suc k) (n / 10) fewest))
+-- ---- signed numbers
 
 -- a pattern of a width, and the number that it stands for
 module _ (w : Width) where

@@ -1,6 +1,6 @@
 -- A text that grows in a buffer: words are put one behind the other, and what there is no room for is cut off. proofs/Joined.antt has the laws.
 use Rattle.std.specs.Prelude.{◌≡◌, ℕ, ◌+◌, min, List, ◌++◌, length, take, drop}
-use Rattle.io.specs.Counts.{IsPrefixLen}
+use Rattle.std.specs.Counts.{IsPrefixLen}
 
 -- a buffer with a word behind its first at bytes, cut at the buffer's end; bytes behind the word stay
 unfoldable pub put_at : List ℕ → ℕ → List ℕ → List ℕ

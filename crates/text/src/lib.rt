@@ -2,7 +2,7 @@
 // Each function gives where the text ends then; what there is no room for is cut off. A line is put word by word (proofs/Joined.antt).
 #![tactic(auto)]
 
-ghost use Rattle.std.specs.Prelude.{◌≡◌, ◌<◌};
+ghost use Rattle.std.specs.Prelude.{◌≡◌, ◌<◌, ◌≤◌, length, drop};
 ghost use Rattle.text.specs.Text.{decimal_of, labelled, signed_of, hex_digit, hex_of, hex_all};
 ghost use Rattle.text.specs.Put.{Put};
 
@@ -15,20 +15,41 @@ pub fn put(out: &mut [u8], at: usize, word: &[u8]) -> usize
     }
     let room = out.len() - at;
     if room < word.len() {
-        bytes::copy(&word[..room], &mut out[at..]);
+        out[at..].copy_from_slice(&word[..room]);
         return out.len();
     }
-    bytes::copy(word, &mut out[at..]);
-    at + word.len()
+    let end = at + word.len();
+    out[at..end].copy_from_slice(word);
+    end
 }
 
 // Puts a number in decimal digits.
 pub fn put_decimal(out: &mut [u8], at: usize, v: u64) -> usize
     ensures { Put out.old at (decimal_of v) result out.new }
 {
-    let mut digits = [0u8; 20];
-    let n = io::decimal(v, &mut digits);
-    put(out, at, &digits[..n])
+    let mut digits = [0u8; DIGITS];
+    let first = put_digits(v, &mut digits);
+    put(out, at, &digits[first..])
+}
+
+// The decimal digits of the greatest number of 64 bits.
+const DIGITS: usize = 20;
+
+// Puts the decimal digits of a number to the end of a buffer; gives where the first of them stands.
+fn put_digits(v: u64, digits: &mut [u8; DIGITS]) -> usize
+    ensures bound { result ≤ length digits.new }
+    ensures digits_after { drop result digits.new ≡ decimal_of v }
+{
+    let mut rest = v;
+    let mut at = DIGITS;
+    while rest >= 10 {
+        at -= 1;
+        digits[at] = b'0' + (rest % 10) as u8;
+        rest /= 10;
+    }
+    at -= 1;
+    digits[at] = b'0' + rest as u8;
+    at
 }
 
 // Puts a word and a number behind it.

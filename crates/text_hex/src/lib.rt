@@ -2,7 +2,7 @@
 #![tactic(auto)]
 
 ghost use Rattle.std.specs.Prelude.{◌≡◌, ◌++◌, ◌/◌, min, length, drop};
-ghost use Rattle.io.specs.Counts.{IsPrefixLen};
+ghost use Rattle.std.specs.Counts.{IsPrefixLen};
 ghost use Rattle.text_hex.specs.Hex.{digit_of, hex_byte, hex_bytes};
 
 // Puts the bytes of a line's digits to the front of out, as many as there are and as it has room for; gives how many.

@@ -1,6 +1,6 @@
 -- The line of a verdict, as bytes (document 01, on the verdict program): for case B it is `refusal 12 place 0 task 0 depth 0` and a line end.
 use Rattle.std.specs.Prelude.{◌≡◌, ℕ, List, [], ◌∷◌, ◌++◌, take}
-use Rattle.io.specs.Counts.{IsPrefixLen}
+use Rattle.std.specs.Counts.{IsPrefixLen}
 use Rattle.text.specs.Text.{labelled}
 use Rattle.walk.specs.Verdict.{verdict_number, verdict_place, verdict_task, verdict_depth}
 use Rattle.walk.specs.declared.Verdict.{Verdict}

@@ -1,17 +1,17 @@
 // The line of a verdict (document 01, on the verdict program), and an image judged with marks of its own.
 #![tactic(auto)]
 
-ghost use Rattle.std.specs.Prelude.{◌≡◌, ◌≤◌, length};
+ghost use Rattle.std.specs.Prelude.{◌≡◌, ◌≤◌, length, IfOk};
 ghost use Rattle.limits.specs.Limits.{marks_length};
-ghost use Rattle.io.specs.Counts.{IsPrefixLen};
+ghost use Rattle.std.specs.Counts.{IsPrefixLen};
 ghost use Rattle.walk.specs.Verdict.{verdict_of};
 ghost use Rattle.text.specs.Put.{Put};
 ghost use Rattle.text_verdict.specs.Input.{input_length, zeros};
 ghost use Rattle.text_verdict.specs.Line.{line_of, line_room, Holds};
 
 use image_header::reader;
-use libc::STDOUT_FILENO;
 use limits::{MARKS_LENGTH, MOST_LANDINGS};
+use std::io;
 use walk::Verdict;
 
 // The most bytes that a header's numbers take, of which start and count alone may take two, and its landing blocks, two to each; and one byte more than the
@@ -24,7 +24,7 @@ pub const INPUT_LENGTH: usize = HEADER_BYTES + BLOCK_BYTES + 1;
 
 // Room for an image, each byte 0: all that is needed of an input.
 pub fn input() -> [u8; INPUT_LENGTH]
-    ensures input_length_value { input_length ≡ length result }
+    ensures len { input_length ≡ length result }
     ensures value { result ≡ zeros input_length }
 {
     [0; INPUT_LENGTH]
@@ -37,20 +37,20 @@ pub struct Judged {
     pub line: LineBytes,
 }
 
-// Judges an image and writes the line of its verdict to standard output; gives the verdict and the line.
-pub fn judge(image: &[u8]) -> Judged
-    ensures verdict_value { result.verdict ≡ verdict_of image.now marks_length }
-    ensures holds { Holds (line_of result.verdict) result.line }
+// Judges an image and prints the line of its verdict; gives the verdict and the line. An error is the printing's.
+pub fn judge<P: Print>(rt: &P, image: &[u8]) -> io::Result<Judged>
+    ensures verdict { IfOk result (λ judged. judged.verdict ≡ verdict_of image.now marks_length) }
+    ensures line { IfOk result (λ judged. Holds (line_of judged.verdict) judged.line) }
 {
     let mut space = marks();
     let verdict = walk_search::judge(image, &mut space);
-    let line = write_line(verdict);
-    Judged { verdict, line }
+    let line = write_line(rt, verdict)?;
+    Ok(Judged { verdict, line })
 }
 
 // The bytes that the search works in, each 0.
 pub fn marks() -> [u8; MARKS_LENGTH]
-    ensures marks_length_value { marks_length ≡ length result }
+    ensures len { marks_length ≡ length result }
     ensures value { result ≡ zeros marks_length }
 {
     [0; MARKS_LENGTH]
@@ -66,22 +66,22 @@ pub struct LineBytes {
 // Room for the line of any verdict.
 pub const LINE_ROOM: usize = 80;
 
-// Writes the line of a verdict to standard output; gives the line.
-pub fn write_line(v: Verdict) -> LineBytes
-    ensures { Holds (line_of v) result }
+// Prints the line of a verdict; gives the line.
+pub fn write_line<P: Print>(rt: &P, v: Verdict) -> io::Result<LineBytes>
+    ensures { IfOk result (λ line. Holds (line_of v) line) }
 {
-    written(line_of(v))
+    written(rt, line_of(v))
 }
 
-// Writes a line; gives it back.
-fn written(line: LineBytes) -> LineBytes
+// Prints a line; gives it back.
+fn written<P: Print>(rt: &P, line: LineBytes) -> io::Result<LineBytes>
     requires { IsPrefixLen line.length line.bytes }
-    ensures { result ≡ line }
+    ensures { IfOk result (λ printed. printed ≡ line) }
 {
     let bytes = line.bytes;
     let n = line.length;
-    io::write_all(STDOUT_FILENO, &bytes[..n]);
-    line
+    rt.write_all(&bytes[..n])?;
+    Ok(line)
 }
 
 // The line of a verdict.
@@ -96,7 +96,7 @@ pub fn line_of(v: Verdict) -> LineBytes
 // Puts the line of a verdict behind the text in a buffer, as the functions of `text` do. It is never longer than the room of a line.
 pub fn put_line(out: &mut [u8], at: usize, v: Verdict) -> usize
     ensures put { Put out.old at (line_of v) result out.new }
-    ensures v_len_bound { length (line_of v) ≤ line_room }
+    ensures fits { length (line_of v) ≤ line_room }
 {
     let number = walk_verdict::number(v) as u64;
     let place = walk_verdict::place(v) as u64;

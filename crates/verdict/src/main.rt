@@ -5,7 +5,9 @@
 ghost use Rattle.std.specs.Prelude.{◌≡◌};
 ghost use Rattle.verdict.specs.Arguments.{purpose_of};
 
-use libc::{STDERR_FILENO, STDIN_FILENO};
+use std::env::FillError;
+use std::io;
+use std::rt::Env;
 
 // What the program is asked for.
 #[derive(Clone, Copy)]
@@ -15,20 +17,28 @@ pub enum Purpose {
 }
 
 // What an input has past the room for an image is left unread: the verdict is the same without it (crates/text_verdict/proofs/Beginning.antt).
-fn main() {
-    match purpose_of(os::arg_count()) {
+fn main(rt: HostRuntime) -> io::Result<()> {
+    // the program's own name among them; none of them is kept
+    let mut arguments = 0;
+    for i in 0..usize::MAX {
+        if let Err(FillError::NotPresent) = rt.arg(i, &mut []) {
+            break;
+        }
+        arguments = i + 1;
+    }
+    match purpose_of(arguments) {
         Purpose::Judge => {
             let mut image = text_verdict::input();
-            let n = io::read_full(STDIN_FILENO, &mut image);
-            text_verdict::judge(&image[..n]);
+            let n = text_input::read_full(&mut rt.stdin(), &mut image)?;
+            text_verdict::judge(&rt, &image[..n])?;
         }
         Purpose::Usage => {
-            io::write_all(
-                STDERR_FILENO,
-                b"usage: verdict < IMAGE\nreads a program image from standard input and prints the line of its verdict\n",
-            );
+            eprintln!(rt;
+                "usage: verdict < IMAGE\nreads a program image from standard input and prints the line of its verdict"
+            )?;
         }
     }
+    Ok(())
 }
 
 // What so many arguments ask for, the program's own name among them.

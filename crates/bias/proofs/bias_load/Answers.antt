@@ -1,5 +1,4 @@
 -- `bias::bias_load` meets its contract: 13, 16, then the image.
-use borrow.Author.Rules.{rules}
 use Rattle.bias.proofs.ByTest.{marks_short, no_buffer, of_image, load_refused}
 use Rattle.bias.specs.Load.{Load}
 use mathlib.Core.Path.{refl, sym, ap, ◌∙◌}

@@ -1,5 +1,4 @@
 -- `bias::bias_step` meets its contract: 15, then the step of the buffer.
-use borrow.Author.Rules.{rules}
 use Rattle.bias.proofs.ByTest.{no_task_lem, bad_inputs_lem, of_buffer, step_refused}
 use Rattle.bias.specs.Step.{Stepped}
 use Rattle.machine.specs.Inputs.{inputs_of}

@@ -1,5 +1,4 @@
 -- `bias::bias_write` meets its contract: the writer's.
-use borrow.Author.Rules.{rules}
 use Rattle.bias_results.specs.Results.{written_for}
 use mathlib.Core.Path.{ap, ◌∙◌}
 use Rattle.bias.proofs.bias_write.Goals as goal

@@ -1,5 +1,4 @@
 -- `bias::fresh` meets its contract.
-use borrow.Author.Rules.{rules}
 use Rattle.state.specs.State.{fresh}
 use Rattle.image_header.specs.declared.reader.HeaderRead.{HeaderRead}
 use mathlib.Core.Path.{ap₂, ◌∙◌}

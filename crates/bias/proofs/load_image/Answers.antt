@@ -1,10 +1,8 @@
 -- `bias::load_image` meets its contract, by the verdict.
-use borrow.Author.Rules.{rules}
 use Rattle.bias.proofs.ByTest.{verdict_is, stays, begins}
 use Rattle.bias_results.specs.Results.{verdict_for}
 use Rattle.state_layout.specs.Layout.{encoded}
 use Rattle.walk.specs.Verdict.{is_accepted}
-use borrow.Author.Tests.{not-true, not-false}
 use mathlib.Core.Path.{sym, ap, ◌∙◌}
 use Rattle.bias.proofs.load_image.Goals as goal
 

@@ -1,8 +1,6 @@
 -- `bias::step_buffer` meets its contract: 16, then 18 and 17, then the command.
 use mathlib.Core.Path.{sym, ap, ◌∙◌}
 use native.Mathlib.Omega.{arith}
-use borrow.Author.Rules.{rules}
-use borrow.Author.Tests.{not-true, not-false}
 use Rattle.num_le.specs.LittleEndian.{Bytes}
 use Rattle.machine.specs.Inputs.{inputs_of}
 use Rattle.bias.specs.Step.{Stepped}

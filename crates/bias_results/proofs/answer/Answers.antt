@@ -1,5 +1,4 @@
 -- `bias_results::answer` meets its contract: each part is what the answer, or the request, has.
-use borrow.Author.Rules.{rules}
 use mathlib.Core.Path.{refl, ◌∙◌}
 use mir.Syntax.{w32}
 use Rattle.num_arith.proofs.Range.{got}

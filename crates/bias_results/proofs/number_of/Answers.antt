@@ -1,5 +1,4 @@
 -- `bias_results::number_of` meets its contract, arm by arm.
-use borrow.Author.Rules.{rules}
 use mathlib.Core.Path.{sym, ap, ◌∙◌}
 use Rattle.machine.specs.Numbers.{answer_number}
 use Rattle.bias_results.proofs.number_of.Goals as goal

@@ -1,7 +1,6 @@
 -- `bias_results::request_axis` meets its contract, arm by arm.
 use mathlib.Core.Path.{sym, ap, ◌∙◌}
 use Rattle.machine.specs.Numbers.{request_axis}
-use borrow.Author.Rules.{rules}
 use Rattle.bias_results.proofs.request_axis.Goals as goal
 
 pub returns-in-None : goal.returns-in-None

@@ -1,5 +1,4 @@
 -- `bias_results::request_number` meets its contract, arm by arm.
-use borrow.Author.Rules.{rules}
 use mathlib.Core.Path.{sym, ap}
 use Rattle.machine.specs.Numbers.{request_number}
 use Rattle.bias_results.proofs.request_number.Goals as goal

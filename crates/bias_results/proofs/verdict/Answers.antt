@@ -1,5 +1,4 @@
 -- `bias_results::verdict` meets its contract: each part is what the verdict has.
-use borrow.Author.Rules.{rules}
 use Rattle.bias_results.proofs.verdict.Goals as goal
 
 pub returns : goal.returns

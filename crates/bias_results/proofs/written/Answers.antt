@@ -1,7 +1,6 @@
 -- `bias_results::written` meets its contract: the length, or the refusal.
 use mathlib.Core.Path.{sym, ◌∙◌}
 use Rattle.bias_results.specs.Results.{numbered}
-use borrow.Author.Rules.{rules}
 use Rattle.bias_results.proofs.written.Goals as goal
 
 pub returns-then-is_done : goal.returns-then-is_done

@@ -1,5 +1,4 @@
 -- `bias_run::bias_run` meets its contract: the load decides, and where it answers 0 the run is one that the theorem speaks of.
-use borrow.Author.Rules.{rules}
 use lib.ListN.{length}
 use mathlib.Core.List.{List}
 use mathlib.Core.Path.{ap, ◌∙◌}

@@ -1,11 +1,10 @@
 -- `bias_run::run_steps` meets its contract: what is left of the steps, from the buffer as it is, ends where all of them from the first buffer end. The measure
 -- is how many steps there can still be.
 use borrow.Author.Rules.{rules}
-use borrow.Author.Tests.{not-true}
-use lib.ListN.{length}
-use mathlib.Core.Path.{◌≡◌, refl, sym, ap, ◌∙◌}
+use mathlib.Core.Bool.{not}
+use mathlib.Core.Path.{refl, sym, ap, ◌∙◌}
 use native.Mathlib.Omega.{arith}
-use Prim.Native.Nat.{ℕ, ◌+◌, ◌-◌, ◌≤◌}
+use Prim.Native.Nat.{ℕ, ◌+◌, ◌-◌}
 use Rattle.proved_demands.specs.Run.{buffer_after}
 use Rattle.bias_run.specs.Steps.{head_length, steps_from, steps_of}
 use Rattle.bias_run.proofs.StepByStep.{stands, one_more, none_whole, none_left}
@@ -24,26 +23,26 @@ returns-then-not-whole_at c =
 
 pub overflow_add-next : goal.overflow_add-next
 overflow_add-next c = let whole = stands c.args.steps.now c.loop-left.at _
-    c.whole_at.ensures c.if-not-whole_at.false in omega arith
+    c.whole_at.ensures (ap not c.if-not-whole_at.false) in omega arith
 
 pub length_at-requires : goal.length_at-requires
 length_at-requires c = let whole = stands c.args.steps.now
-    c.loop-left.at _ c.whole_at.ensures c.if-not-whole_at.false in omega arith
+    c.loop-left.at _ c.whole_at.ensures (ap not c.if-not-whole_at.false) in omega arith
 
 pub overflow_add-next-in-loop-left : goal.overflow_add-next-in-loop-left
 overflow_add-next-in-loop-left c = let whole = stands c.args.steps.now
-    c.loop-left.at _ c.whole_at.ensures c.if-not-whole_at.false in omega arith
+    c.loop-left.at _ c.whole_at.ensures (ap not c.if-not-whole_at.false) in omega arith
 
 pub step_at-requires : goal.step_at-requires
 step_at-requires c = stands c.args.steps.now
-    c.loop-left.at _ c.whole_at.ensures c.if-not-whole_at.false
+    c.loop-left.at _ c.whole_at.ensures (ap not c.if-not-whole_at.false)
 
 pub loop-left-preserved : goal.loop-left-preserved
 loop-left-preserved c =
     let l = c.loop-left in
     let a = c.args in
     let whole = stands a.steps.now l.at _ c.whole_at.ensures
-    c.if-not-whole_at.false in
+    (ap not c.if-not-whole_at.false) in
     let next = ap (λ (n : ℕ). l.at + head_length + n) c.length_at.ensures in
     let stepped = c.step_at.ensures in (
       omega arith,

@@ -1,14 +1,10 @@
 -- `bias_run::run_steps` meets its contract: what is left of the steps, from the buffer as it is, ends where all of them from the first buffer end. The measure
 -- is how many steps there can still be.
-use borrow.Author.Rules.{rules}
-use borrow.Author.Tests.{not-true}
 use lib.ListN.{length}
-use mathlib.Core.Path.{◌≡◌, refl, sym, ap, ◌∙◌}
-use native.Mathlib.Omega.{arith}
-use Prim.Native.Nat.{ℕ, ◌+◌, ◌-◌, ◌≤◌}
+use mathlib.Core.Path.{◌≡◌}
+use Prim.Native.Nat.{◌≤◌}
 use Rattle.proved_demands.specs.Run.{buffer_after}
-use Rattle.bias_run.specs.Steps.{head_length, steps_from, steps_of}
-use Rattle.bias_run.proofs.StepByStep.{stands, one_more, none_whole, none_left}
+use Rattle.bias_run.specs.Steps.{steps_from, steps_of}
 use Rattle.bias_run.proofs.run_steps.Given as goal
 
 abbrev pub invariant-loop-left : goal.invariant-loop-left

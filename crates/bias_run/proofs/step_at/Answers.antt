@@ -1,5 +1,4 @@
 -- `bias_run::step_at` meets its contract: task, levels, start input and the two bits are read where the step has them.
-use borrow.Author.Rules.{rules}
 use lib.ListN.{get_or, take, drop}
 use mathlib.Core.Path.{◌≡◌, ◌∙◌}
 use native.Mathlib.Omega.{arith}

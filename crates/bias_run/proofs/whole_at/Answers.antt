@@ -1,5 +1,4 @@
 -- `bias_run::whole_at` meets its contract: the head fits, and then the levels behind it.
-use borrow.Author.Rules.{rules}
 use borrow.Author.Tests.{lt-leb}
 use lib.Dec.{leb}
 use lib.ListN.{length}

@@ -1,6 +1,5 @@
 -- `content` meets its contract: the element at x.
 use mathlib.Core.Path.{refl}
-use borrow.Author.Rules.{rules}
 use mir.Syntax.{w32}
 use Rattle.num_arith.proofs.Range.{got}
 use Rattle.exec_action.proofs.content.Goals as goal

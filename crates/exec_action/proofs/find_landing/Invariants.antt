@@ -1,17 +1,8 @@
 -- `find_landing` meets its contract: at each turn what is looked for is still what the rest of the list says.
-use Prim.Native.Nat.{suc, ◌+◌, ◌-◌, ◌≤◌}
-use mathlib.Core.Path.{◌≡◌, refl, sym, ap, ◌∙◌}
-use mathlib.Core.Bool.{Bool, cond}
-use native.Mathlib.Omega.{arith}
-use native.Mathlib.Numerals.{add-one}
-use lib.ListN.{length, get_or, drop}
-use mir.Syntax.{w32}
-use mir.Val.{to_z, of_z}
-use mir.Facts.{to_z-of_z}
-use borrow.Author.Rules.{rules}
+use Prim.Native.Nat.{◌-◌, ◌≤◌}
+use mathlib.Core.Path.{◌≡◌}
+use lib.ListN.{length, drop}
 use Rattle.exec_action.specs.Action.{landing_of}
-use Rattle.exec_action.specs.declared.Landing.TheVariants.{At}
-use Rattle.exec_action.proofs.Landings.{look_at, past_last}
 use Rattle.exec_action.proofs.find_landing.Given as goal
 
 abbrev pub invariant-loop-k : goal.invariant-loop-k

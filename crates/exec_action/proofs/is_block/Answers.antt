@@ -1,7 +1,6 @@
 -- `is_block` meets its contract: a test of two numbers is the test of their bits.
 use native.Mathlib.Omega.{arith}
 use lib.IntN.{pos}
-use borrow.Author.Rules.{rules}
 use mir.Syntax.{w32}
 use Rattle.num_arith.proofs.Comparisons.{same_bits}
 use Rattle.exec_action.proofs.is_block.Goals as goal

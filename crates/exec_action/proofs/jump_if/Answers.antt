@@ -1,5 +1,4 @@
 -- `jump_if` meets its contract by its condition.
-use borrow.Author.Rules.{rules}
 use Rattle.exec_action.proofs.jump_if.Goals as goal
 
 pub returns-then-condition : goal.returns-then-condition

@@ -1,5 +1,4 @@
 -- `sets` meets its contract: `asks` with no motion.
-use borrow.Author.Rules.{rules}
 use Rattle.exec_action.proofs.sets.Goals as goal
 
 pub asks-requires : goal.asks-requires

@@ -4,7 +4,6 @@ use mir.Syntax.{w32}
 use Rattle.num_arith.proofs.Range.{got}
 use Rattle.machine.specs.declared.Outcome.TheVariants.{Jump}
 use Rattle.exec_action.proofs.Landings.{on_to, landing_done}
-use borrow.Author.Rules.{rules}
 use Rattle.exec_control.proofs.jump_to_landing.Goals as goal
 
 pub content-requires : goal.content-requires

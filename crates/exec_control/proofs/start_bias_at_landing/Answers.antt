@@ -5,7 +5,6 @@ use Rattle.limits.specs.Limits.{bias}
 use Rattle.num_arith.proofs.Range.{got}
 use Rattle.machine.specs.declared.Outcome.TheVariants.{Start}
 use Rattle.exec_action.proofs.Landings.{on_to, landing_done}
-use borrow.Author.Rules.{rules}
 use Rattle.exec_control.proofs.start_bias_at_landing.Goals as goal
 
 pub content-requires : goal.content-requires

@@ -1,6 +1,5 @@
 -- `time_of` meets its contract.
 use mathlib.Core.Path.{refl}
-use borrow.Author.Rules.{rules}
 use borrow.Author.Tests.{lt-ltb, le-ltb}
 use Rattle.exec_control.proofs.time_of.Goals as goal
 

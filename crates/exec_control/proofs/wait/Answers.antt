@@ -1,6 +1,5 @@
 -- `wait` meets its contract.
 use mathlib.Core.Path.{ap, ◌∙◌}
-use borrow.Author.Rules.{rules}
 use Rattle.exec_action.specs.Action.{flowing}
 use Rattle.exec_control.proofs.wait.Goals as goal
 

@@ -1,7 +1,6 @@
 -- `input` meets its contract: past the end there is 0, which is low.
 use mathlib.Core.Path.{ap, sym}
 use lib.ListN.{get_or-eq_default}
-use borrow.Author.Rules.{rules}
 use Rattle.machine.specs.Inputs.{level}
 use Rattle.exec_levels.proofs.input.Goals as goal
 

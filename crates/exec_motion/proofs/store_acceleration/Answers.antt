@@ -1,6 +1,5 @@
 -- `store_acceleration` meets its contract.
 use native.Mathlib.Omega.{arith}
-use borrow.Author.Rules.{rules}
 use Rattle.exec_motion.proofs.Ranges.{stored_whole}
 use Rattle.exec_motion.proofs.store_acceleration.Goals as goal
 

@@ -1,6 +1,5 @@
 -- `action_of` meets its contract: the context is made of the levels.
 use mathlib.Core.Path.{◌∙◌}
-use borrow.Author.Rules.{rules}
 use Rattle.exec_step.proofs.action_of.Goals as goal
 
 pub returns : goal.returns

@@ -1,6 +1,5 @@
 -- `answer_to` meets its contract, outcome by outcome.
 use mathlib.Core.Path.{sym, ap}
-use borrow.Author.Rules.{rules}
 use Rattle.machine.specs.Engine.{answer_to}
 use Rattle.machine.specs.declared.Outcome.{Outcome}
 use Rattle.exec_step.proofs.answer_to.Goals as goal

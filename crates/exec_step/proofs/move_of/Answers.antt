@@ -1,6 +1,5 @@
 -- `move_of` meets its contract, request by request.
 use mathlib.Core.Path.{sym, ap}
-use borrow.Author.Rules.{rules}
 use Rattle.machine.specs.Effect.{bit}
 use Rattle.machine.specs.Engine.{is_move}
 use Rattle.machine.specs.declared.Request.{Request}

@@ -1,6 +1,5 @@
 -- `moved_after` meets its contract, outcome by outcome.
 use mathlib.Core.Path.{sym, ap}
-use borrow.Author.Rules.{rules}
 use Rattle.logic.proofs.Choice.{arm}
 use Rattle.machine.specs.Engine.{moved_after}
 use Rattle.machine.specs.declared.Outcome.{Outcome}

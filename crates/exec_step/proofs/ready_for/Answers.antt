@@ -1,6 +1,6 @@
 -- `ready_for` meets its contract, test by test.
 use mathlib.Core.Path.{sym, ap, ◌∙◌}
-use borrow.Author.Tests.{eq-eqb, ne_eqb, not-true, not-false}
+use borrow.Author.Tests.{eq-eqb, ne_eqb}
 use Rattle.machine.specs.declared.Answer.TheVariants.{Differs}
 use Rattle.walk_point.specs.declared.Point.{Point}
 use Rattle.exec_step.specs.Readiness.{ready_for}

@@ -3,7 +3,6 @@ use mathlib.Core.Path.{ap₂}
 use mathlib.Core.Bool.{◌||◌}
 use lib.Dec.{eqb}
 use Rattle.exec_step.proofs.StepCases.{not_not}
-use borrow.Author.Rules.{rules}
 use Rattle.exec_step.proofs.wait_fits.Goals as goal
 
 pub returns : goal.returns

@@ -3,7 +3,6 @@ use mathlib.Core.Path.{sym, ap, ap₂, subst, ◌∙◌}
 use mathlib.Core.List.{List}
 use native.Mathlib.Omega.{arith}
 use lib.ListN.{set}
-use borrow.Author.Rules.{rules}
 use Rattle.state.specs.declared.Task.{Task}
 use Rattle.machine.specs.Engine.{tasks_after}
 use Rattle.machine.specs.declared.Outcome.{Outcome}

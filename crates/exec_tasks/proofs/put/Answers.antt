@@ -1,6 +1,5 @@
 -- `put` meets its contract: past the third task nothing is put.
 use native.Mathlib.Omega.{arith}
-use borrow.Author.Rules.{rules}
 use Rattle.logic.proofs.Lists.{set_past}
 use Rattle.exec_tasks.proofs.put.Goals as goal
 

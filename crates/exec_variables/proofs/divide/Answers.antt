@@ -1,5 +1,5 @@
 -- `divide` meets its contract, by what the quotient is.
-use Rattle.std.proofs.Common.{sym, refl, ap, ◌∙◌, w32, rules}
+use Rattle.std.proofs.Common.{sym, refl, ap, ◌∙◌, w32}
 use Rattle.num_arith.proofs.Range.{got}
 use Rattle.exec_action.specs.Action.{assigning, dividing}
 use Rattle.exec_variables.proofs.divide.Goals as goal

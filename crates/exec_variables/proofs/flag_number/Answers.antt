@@ -1,7 +1,6 @@
 -- `flag_number` meets its contract: the flags from the last one down.
-use Rattle.std.proofs.Common.{◌≡◌, ℕ, ◌+◌, ◌-◌, ◌*◌, ◌≤◌, pos, ap, ◌∙◌, arith, w32, rules}
+use Rattle.std.proofs.Common.{ℕ, ◌+◌, ◌*◌, pos, ap, ◌∙◌, arith, w32}
 use Rattle.num_arith.specs.Wrap.{word}
-use Rattle.machine.specs.Effect.{flag_number}
 use Rattle.exec_variables.proofs.Flags.{none, more, all}
 use Rattle.exec_variables.proofs.flag_number.Goals as goal
 

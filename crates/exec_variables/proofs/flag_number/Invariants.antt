@@ -1,8 +1,7 @@
 -- `flag_number` meets its contract: the flags from the last one down.
-use Rattle.std.proofs.Common.{◌≡◌, ℕ, ◌+◌, ◌-◌, ◌*◌, ◌≤◌, pos, ap, ◌∙◌, arith, w32, rules}
+use Rattle.std.proofs.Common.{◌≡◌, ◌+◌, ◌-◌, ◌≤◌, pos, w32}
 use Rattle.num_arith.specs.Wrap.{word}
 use Rattle.machine.specs.Effect.{flag_number}
-use Rattle.exec_variables.proofs.Flags.{none, more, all}
 use Rattle.exec_variables.proofs.flag_number.Given as goal
 
 abbrev pub invariant-loop-left : goal.invariant-loop-left

@@ -1,5 +1,5 @@
 -- `level_at` meets its contract: past the last flag there is 0.
-use Rattle.std.proofs.Common.{sym, rules}
+use Rattle.std.proofs.Common.{sym}
 use lib.ListN.{get_or-eq_default}
 use Rattle.exec_variables.proofs.level_at.Goals as goal
 
