@@ -9,8 +9,8 @@
  * (docs/PROMISES.md). What is not proved says so.
  *
  * All that the library knows is in the buffers that you lend: the language it is written in has no globals, no heap and
- * no threads. Seen in the archive, not proved: of other libraries it needs memcpy and memset alone. Two states may be
- * stepped from two threads; one state from one thread at a time.
+ * no threads. Seen in the archive, not proved: of other libraries it needs memcpy, memmove and memset alone. Two states
+ * may be stepped from two threads; one state from one thread at a time.
  *
  * WHAT YOU PROMISE
  *   - A pointer and its length describe memory that you own. Nothing else is asked of a length or a content: every

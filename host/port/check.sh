@@ -110,5 +110,5 @@ for name in $imports; do
 done
 echo "$target needs:" $imports
 tail -n 8 "$out/expected"
-told() { sed -n "s/^$1 //p" "$out/expected"; }
+told() { sed -n "s/^$1 \([0-9]*\)\$/\1/p" "$out/expected"; }
 echo "counted: $(told steps) steps, $(told 'random programs run') random programs on each machine"
