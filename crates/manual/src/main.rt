@@ -2,7 +2,7 @@
 // held to the file stdout, which comes from other readings of the papers and not from this code; docs/EXAMPLES.md says which, and names the examples.
 #![tactic(auto)]
 
-ghost use Rattle.std.specs.Prelude.{◌≡◌, ◌+◌, ◌/◌, ◌≤◌, length, set, IfOk, OnOk};
+ghost use Rattle.std.specs.Prelude.{◌≡◌, ◌+◌, ◌/◌, ◌≤◌, ◌==◌, length, set, position, IfOk, OnOk};
 ghost use Rattle.limits.specs.Limits.{state_length};
 ghost use Rattle.text_hex.specs.Lines.{lines_of};
 ghost use Rattle.machine.specs.Inputs.{inputs_of};
@@ -71,9 +71,14 @@ fn space_of(line: &[u8]) -> usize
     ensures value { result ≡ space_of line.now }
     ensures upper_bound { result ≤ length line.now }
 {
-    line.iter()
-        .position(|byte| *byte == SPACE)
-        .unwrap_or(line.len())
+    first_space(line).unwrap_or(line.len())
+}
+
+// The first space, if there is one.
+fn first_space(line: &[u8]) -> Option<usize>
+    ensures { result ≡ position (λ byte. byte == 32) line.now }
+{
+    line.iter().position(|byte| *byte == SPACE)
 }
 
 // What stands behind a place.
