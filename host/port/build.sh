@@ -163,12 +163,22 @@ if ! diff "$work/expected" "$work/exports" >&2; then
     fail "the module's functions are not those that border.c calls"
 fi
 
+# A byte with a pointer behind it (an Option of a reference) is stored by its parts, the pointer at byte 8, and read as one record, whose pointer stands at byte 4
+# where pointers have four bytes: so it is read by its parts too.
+by_parts='s/^  \(%r[0-9]*\) = load { i8, ptr }, ptr \(%r[0-9]*\), align 8$/  \1.tag = load i8, ptr \2, align 8\
+  \1.at = getelementptr i8, ptr \2, i64 8\
+  \1.ptr = load ptr, ptr \1.at, align 8\
+  \1.half = insertvalue { i8, ptr } poison, i8 \1.tag, 0\
+  \1 = insertvalue { i8, ptr } \1.half, ptr \1.ptr, 1/'
 sed -e '/^target /d' -e '/^attributes /s/ "target-cpu"="[^"]*"//' -e '/^attributes /s/ "target-features"="[^"]*"//' \
     -e '/^attributes /s/ "tune-cpu"="[^"]*"//' -e '/^attributes /s/ "probe-stack"="[^"]*"//' \
     -e '/^attributes /s/ "stack-probe-size"="[^"]*"//' \
-    -e 's/@\(bias_[a-z_]*\)(/@\1_raw(/' "$work/module.ll" > "$port/module.ll"
+    -e 's/@\(bias_[a-z_]*\)(/@\1_raw(/' -e "$by_parts" "$work/module.ll" > "$port/module.ll"
 if grep -n -i 'x86\|ptrtoint\|inttoptr\|addrspacecast' "$port/module.ll" >&2; then
     fail "the module has something that is for x86-64 alone"
+fi
+if grep -n 'load {[^}]*ptr\|store {[^}]*ptr\|getelementptr {' "$port/module.ll" | grep -v 'load { ptr, i64 }' >&2; then
+    fail "the module has a record whose parts stand elsewhere where a pointer has four bytes"
 fi
 
 for target in "$@"; do

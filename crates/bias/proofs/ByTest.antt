@@ -1,4 +1,5 @@
 -- Each way that a load and a step go, by the test that leads there.
+use Rattle.std.specs.Prelude.{None, Err}
 use Prim.Native.Nat.{ℕ, ◌<◌, ◌≤◌}
 use mathlib.Core.Path.{◌≡◌, refl, sym, ap, ◌∙◌}
 use mathlib.Core.Bool.{Bool, true, false}
@@ -8,17 +9,15 @@ use lib.Dec.{eqb}
 use borrow.Author.Tests.{lt-ltb, le-ltb, eq-eqb, ne_eqb, eqb-true, eqb-false}
 use Rattle.limits.specs.Limits.{task_count, marks_length, state_length, inputs_length}
 use Rattle.logic.proofs.Choice.{by}
-use Rattle.state.specs.declared.State.{State}
 use Rattle.walk.specs.Verdict.{verdict_of, is_accepted}
-use Rattle.walk.specs.declared.Verdict.{Verdict}
-use Rattle.walk.specs.declared.Verdict.TheVariants.{MarksShort}
+use Rattle.walk.specs.Verdict.{Verdict}
+use Rattle.walk.specs.declared.Refusal.TheVariants.{MarksShort}
 use Rattle.state_layout.specs.Layout.{decoded, encoded}
-use Rattle.state_layout.specs.IsState.{frame_is, state_is, is_state}
+use Rattle.state_layout.specs.IsState.{is_state}
 use Rattle.machine.specs.Inputs.{Inputs}
 use Rattle.machine.specs.Engine.{step}
 use Rattle.machine.specs.Theorem.{loaded}
-use Rattle.machine.specs.declared.Request.TheVariants.{None}
-use Rattle.machine.specs.declared.Answer.TheVariants.{NoTask, Inputs as BadInputs}
+use Rattle.machine.specs.declared.NotDone.TheVariants.{NoTask, Inputs as BadInputs}
 use Rattle.bias_results.specs.Results.{no_state, numbered, verdict_for, no_state_answer, answer_for}
 use Rattle.bias_results.specs.declared.BiasVerdict.{BiasVerdict}
 use Rattle.bias_results.specs.declared.BiasAnswer.{BiasAnswer}
@@ -28,7 +27,7 @@ use Rattle.bias.specs.Step.{Stepped, refuse_step, handed, step_state, stepped}
 -- ---- loads
 
 module _ (image : List ℕ) (n : ℕ) (b : List ℕ) where
-  pub marks_short : n < marks_length → load image n b ≡ refuse_load (verdict_for (MarksShort n)) b
+  pub marks_short : n < marks_length → load image n b ≡ refuse_load (verdict_for (Err (MarksShort n))) b
   unfolding load
   marks_short h = rw (lt-ltb n marks_length h)
 
@@ -60,12 +59,12 @@ load_refused l r v b e q = (q ∙ ap (λ (m : Load). m.verdict) (sym e), ap (λ 
 -- ---- steps
 
 module _ (image b : List ℕ) (x : Inputs) where
-  pub no_task_lem : task_count ≤ x.task → stepped image b x ≡ refuse_step (answer_for None (NoTask x.task)) b
+  pub no_task_lem : task_count ≤ x.task → stepped image b x ≡ refuse_step (answer_for None (Err (NoTask x.task))) b
   unfolding stepped
   no_task_lem h = rw (le-ltb x.task task_count h)
 
   pub bad_inputs_lem : x.task < task_count → (length x.levels ≡ inputs_length → ⊥)
-      → stepped image b x ≡ refuse_step (answer_for None (BadInputs (length x.levels))) b
+      → stepped image b x ≡ refuse_step (answer_for None (Err (BadInputs (length x.levels)))) b
   unfolding stepped
   bad_inputs_lem h d = rw (lt-ltb x.task task_count h, ne_eqb (length x.levels) inputs_length d)
 
@@ -94,33 +93,9 @@ module _ (image b : List ℕ) (x : Inputs) where
 pub step_refused : (s : Stepped) (r a : BiasAnswer) (b : List ℕ) → s ≡ refuse_step a b → r ≡ a → (r ≡ s.answer) × (b ≡ s.buffer)
 step_refused s r a b e q = (q ∙ ap (λ (m : Stepped). m.answer) (sym e), ap (λ (m : Stepped). m.buffer) (sym e))
 
--- ---- 16, test by test
+-- ---- 16
 
--- the tests of a copy of the buffer are those of the buffer
-module _ (b copy : List ℕ) (same : copy ≡ b) where
-  pub frame_of : (t : Bool) → t ≡ frame_is copy → frame_is b ≡ t
-  frame_of t e = sym (e ∙ ap frame_is same)
-
-  pub read_of : (s : State) → s ≡ decoded copy → s ≡ decoded b
-  read_of s e = e ∙ ap decoded same
-
-  pub state_of : (s : State) → s ≡ decoded copy → (t : Bool) → t ≡ state_is s → state_is (decoded b) ≡ t
-  state_of s e t q = sym (q ∙ ap state_is (read_of s e))
-
-module _ (b : List ℕ) where
-  pub wrong_length : (length b ≡ state_length → ⊥) → is_state b ≡ false
-  unfolding is_state
-  wrong_length d = rw (ne_eqb (length b) state_length d)
-
-  module _ (e : length b ≡ state_length) where
-    pub frame_not : frame_is b ≡ false → is_state b ≡ false
-    unfolding is_state
-    frame_not u = rw (eq-eqb (length b) state_length e, u)
-
-    pub judged_no_state : frame_is b ≡ true → state_is (decoded b) ≡ false → is_state b ≡ false
-    unfolding is_state
-    judged_no_state u s = rw (eq-eqb (length b) state_length e, u, s)
-
-    pub judged_state : frame_is b ≡ true → state_is (decoded b) ≡ true → is_state b ≡ true
-    unfolding is_state
-    judged_state u s = rw (eq-eqb (length b) state_length e, u, s)
+-- a buffer of another length holds no state
+pub other_length : (b : List ℕ) → (length b ≡ state_length → ⊥) → is_state b ≡ false
+unfolding is_state
+other_length b d = rw (ne_eqb (length b) state_length d)

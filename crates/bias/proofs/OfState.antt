@@ -1,11 +1,12 @@
 -- A step of a buffer that holds a state: refused by 18 or 17 it leaves the buffer, and else its parts are those of the engine's step.
+use Rattle.std.specs.Prelude.{None}
 use Prim.Native.Nat.{ℕ, ◌<◌, ◌≤◌}
 use mathlib.Core.Path.{◌≡◌, refl, sym, ap, ◌∙◌}
 use mathlib.Core.Bool.{true}
 use mathlib.Core.List.{List}
 use native.Mathlib.Omega.{arith}
 use lib.ListN.{length, get_or, take}
-use Rattle.limits.specs.Limits.{task_count, most_landings, inputs_length, state_length}
+use Rattle.limits.specs.Limits.{task_count, most_landings, inputs_length}
 use Rattle.num_le.specs.LittleEndian.{Bytes}
 use Rattle.image_header.specs.Scan.{blocks_of}
 use Rattle.image_header.specs.declared.Header.{Header}
@@ -26,41 +27,37 @@ use Rattle.state_layout.specs.Layout.{header_at, landings_at, values_in, tasks_i
 use Rattle.state_layout.specs.IsState.{is_state}
 use lib.Seq.{length-take-le}
 use Rattle.state_layout.proofs.Codecs.{words_count}
-use Rattle.state_layout.proofs.RoundTrip.{encoded_length, state_good, encode_decode}
+use Rattle.state_layout.proofs.RoundTrip.{state_good, encode_decode}
 use Rattle.machine.specs.Inputs.{Inputs}
 use Rattle.machine.specs.Effect.{effect_of}
 use Rattle.machine.specs.DepthAllows.{DepthAllows}
 use Rattle.machine.specs.Engine.{refuse, point_of, answer_to, notes_after, tasks_after, performed, terms_held, task_step, step}
-use Rattle.machine.specs.declared.Answer.{Answer}
+use Rattle.machine.specs.Answers.{Answer}
+use Rattle.machine.specs.declared.NotDone.{NotDone}
 use Rattle.machine.specs.declared.Context.{Context}
-use Rattle.machine.specs.declared.Request.TheVariants.{None}
 use Rattle.machine.proofs.Steps.Room.{deep}
 use Rattle.exec_action.specs.Action.{acted}
 use Rattle.exec_action.specs.declared.Action.{Action}
 use Rattle.exec_step.specs.Readiness.{context_with, ready_for}
-use Rattle.exec_step.specs.declared.Ready.{Ready}
-use Rattle.exec_step.specs.declared.Ready.TheVariants.{Refused, Carries}
+use Rattle.std.specs.Prelude.{Result, Ok, Err}
 use Rattle.exec_step.proofs.StepCases.{Room, room, refused_step, Carried, carried_step, of_task}
 use Rattle.bias_results.specs.Results.{answer_for}
 use Rattle.bias.specs.Step.{refuse_step, handed, step_state}
 use Rattle.bias.proofs.ByTest.{of_state}
 
 module _ (b : List ℕ) (bytes : Bytes b) (holds : is_state b ≡ true) where
-  pub state_long : length b ≡ state_length
-  state_long = ap length (sym (encode_decode b bytes holds)) ∙ encoded_length (decoded b) (state_good b bytes holds)
-
   module _ (image : List ℕ) (x : Inputs) (such : x.task < task_count) where
-    pub refused_is : (task : Task) (a : Answer) → length x.levels ≡ inputs_length → task ≡ task_at (decoded b) x.task
-        → Refused a ≡ ready_for image (terms_held (decoded b)) x.task task → handed (step image (decoded b) x) ≡ refuse_step (answer_for None a) b
+    pub refused_is : (task : Task) (a : NotDone) → length x.levels ≡ inputs_length → task ≡ task_at (decoded b) x.task
+        → Err a ≡ ready_for image (terms_held (decoded b)) x.task task → handed (step image (decoded b) x) ≡ refuse_step (answer_for None (Err a)) b
     unfolding handed
     refused_is task a e i r =
         ap handed (sym (of_task image (decoded b) x such e) ∙ ap (task_step image (decoded b) x) (sym i) ∙ refused_step image (decoded b) x task a r) ∙ kept
       where
-        kept : handed (refuse (decoded b) a) ≡ refuse_step (answer_for None a) b
-        kept = ap (λ (l : List ℕ). refuse_step (answer_for None a) l) (encode_decode b bytes holds)
+        kept : handed (refuse (decoded b) (Err a)) ≡ refuse_step (answer_for None (Err a)) b
+        kept = ap (λ (l : List ℕ). refuse_step (answer_for None (Err a)) l) (encode_decode b bytes holds)
 
     module _ (task : Task) (c : Command) (task-is : task ≡ task_at (decoded b) x.task)
-        (r : Carries c ≡ ready_for image (terms_held (decoded b)) x.task task) where
+        (r : Ok c ≡ ready_for image (terms_held (decoded b)) x.task task) where
       found : Carried image (decoded b) x task c
       found = carried_step image (decoded b) x task c r
 
@@ -94,7 +91,7 @@ module _ (b : List ℕ) (bytes : Bytes b) (holds : is_state b ≡ true) where
           effect_is = rw (eh, els, ev, found.is)
 
 -- what is found with the header and the landing list that were read, of the state's own
-pub ready_of : (b image : List ℕ) (h : Header) (l : List ℕ) (t : ℕ) (task : Task) (r : Ready) → h ≡ header_in b header_at → l ≡ landings_in b landings_at
+pub ready_of : (b image : List ℕ) (h : Header) (l : List ℕ) (t : ℕ) (task : Task) (r : Result Command NotDone) → h ≡ header_in b header_at → l ≡ landings_in b landings_at
     → r ≡ ready_for image (under h l) t task → r ≡ ready_for image (terms_held (decoded b)) t task
 unfolding decoded
 ready_of b image h l t task r e i f = f ∙ rw (e, i) refl

@@ -2,8 +2,8 @@
 // each answers whatever bytes a host lends.
 #![tactic(auto)]
 
-ghost use Rattle.std.specs.Prelude.{◌≡◌, true, [], ◌∷◌, ◌<◌, length};
-ghost use Rattle.limits.specs.Limits.{task_count, marks_length, state_length, inputs_length};
+ghost use Rattle.std.specs.Prelude.{◌≡◌, true, [], ◌∷◌, ◌<◌, length, Ok};
+ghost use Rattle.limits.specs.Limits.{task_count, marks_length, inputs_length};
 ghost use Rattle.walk.specs.Verdict.{verdict_of};
 ghost use Rattle.walk_search.specs.After.{After};
 ghost use Rattle.image_header.specs.Rows.{format1, format2};
@@ -16,19 +16,17 @@ ghost use Rattle.machine.specs.Inputs.{inputs_of};
 ghost use Rattle.machine.specs.Engine.{terms_held, task_step};
 ghost use Rattle.machine.specs.Theorem.{loaded};
 ghost use Rattle.exec_step.specs.Readiness.{ready_for};
-ghost use Rattle.exec_step.specs.declared.Ready.TheVariants.{Carries};
 ghost use Rattle.bias_results.specs.Results.{written_for};
 ghost use Rattle.bias.specs.Load.{load, judged_load};
 ghost use Rattle.bias.specs.Step.{handed, step_state, stepped};
 
 use bias_results::{BiasAnswer, BiasVerdict};
 use command_operands::Command;
-use exec_step::Ready;
 use image_header::{Header, reader};
 use limits::{INPUTS_LENGTH, MARKS_LENGTH, MOST_LANDINGS, STATE_LENGTH, TASK_COUNT};
-use machine::{Answer, Request};
+use machine::NotDone;
 use state::{State, Task};
-use walk::Verdict;
+use walk::Refusal;
 
 // Loads an image: judges it, in the first MARKS_LENGTH bytes of marks, and puts its fresh state into the buffer where it is accepted.
 pub fn bias_load(image: &[u8], marks: &mut [u8], state: &mut [u8]) -> BiasVerdict
@@ -38,24 +36,23 @@ pub fn bias_load(image: &[u8], marks: &mut [u8], state: &mut [u8]) -> BiasVerdic
 {
     let n = marks.len();
     if n < MARKS_LENGTH {
-        return bias_results::verdict(Verdict::MarksShort(n));
+        return bias_results::verdict(Err(Refusal::MarksShort(n)));
     }
-    if state.len() != STATE_LENGTH {
+    let Some(state) = state.as_mut_array() else {
         return bias_results::numbered(bias_results::NO_STATE, 0);
-    }
+    };
     load_image(image, marks, state)
 }
 
 // Judges an image, and puts its fresh state into the buffer where it is accepted.
-fn load_image(image: &[u8], marks: &mut [u8], state: &mut [u8]) -> BiasVerdict
-    requires { length state.old ≡ state_length }
+fn load_image(image: &[u8], marks: &mut [u8], state: &mut [u8; STATE_LENGTH]) -> BiasVerdict
     ensures value { result ≡ (judged_load image.now (verdict_of image.now (length marks.old)) state.old).verdict }
     ensures state_after { state.new
         ≡ (judged_load image.now (verdict_of image.now (length marks.old)) state.old).buffer }
     ensures after { After marks_length marks.old marks.new }
 {
     let verdict = walk_search::judge(image, marks);
-    if !walk_verdict::is_accepted(verdict) {
+    if !verdict.is_ok() {
         return bias_results::verdict(verdict);
     }
     state_encode::encode(state, fresh(image));
@@ -66,9 +63,12 @@ fn load_image(image: &[u8], marks: &mut [u8], state: &mut [u8]) -> BiasVerdict
 fn fresh(image: &[u8]) -> State
     ensures { result ≡ loaded image.now }
 {
-    let mut landings = [0u16; MOST_LANDINGS];
-    let read = reader::read(image, &mut landings);
-    State::fresh(read.header, landings)
+    let mut landings = [0; MOST_LANDINGS];
+    let header = match reader::read(image, &mut landings) {
+        Ok(read) => read.header,
+        Err(_) => Header::default(),
+    };
+    State::fresh(header, landings)
 }
 
 // Steps a task: 15, then 16, then 18, 17 or the command.
@@ -86,12 +86,15 @@ pub fn bias_step(
         ≡ (stepped image.now state.old (inputs_of task inputs.now start ramp_ended in_window)).buffer }
 {
     if task >= TASK_COUNT {
-        return bias_results::answer(Request::None, Answer::NoTask(task));
+        return bias_results::answer(None, Err(NotDone::NoTask(task)));
     }
     let n = inputs.len();
     if n != INPUTS_LENGTH {
-        return bias_results::answer(Request::None, Answer::Inputs(n));
+        return bias_results::answer(None, Err(NotDone::Inputs(n)));
     }
+    let Some(state) = state.as_mut_array() else {
+        return bias_results::no_state();
+    };
     step_buffer(
         image, state, task as u8, inputs, start, ramp_ended, in_window,
     )
@@ -100,7 +103,7 @@ pub fn bias_step(
 // Steps a task of the state that a buffer holds, if it holds one: 16, then 18 and 17, which leave the buffer alone, then the command.
 fn step_buffer(
     image: &[u8],
-    state: &mut [u8],
+    state: &mut [u8; STATE_LENGTH],
     t: u8,
     inputs: &[u8],
     start: u8,
@@ -117,12 +120,11 @@ fn step_buffer(
         return bias_results::no_state();
     }
     let header = state_decode::header_in(state);
-    let n = header.landings as usize;
+    let n = usize::from(header.landings);
     let landings = state_decode::landings_in(state, header.landings);
     let task = state_decode::task_at(state, t);
     match exec_step::ready_for(image, header, &landings, t, task) {
-        Ready::Refused(answer) => bias_results::answer(Request::None, answer),
-        Ready::Carries(c) => {
+        Ok(c) => {
             carry_out(
                 image,
                 state,
@@ -137,13 +139,14 @@ fn step_buffer(
                 c,
             )
         }
+        Err(reason) => bias_results::answer(None, Err(reason)),
     }
 }
 
 // Carries out the command c of a task: what its action changes is changed in the values, and the state after it goes into the buffer.
 fn carry_out(
     image: &[u8],
-    state: &mut [u8],
+    state: &mut [u8; STATE_LENGTH],
     t: u8,
     inputs: &[u8],
     start: u8,
@@ -159,7 +162,7 @@ fn carry_out(
     requires header_value { header ≡ header_in state.old header_at }
     requires landings_value { landings.now ≡ (terms_held (decoded state.old)).landings }
     requires task_value { task ≡ task_at (decoded state.old) t }
-    requires c_value { Carries c ≡ ready_for image.now (terms_held (decoded state.old)) t task }
+    requires c_value { Ok c ≡ ready_for image.now (terms_held (decoded state.old)) t task }
     ensures value { result
         ≡ (handed (task_step image.now (decoded state.old) (inputs_of t inputs.now start ramp_ended in_window) task)
         ).answer }

@@ -1,13 +1,13 @@
 -- What C is handed (include/bias.h): the structs of results, by document 01's number and place of what the library answers. Parts that
 -- are not named are 0, and so are the fields that a request does not carry.
-use Rattle.std.specs.Prelude.{ℕ, cond, pos}
+use Rattle.std.specs.Prelude.{ℕ, cond, pos, Option}
 use Rattle.image_result.specs.ImageResult.{result_number, result_place, done}
 use Rattle.walk.specs.Verdict.{verdict_number, verdict_place, verdict_task, verdict_depth}
-use Rattle.walk.specs.declared.Verdict.{Verdict}
+use Rattle.walk.specs.Verdict.{Verdict}
 use Rattle.image_writer.specs.declared.Written.{Written}
 use Rattle.machine.specs.Numbers.{answer_number, answer_place, answer_task, answer_depth, request_number, request_axis, request_mode}
 use Rattle.machine.specs.declared.Request.{Request}
-use Rattle.machine.specs.declared.Answer.{Answer}
+use Rattle.machine.specs.Answers.{Answer}
 use Rattle.bias_results.specs.declared.BiasVerdict.{BiasVerdict}
 use Rattle.bias_results.specs.declared.BiasAnswer.{BiasAnswer}
 
@@ -44,7 +44,7 @@ no_state_answer = record {
   mode = 0;
 }
 
-abbrev pub answer_for : Request → Answer → BiasAnswer
+abbrev pub answer_for : Option Request → Answer → BiasAnswer
 answer_for m a = record {
   place = answer_place a;
   number = answer_number a;

@@ -6,7 +6,7 @@ ghost use Rattle.machine.specs.Numbers.{cause_number, answer_number, answer_plac
 ghost use Rattle.bias_results.specs.Results.{numbered, verdict_for, written_for, no_state_answer, answer_for};
 
 use image_writer::Written;
-use machine::{Answer, Cause, Request};
+use machine::{Answer, Cause, NotDone, Request};
 use state::Axis;
 use walk::Verdict;
 
@@ -15,7 +15,7 @@ pub const NO_STATE: u32 = 16;
 
 // The result of a load or a write.
 #[repr(C)]
-#[derive(Clone, Copy)]
+#[derive(Clone, Copy, PartialEq, Eq)]
 pub struct BiasVerdict {
     pub place: u64,
     pub number: u32,
@@ -25,7 +25,7 @@ pub struct BiasVerdict {
 
 // The result of a step: an answer and a motion request.
 #[repr(C)]
-#[derive(Clone, Copy)]
+#[derive(Clone, Copy, PartialEq, Eq, Default)]
 pub struct BiasAnswer {
     pub place: u64,
     pub number: u32,
@@ -45,7 +45,7 @@ pub fn numbered(number: u32, place: usize) -> BiasVerdict
 {
     BiasVerdict {
         place: place as u64,
-        number: number,
+        number,
         task: 0,
         depth: 0,
     }
@@ -58,8 +58,8 @@ pub fn verdict(v: Verdict) -> BiasVerdict
     BiasVerdict {
         place: walk_verdict::place(v) as u64,
         number: walk_verdict::number(v),
-        task: walk_verdict::task(v) as u32,
-        depth: walk_verdict::depth(v) as u32,
+        task: u32::from(walk_verdict::task(v)),
+        depth: u32::from(walk_verdict::depth(v)),
     }
 }
 
@@ -67,11 +67,10 @@ pub fn verdict(v: Verdict) -> BiasVerdict
 pub fn written(w: Written) -> BiasVerdict
     ensures { result ≡ written_for w }
 {
-    let result = w.result;
-    if result.is_done() {
-        return numbered(0, w.length);
+    match w.result {
+        Ok(()) => numbered(0, w.length),
+        Err(fault) => numbered(fault.number(), fault.place()),
     }
-    numbered(result.number(), result.place())
 }
 
 // The result of a step with a buffer that is no state: no motion.
@@ -79,35 +78,27 @@ pub fn no_state() -> BiasAnswer
     ensures { result ≡ no_state_answer }
 {
     BiasAnswer {
-        place: 0,
         number: NO_STATE,
-        task: 0,
-        depth: 0,
-        motion: 0,
-        position: 0,
-        speed: 0,
-        acceleration: 0,
-        deceleration: 0,
-        mode: 0,
+        ..BiasAnswer::default()
     }
 }
 
 // The result of any other step.
-pub fn answer(motion: Request, a: Answer) -> BiasAnswer
+pub fn answer(motion: Option<Request>, a: Answer) -> BiasAnswer
     ensures { result ≡ answer_for motion a }
 {
     let axis = request_axis(motion);
     BiasAnswer {
         place: place_of(a) as u64,
         number: number_of(a),
-        task: task_of(a) as u32,
-        depth: depth_of(a) as u32,
+        task: u32::from(task_of(a)),
+        depth: u32::from(depth_of(a)),
         motion: request_number(motion),
         position: axis.position,
-        speed: axis.speed as u32,
-        acceleration: axis.acceleration as u32,
-        deceleration: axis.deceleration as u32,
-        mode: request_mode(motion) as u32,
+        speed: u32::from(axis.speed),
+        acceleration: u32::from(axis.acceleration),
+        deceleration: u32::from(axis.deceleration),
+        mode: u32::from(request_mode(motion)),
     }
 }
 
@@ -116,12 +107,11 @@ fn number_of(a: Answer) -> u32
     ensures { result ≡ answer_number a }
 {
     match a {
-        Answer::Done => 0,
-        Answer::NoTask(_) => 15,
-        Answer::Inputs(_) => 15,
-        Answer::NotRunning => 18,
-        Answer::Differs(_) => 17,
-        Answer::Halted(cause, _) => cause_number(cause),
+        Ok(()) => 0,
+        Err(NotDone::NoTask(_) | NotDone::Inputs(_)) => 15,
+        Err(NotDone::NotRunning) => 18,
+        Err(NotDone::Differs(_)) => 17,
+        Err(NotDone::Halted(cause, _)) => cause_number(cause),
     }
 }
 
@@ -141,12 +131,10 @@ fn place_of(a: Answer) -> usize
     ensures { result ≡ answer_place a }
 {
     match a {
-        Answer::Done => 0,
-        Answer::NoTask(task) => task as usize,
-        Answer::Inputs(length) => length,
-        Answer::NotRunning => 0,
-        Answer::Differs(point) => point.block as usize,
-        Answer::Halted(_, point) => point.block as usize,
+        Err(NotDone::NoTask(task)) => task as usize,
+        Err(NotDone::Inputs(length)) => length,
+        Err(NotDone::Differs(point) | NotDone::Halted(_, point)) => usize::from(point.block),
+        _ => 0,
     }
 }
 
@@ -154,12 +142,8 @@ fn task_of(a: Answer) -> u8
     ensures { result ≡ answer_task a }
 {
     match a {
-        Answer::Done => 0,
-        Answer::NoTask(_) => 0,
-        Answer::Inputs(_) => 0,
-        Answer::NotRunning => 0,
-        Answer::Differs(point) => point.task,
-        Answer::Halted(_, point) => point.task,
+        Err(NotDone::Differs(point) | NotDone::Halted(_, point)) => point.task,
+        _ => 0,
     }
 }
 
@@ -167,26 +151,22 @@ fn depth_of(a: Answer) -> u8
     ensures { result ≡ answer_depth a }
 {
     match a {
-        Answer::Done => 0,
-        Answer::NoTask(_) => 0,
-        Answer::Inputs(_) => 0,
-        Answer::NotRunning => 0,
-        Answer::Differs(point) => point.depth,
-        Answer::Halted(_, point) => point.depth,
+        Err(NotDone::Differs(point) | NotDone::Halted(_, point)) => point.depth,
+        _ => 0,
     }
 }
 
 // The number of a motion request.
-fn request_number(m: Request) -> u32
+fn request_number(m: Option<Request>) -> u32
     ensures { result ≡ request_number m }
 {
     match m {
-        Request::None => 0,
-        Request::MoveTo(_) => 1,
-        Request::MoveBy(_) => 2,
-        Request::Forward(_) => 3,
-        Request::Backward(_) => 4,
-        Request::Stop(_, _) => 5,
+        None => 0,
+        Some(Request::MoveTo(_)) => 1,
+        Some(Request::MoveBy(_)) => 2,
+        Some(Request::Forward(_)) => 3,
+        Some(Request::Backward(_)) => 4,
+        Some(Request::Stop(_, _)) => 5,
     }
 }
 
@@ -198,34 +178,33 @@ fn stop_axis(deceleration: u16) -> Axis
         position: 0,
         speed: 0,
         acceleration: 0,
-        deceleration: deceleration,
+        deceleration,
     }
 }
 
 // The parameters that a request carries.
-fn request_axis(m: Request) -> Axis
+fn request_axis(m: Option<Request>) -> Axis
     ensures { result ≡ request_axis m }
 {
     match m {
-        Request::None => stop_axis(0),
-        Request::MoveTo(axis) => axis,
-        Request::MoveBy(axis) => axis,
-        Request::Forward(axis) => axis,
-        Request::Backward(axis) => axis,
-        Request::Stop(_, deceleration) => stop_axis(deceleration),
+        None => stop_axis(0),
+        Some(
+            Request::MoveTo(axis)
+            | Request::MoveBy(axis)
+            | Request::Forward(axis)
+            | Request::Backward(axis),
+        ) => axis,
+        Some(Request::Stop(_, deceleration)) => stop_axis(deceleration),
     }
 }
 
 // A stop's mode.
-fn request_mode(m: Request) -> u8
+fn request_mode(m: Option<Request>) -> u8
     ensures { result ≡ request_mode m }
 {
-    match m {
-        Request::None => 0,
-        Request::MoveTo(_) => 0,
-        Request::MoveBy(_) => 0,
-        Request::Forward(_) => 0,
-        Request::Backward(_) => 0,
-        Request::Stop(mode, _) => mode,
+    if let Some(Request::Stop(mode, _)) = m {
+        mode
+    } else {
+        0
     }
 }

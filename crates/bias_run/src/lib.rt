@@ -2,21 +2,30 @@
 // steps (proved_demands/specs/Theorem.antt). It has no precondition: every byte of the steps is answered, and a step that does not stand whole ends them.
 #![tactic(auto)]
 
-ghost use Rattle.std.specs.Prelude.{◌≡◌, ◌+◌, ◌≤◌, leb, length};
+ghost use Rattle.std.specs.Prelude.{◌≡◌, ◌<◌, [], ◌∷◌, length, IfSome, MatchOption};
 ghost use Rattle.limits.specs.Limits.{marks_length};
-ghost use Rattle.state_bytes.specs.Bytes.{le_number_at};
+ghost use Rattle.machine.specs.Inputs.{inputs_of};
 ghost use Rattle.walk_search.specs.After.{After};
 ghost use Rattle.bias.specs.Load.{load};
-ghost use Rattle.bias.specs.Step.{stepped};
 ghost use Rattle.proved_demands.specs.Run.{buffer_after};
 ghost use Rattle.proved_demands.specs.Theorem.{Run};
-ghost use Rattle.bias_run.specs.Steps.{head_length, length_at, next_at, step_at, steps_of, after_run};
+ghost use Rattle.bias_run.specs.Steps.{steps_of, after_run};
 
 use bias_results::BiasVerdict;
 
 // What stands before the input levels of a step: the task number (4 bytes), the start input, ramp ended, in window, the length of the input levels (2
 // bytes).
 const HEAD_LENGTH: usize = 9;
+
+// A step of the list, as it is handed to `bias_step`.
+#[derive(Clone, Copy)]
+struct Step<'a> {
+    task: u32,
+    start: u8,
+    ramp_ended: u8,
+    in_window: u8,
+    levels: &'a [u8],
+}
 
 // Loads an image and, where the load answers 0, carries out the steps that stand whole at the front.
 pub fn bias_run(image: &[u8], marks: &mut [u8], state: &mut [u8], steps: &[u8]) -> BiasVerdict
@@ -35,74 +44,42 @@ pub fn bias_run(image: &[u8], marks: &mut [u8], state: &mut [u8], steps: &[u8]) 
 }
 
 // Carries out the steps that stand whole at the front.
+#[tactic(auto, unfolding(proved_demands::specs::Run::buffer_after))]
 fn run_steps(image: &[u8], steps: &[u8], state: &mut [u8])
     ensures { state.new ≡ buffer_after image.now state.old (steps_of steps.now) }
 {
-    let mut at = 0;
-    let mut left = steps.len();
-    while left > 0 {
-        if !whole_at(steps, at) {
-            return;
-        }
-        let next = at + HEAD_LENGTH + length_at(steps, at);
-        step_at(image, steps, at, state);
-        at = next;
-        left -= 1;
+    let mut left = steps;
+    while let Some((step, rest)) = split_step(left) {
+        bias::bias_step(
+            image,
+            state,
+            step.task,
+            step.levels,
+            step.start,
+            step.ramp_ended,
+            step.in_window,
+        );
+        left = rest;
     }
 }
 
-// Whether a step stands whole at a place.
-fn whole_at(steps: &[u8], at: usize) -> bool
-    requires { at ≤ length steps.now }
-    ensures { result ≡ leb (next_at steps.now at) (length steps.now) }
+// The step that stands whole at the front, and what is behind it.
+fn split_step(steps: &[u8]) -> Option<(Step, &[u8])>
+    ensures front { MatchOption result
+        (steps_of steps.now ≡ [])
+        (λ r. steps_of steps.now
+        ≡ inputs_of r.0.task r.0.levels.now r.0.start r.0.ramp_ended r.0.in_window ∷ steps_of r.1.now) }
+    ensures shorter { IfSome result (λ r. length r.1.now < length steps.now) }
 {
-    let left = steps.len() - at;
-    if left < HEAD_LENGTH {
-        return false;
-    }
-    length_at(steps, at) <= left - HEAD_LENGTH
-}
-
-// The length of the input levels of the step at a place.
-fn length_at(steps: &[u8], at: usize) -> usize
-    requires { at + head_length ≤ length steps.now }
-    ensures { result ≡ length_at steps.now at }
-{
-    let i = at + 7;
-    num_le::read_u16([steps[i], steps[i + 1]]) as usize
-}
-
-// The task number of the step at a place.
-fn task_at(steps: &[u8], at: usize) -> u32
-    requires { at + head_length ≤ length steps.now }
-    ensures { result ≡ le_number_at 4 steps.now at }
-{
-    num_le::read_u32([
-        steps[at],
-        steps[at + 1],
-        steps[at + 1 + 1],
-        steps[at + 1 + 1 + 1],
-    ])
-}
-
-// Carries out the step that stands whole at a place.
-fn step_at(image: &[u8], steps: &[u8], at: usize, state: &mut [u8])
-    requires { next_at steps.now at ≤ length steps.now }
-    ensures { state.new ≡ (stepped image.now state.old (step_at steps.now at)).buffer }
-{
-    let task = task_at(steps, at);
-    let start = steps[at + 4];
-    let ramp_ended = steps[at + 5];
-    let in_window = steps[at + 6];
-    let from = at + HEAD_LENGTH;
-    let to = from + length_at(steps, at);
-    bias::bias_step(
-        image,
-        state,
-        task,
-        &steps[from..to],
-        start,
-        ramp_ended,
-        in_window,
-    );
+    let (head, behind) = steps.split_at_checked(HEAD_LENGTH)?;
+    let length = num_le::read_u16([head[7], head[8]]);
+    let (levels, rest) = behind.split_at_checked(usize::from(length))?;
+    let step = Step {
+        task: num_le::read_u32([head[0], head[1], head[2], head[3]]),
+        start: head[4],
+        ramp_ended: head[5],
+        in_window: head[6],
+        levels,
+    };
+    Some((step, rest))
 }

@@ -1,14 +1,15 @@
 -- A block judged for the drive and the block count of a header: 5, then 6 or 23, then 7, then 8 (document 01, "Refused because of the input";
 -- change request 3 splits 23 off 6). Which device and which ranges a code asks for stands in its row.
-use Rattle.std.specs.Prelude.{ℕ, ◌+◌, Bool, true, ◌&&◌, not, cond, List, eqb, ltb, leb, pos}
+use Rattle.std.specs.Prelude.{ℕ, ◌+◌, Bool, true, ◌&&◌, not, cond, List, eqb, ltb, leb, pos, Result, Ok, Err}
 use Rattle.limits.specs.Limits.{cells, most_level, most_run, most_speed, most_ramp, up_to}
 use Rattle.num_arith.specs.Ops.{eq_z}
 use Rattle.drive.specs.Types.{type_637_plus}
 use Rattle.drive.specs.Pins.{pin_of}
 use Rattle.drive.specs.declared.Drive.{Drive}
 use Rattle.drive_pins.specs.declared.PinKind.TheVariants.{Input, OutputWritten, OutputRead}
-use Rattle.drive.specs.declared.Presence.{Presence}
-use Rattle.drive.specs.declared.Presence.TheVariants as presence
+use Rattle.drive.specs.Types.{Presence}
+use Rattle.drive.specs.declared.Absence.{Absence}
+use Rattle.drive.specs.declared.Absence.TheVariants as presence
 use Rattle.image_header.specs.declared.Header.{Header}
 use Rattle.command_table.specs.Rows.{row_of}
 use Rattle.command_table.specs.declared.Row.{Row}
@@ -20,16 +21,20 @@ use Rattle.command_table.specs.declared.Ranges.TheVariants.{AxisTarget, ModeAxis
 use Rattle.command_operands.specs.Operands.{byte_at, laid_out, unused_zero}
 use Rattle.command_operands.specs.declared.Command.{Command}
 use Rattle.command_judge.specs.declared.BlockFault.{BlockFault}
-use Rattle.command_judge.specs.declared.BlockFault.TheVariants.{Fine, NotCarried, NotOnDrive, BoardMissing, OutOfRange, NotZero}
+use Rattle.command_judge.specs.declared.BlockFault.TheVariants.{NotCarried, NotOnDrive, BoardMissing, OutOfRange, NotZero}
+
+-- what judging a block comes to
+abbrev pub BlockResult : Type 0
+BlockResult = Result (Unit {0}) BlockFault
 
 -- ---- 6 and 23: what the drive must have, by the row's device
 
 abbrev pub not_on_637_plus : Drive → Presence
-not_on_637_plus d = cond (eqb d.model type_637_plus) presence.Never presence.Present
+not_on_637_plus d = cond (eqb d.model type_637_plus) (Err presence.Never) (Ok tt)
 
 -- whether the drive has it, for the operands x and y
 abbrev pub device_presence : Device → Drive → ℕ → ℕ → Presence
-device_presence NoDevice d x y = presence.Present
+device_presence NoDevice d x y = Ok tt
 device_presence InputX d x y = pin_of d Input x
 device_presence InputY d x y = pin_of d Input y
 device_presence OutputReadX d x y = pin_of d OutputRead x
@@ -100,30 +105,34 @@ in_range Ramp count c = up_to most_ramp c.word
 -- ---- the block
 
 -- document 01's number, and change request 3's
-abbrev pub block_fault_number : BlockFault → ℕ
-block_fault_number Fine = 0
-block_fault_number NotCarried = 5
-block_fault_number NotOnDrive = 6
-block_fault_number BoardMissing = 23
-block_fault_number OutOfRange = 7
-block_fault_number NotZero = 8
+abbrev pub block_fault_number : BlockResult → ℕ
+block_fault_number (Ok _) = 0
+block_fault_number (Err NotCarried) = 5
+block_fault_number (Err NotOnDrive) = 6
+block_fault_number (Err BoardMissing) = 23
+block_fault_number (Err OutOfRange) = 7
+block_fault_number (Err NotZero) = 8
 
 -- 7, then 8: the operands c of a block b whose code has the row r, in an image of `count` blocks
-unfoldable pub operand_fault : Row → ℕ → List ℕ → Command → BlockFault
-operand_fault r count b c = cond (in_range r.ranges count c) (cond (unused_zero r.layout b) Fine NotZero) OutOfRange
+unfoldable pub operand_fault : Row → ℕ → List ℕ → Command → BlockResult
+operand_fault r count b c = cond (in_range r.ranges count c) (cond (unused_zero r.layout b) (Ok tt) (Err NotZero)) (Err OutOfRange)
 
--- 23 where a board that the type may carry has the pin, 6 where the type never has it, and else what comes after them
-abbrev pub if_present : Presence → BlockFault → BlockFault
-if_present presence.Present later = later
-if_present presence.BoardMissing later = BoardMissing
-if_present presence.Never later = NotOnDrive
+-- 23 where a board that the type may carry has the pin, 6 where the type never has it
+abbrev pub absence_fault : Absence → BlockFault
+absence_fault presence.BoardMissing = BoardMissing
+absence_fault presence.Never = NotOnDrive
 
-unfoldable pub command_fault : Row → Header → List ℕ → Command → BlockFault
+-- that, and else what comes after it
+abbrev pub if_present : Presence → BlockResult → BlockResult
+if_present (Ok _) later = later
+if_present (Err absence) later = Err (absence_fault absence)
+
+unfoldable pub command_fault : Row → Header → List ℕ → Command → BlockResult
 command_fault r h b c = if_present (device_presence r.device h.drive c.x c.y) (operand_fault r h.count b c)
 
 -- by its code's row
-unfoldable pub row_fault : Row → Header → List ℕ → BlockFault
-row_fault r h b = cond r.carried (command_fault r h b (laid_out r.layout b)) NotCarried
+unfoldable pub row_fault : Row → Header → List ℕ → BlockResult
+row_fault r h b = cond r.carried (command_fault r h b (laid_out r.layout b)) (Err NotCarried)
 
-unfoldable pub block_fault : Header → List ℕ → BlockFault
+unfoldable pub block_fault : Header → List ℕ → BlockResult
 block_fault h b = row_fault (row_of (byte_at b 0)) h b

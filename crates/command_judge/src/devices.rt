@@ -3,7 +3,7 @@ ghost use Rattle.std.specs.Prelude.{◌≡◌};
 ghost use Rattle.command_judge.specs.BlockFault.{not_on_637_plus, device_presence};
 
 use command_table::Device;
-use drive::{Drive, Presence};
+use drive::{Absence, Drive, Presence};
 use drive_pins::PinKind;
 
 // Whether the drive has what the command needs for its operands x and y.
@@ -11,7 +11,7 @@ pub fn presence(device: Device, drive: Drive, x: u8, y: u8) -> Presence
     ensures { result ≡ device_presence device drive x y }
 {
     match device {
-        Device::NoDevice => Presence::Present,
+        Device::NoDevice => Ok(()),
         Device::InputX => drive.pin(PinKind::Input, x),
         Device::InputY => drive.pin(PinKind::Input, y),
         Device::OutputReadX => drive.pin(PinKind::OutputRead, x),
@@ -26,7 +26,7 @@ fn not_on_637_plus(drive: Drive) -> Presence
     ensures { result ≡ not_on_637_plus drive }
 {
     if drive.model == Drive::TYPE_637_PLUS {
-        return Presence::Never;
+        return Err(Absence::Never);
     }
-    Presence::Present
+    Ok(())
 }

@@ -1,6 +1,6 @@
-// The ranges of the operands (document 01, refusal 7), by the ranges of a code's row: one small test for each.
+// The ranges of the operands (document 01, refusal 7), by the ranges of a code's row.
 ghost use Rattle.std.specs.Prelude.{◌≡◌};
-ghost use Rattle.command_judge.specs.BlockFault.{level_jump, bit_jump, condition_jump, flag_run, axis_target, mode_axis, mode_ramp, in_range};
+ghost use Rattle.command_judge.specs.BlockFault.{in_range};
 
 use command_operands::Command;
 use command_table::Ranges;
@@ -27,74 +27,22 @@ const FLAGS: u16 = limits::CELLS as u16;
 pub fn in_range(ranges: Ranges, count: u16, c: Command) -> bool
     ensures { result ≡ in_range ranges count c }
 {
-    let x = c.x;
-    let y = c.y;
-    let z = c.z;
-    let word = c.word;
-    let value = c.value;
     match ranges {
         Ranges::Any => true,
-        Ranges::Address => word < count,
-        Ranges::Mode => x <= MOST_MODE,
-        Ranges::Level => y <= limits::MOST_LEVEL,
-        Ranges::LevelJump => level_jump(count, y, z, word),
-        Ranges::BitJump => bit_jump(count, y, z, word),
-        Ranges::ConditionJump => condition_jump(count, y, word),
-        Ranges::Divisor => value != 0,
-        Ranges::FlagRun => flag_run(y, z),
-        Ranges::AxisTarget => axis_target(x, y),
-        Ranges::ModeAxis => mode_axis(x, y),
-        Ranges::ModeRamp => mode_ramp(x, word),
-        Ranges::Speed => limits::up_to(limits::MOST_SPEED, word),
-        Ranges::Ramp => limits::up_to(limits::MOST_RAMP, word),
+        Ranges::Address => c.word < count,
+        Ranges::Mode => c.x <= MOST_MODE,
+        Ranges::Level => c.y <= limits::MOST_LEVEL,
+        Ranges::LevelJump => c.y <= MOST_EQUALITY && c.z <= limits::MOST_LEVEL && c.word < count,
+        Ranges::BitJump => c.y <= MOST_BIT && c.z <= MOST_EQUALITY && c.word < count,
+        Ranges::ConditionJump => c.y <= MOST_CONDITION && c.word < count,
+        Ranges::Divisor => c.value != 0,
+        // the flags that 86 reads: z of them from flag y on
+        Ranges::FlagRun => limits::up_to(limits::MOST_RUN, u16::from(c.z))
+            && u16::from(c.y) + u16::from(c.z) <= FLAGS,
+        Ranges::AxisTarget => c.x == 0 && c.y == 0,
+        Ranges::ModeAxis => c.x <= MOST_STOP && c.y == 0,
+        Ranges::ModeRamp => c.x <= MOST_STOP && limits::up_to(limits::MOST_RAMP, c.word),
+        Ranges::Speed => limits::up_to(limits::MOST_SPEED, c.word),
+        Ranges::Ramp => limits::up_to(limits::MOST_RAMP, c.word),
     }
-}
-
-fn level_jump(count: u16, y: u8, z: u8, word: u16) -> bool
-    ensures { result ≡ level_jump count y z word }
-{
-    if y > MOST_EQUALITY {
-        return false;
-    }
-    z <= limits::MOST_LEVEL && word < count
-}
-
-fn bit_jump(count: u16, y: u8, z: u8, word: u16) -> bool
-    ensures { result ≡ bit_jump count y z word }
-{
-    if y > MOST_BIT {
-        return false;
-    }
-    z <= MOST_EQUALITY && word < count
-}
-
-fn condition_jump(count: u16, y: u8, word: u16) -> bool
-    ensures { result ≡ condition_jump count y word }
-{
-    y <= MOST_CONDITION && word < count
-}
-
-// The flags that 86 reads: z of them from flag y on.
-fn flag_run(y: u8, z: u8) -> bool
-    ensures { result ≡ flag_run y z }
-{
-    limits::up_to(limits::MOST_RUN, z as u16) && y as u16 + z as u16 <= FLAGS
-}
-
-fn axis_target(x: u8, y: u8) -> bool
-    ensures { result ≡ axis_target x y }
-{
-    x == 0 && y == 0
-}
-
-fn mode_axis(x: u8, y: u8) -> bool
-    ensures { result ≡ mode_axis x y }
-{
-    x <= MOST_STOP && y == 0
-}
-
-fn mode_ramp(x: u8, word: u16) -> bool
-    ensures { result ≡ mode_ramp x word }
-{
-    x <= MOST_STOP && limits::up_to(limits::MOST_RAMP, word)
 }

@@ -1,13 +1,14 @@
 -- Bytes that a layout does not use: how many it uses, and whether those from a place on are 0.
 use Prim.Native.Nat.{ℕ, ◌+◌, ◌<◌, ◌≤◌}
 use native.Mathlib.Omega.{arith}
-use native.Mathlib.Numerals.{add-one}
-use mathlib.Core.Path.{◌≡◌}
-use mathlib.Core.Bool.{true, false}
-use mathlib.Core.List.{List}
-use lib.ListN.{length, get_or, drop, drop_of_length-le}
-use lib.Seq.{drop-cons}
-use borrow.Author.Tests.{eq-eqb, ne_eqb}
+use mathlib.Core.Path.{◌≡◌, refl, sym, ap, ◌∙◌}
+use mathlib.Core.Bool.{Bool, ◌&&◌}
+use mathlib.Core.List.{List, [], ◌∷◌}
+use lib.Dec.{eqb}
+use lib.ListN.{length, take, drop}
+use Rattle.std.specs.List.{list_all}
+use Rattle.std.proofs.lemmas.List.{take_all}
+use Rattle.std.proofs.Common.{length-drop}
 use Rattle.limits.specs.Limits.{block_length}
 use Rattle.command_table.specs.declared.Layout.{Layout}
 use Rattle.command_table.specs.declared.Layout.TheVariants.{Bare, Byte, Word, Pair, Triple, TripleWord, ByteWord, Value, ByteValue, PairValue, ValueJump}
@@ -27,17 +28,12 @@ used_most ByteValue = omega arith
 used_most PairValue = omega arith
 used_most ValueJump = omega arith
 
--- the bytes from k on
-module _ (b : List ℕ) (k : ℕ) where
-  pub done : length b ≤ k → all_zero (drop k b) ≡ true
-  unfolding all_zero
-  done h = rw (drop_of_length-le b h)
+-- all bytes of a list are 0, in std's word
+all_zero_is : (xs : List ℕ) → all_zero xs ≡ list_all (λ x. eqb x 0) xs
+unfolding all_zero
+all_zero_is [] = refl
+all_zero_is (x ∷ xs) = ap (λ (t : Bool). eqb x 0 && t) (all_zero_is xs)
 
-  module _ (h : k < length b) where
-    pub found : (get_or b k 0 ≡ 0 → ⊥) → all_zero (drop k b) ≡ false
-    unfolding all_zero
-    found n = rw (drop-cons b k 0 h, ne_eqb (get_or b k 0) 0 n)
-
-    pub passed : get_or b k 0 ≡ 0 → all_zero (drop k b) ≡ all_zero (drop (k + 1) b)
-    unfolding all_zero
-    passed e = rw (add-one, drop-cons b k 0 h, eq-eqb (get_or b k 0) 0 e)
+-- and those from k on, as a part of a block
+pub rest_zero : (b : List ℕ) (k m : ℕ) → length b ≤ k + m → list_all (λ x. eqb x 0) (take m (drop k b)) ≡ all_zero (drop k b)
+rest_zero b k m h = ap (list_all (λ x. eqb x 0)) (take_all m (drop k b) (omega (arith, length-drop k b))) ∙ sym (all_zero_is (drop k b))

@@ -1,10 +1,10 @@
 // The operands of a block, where its code's layout has them. Nothing is judged but that unused bytes are 0.
 #![tactic(auto)]
 
-ghost use Rattle.std.specs.Prelude.{◌≡◌};
-ghost use Rattle.command_operands.specs.Operands.{laid_out, operands, used_bytes, unused_zero};
-ghost use Rattle.command_operands.specs.Operands.{byte_of, word_of, pair_of, triple_of, triple_word_of, byte_word_of, value_of, byte_value_of, pair_value_of};
-ghost use Rattle.command_operands.specs.Operands.{value_jump_of, bare_of};
+ghost use Rattle.std.specs.Prelude.{◌≡◌, ◌+◌, ◌<◌, ◌==◌};
+ghost use Rattle.std.specs.List.{list_all};
+ghost use Rattle.limits.specs.Limits.{block_length};
+ghost use Rattle.command_operands.specs.Operands.{word_at, value_at, laid_out, operands, used_bytes, unused_zero};
 
 use command_table::Layout;
 use limits::BLOCK_LENGTH;
@@ -21,197 +21,103 @@ pub struct Command {
 }
 
 // The command of a block, without judging it. A code that is not carried has no operands.
+#[tactic(auto, unfolding(crate::specs::Operands::operands))]
 pub fn read(block: [u8; BLOCK_LENGTH]) -> Command
     ensures { result ≡ operands block }
 {
-    let row = command_table::find(block[0]);
-    let layout = row.layout;
-    lay_out(layout, block)
+    lay_out(command_table::find(block[0]).layout, block)
 }
 
 // The command of a block whose code has this layout.
 pub fn lay_out(layout: Layout, block: [u8; BLOCK_LENGTH]) -> Command
     ensures { result ≡ laid_out layout block }
 {
+    let bare = Command {
+        code: block[0],
+        x: 0,
+        y: 0,
+        z: 0,
+        word: 0,
+        value: 0,
+    };
+    let byte = Command {
+        x: block[1],
+        ..bare
+    };
+    let pair = Command {
+        y: block[2],
+        ..byte
+    };
+    let triple = Command {
+        z: block[3],
+        ..pair
+    };
     match layout {
-        Layout::Bare => bare(block),
-        Layout::Byte => byte(block),
-        Layout::Word => word(block),
-        Layout::Pair => pair(block),
-        Layout::Triple => triple(block),
-        Layout::TripleWord => triple_word(block),
-        Layout::ByteWord => byte_word(block),
-        Layout::Value => value(block),
-        Layout::ByteValue => byte_value(block),
-        Layout::PairValue => pair_value(block),
-        Layout::ValueJump => value_jump(block),
+        Layout::Bare => bare,
+        Layout::Byte => byte,
+        Layout::Word => Command {
+            word: word_at(block, 1),
+            ..bare
+        },
+        Layout::Pair => pair,
+        Layout::Triple => triple,
+        Layout::TripleWord => Command {
+            word: word_at(block, 4),
+            ..triple
+        },
+        Layout::ByteWord => Command {
+            word: word_at(block, 2),
+            ..byte
+        },
+        Layout::Value => Command {
+            value: value_at(block, 1),
+            ..bare
+        },
+        Layout::ByteValue => Command {
+            value: value_at(block, 2),
+            ..byte
+        },
+        Layout::PairValue => Command {
+            value: value_at(block, 3),
+            ..pair
+        },
+        // 81: the condition and the upper four bits of the address share D6.
+        Layout::ValueJump => Command {
+            y: block[6] / 16,
+            word: num_le::read_u16([block[7], block[6] % 16]),
+            value: value_at(block, 2),
+            ..byte
+        },
     }
 }
 
-fn bare(block: [u8; BLOCK_LENGTH]) -> Command
-    ensures { result ≡ bare_of block }
+// The number of two bytes from byte k on.
+fn word_at(block: [u8; BLOCK_LENGTH], k: usize) -> u16
+    requires { k + 1 < block_length }
+    ensures { result ≡ word_at block k }
 {
-    Command {
-        code: block[0],
-        x: 0,
-        y: 0,
-        z: 0,
-        word: 0,
-        value: 0,
-    }
+    num_le::read_u16([block[k], block[k + 1]])
 }
 
-fn byte(block: [u8; BLOCK_LENGTH]) -> Command
-    ensures { result ≡ byte_of block }
+// The signed number of four bytes from byte k on.
+fn value_at(block: [u8; BLOCK_LENGTH], k: usize) -> i32
+    requires { k + 3 < block_length }
+    ensures { result ≡ value_at block k }
 {
-    Command {
-        code: block[0],
-        x: block[1],
-        y: 0,
-        z: 0,
-        word: 0,
-        value: 0,
-    }
-}
-
-fn word(block: [u8; BLOCK_LENGTH]) -> Command
-    ensures { result ≡ word_of block }
-{
-    let word = num_le::read_u16([block[1], block[2]]);
-    Command {
-        code: block[0],
-        x: 0,
-        y: 0,
-        z: 0,
-        word: word,
-        value: 0,
-    }
-}
-
-fn pair(block: [u8; BLOCK_LENGTH]) -> Command
-    ensures { result ≡ pair_of block }
-{
-    Command {
-        code: block[0],
-        x: block[1],
-        y: block[2],
-        z: 0,
-        word: 0,
-        value: 0,
-    }
-}
-
-fn triple(block: [u8; BLOCK_LENGTH]) -> Command
-    ensures { result ≡ triple_of block }
-{
-    Command {
-        code: block[0],
-        x: block[1],
-        y: block[2],
-        z: block[3],
-        word: 0,
-        value: 0,
-    }
-}
-
-fn triple_word(block: [u8; BLOCK_LENGTH]) -> Command
-    ensures { result ≡ triple_word_of block }
-{
-    let word = num_le::read_u16([block[4], block[5]]);
-    Command {
-        code: block[0],
-        x: block[1],
-        y: block[2],
-        z: block[3],
-        word: word,
-        value: 0,
-    }
-}
-
-fn byte_word(block: [u8; BLOCK_LENGTH]) -> Command
-    ensures { result ≡ byte_word_of block }
-{
-    let word = num_le::read_u16([block[2], block[3]]);
-    Command {
-        code: block[0],
-        x: block[1],
-        y: 0,
-        z: 0,
-        word: word,
-        value: 0,
-    }
-}
-
-fn value(block: [u8; BLOCK_LENGTH]) -> Command
-    ensures { result ≡ value_of block }
-{
-    let value = num_le::read_i32([block[1], block[2], block[3], block[4]]);
-    Command {
-        code: block[0],
-        x: 0,
-        y: 0,
-        z: 0,
-        word: 0,
-        value: value,
-    }
-}
-
-fn byte_value(block: [u8; BLOCK_LENGTH]) -> Command
-    ensures { result ≡ byte_value_of block }
-{
-    let value = num_le::read_i32([block[2], block[3], block[4], block[5]]);
-    Command {
-        code: block[0],
-        x: block[1],
-        y: 0,
-        z: 0,
-        word: 0,
-        value: value,
-    }
-}
-
-fn pair_value(block: [u8; BLOCK_LENGTH]) -> Command
-    ensures { result ≡ pair_value_of block }
-{
-    let value = num_le::read_i32([block[3], block[4], block[5], block[6]]);
-    Command {
-        code: block[0],
-        x: block[1],
-        y: block[2],
-        z: 0,
-        word: 0,
-        value: value,
-    }
-}
-
-// 81: the condition and the upper four bits of the address share D6.
-fn value_jump(block: [u8; BLOCK_LENGTH]) -> Command
-    ensures { result ≡ value_jump_of block }
-{
-    let value = num_le::read_i32([block[2], block[3], block[4], block[5]]);
-    let word = num_le::read_u16([block[7], block[6] % 16]);
-    Command {
-        code: block[0],
-        x: block[1],
-        y: block[6] / 16,
-        z: 0,
-        word: word,
-        value: value,
-    }
+    num_le::read_i32([block[k], block[k + 1], block[k + 2], block[k + 3]])
 }
 
 // Whether the bytes that this layout does not use are 0.
 pub fn unused_zero(layout: Layout, block: [u8; BLOCK_LENGTH]) -> bool
     ensures { result ≡ unused_zero layout block }
 {
-    let mut k = 1 + used_bytes(layout);
-    while k < BLOCK_LENGTH {
-        if block[k] != 0 {
-            return false;
-        }
-        k += 1;
-    }
-    true
+    all_zero(&block[1 + used_bytes(layout)..])
+}
+
+fn all_zero(bytes: &[u8]) -> bool
+    ensures { result ≡ list_all (λ x. x == 0) bytes.now }
+{
+    bytes.iter().all(|byte| *byte == 0)
 }
 
 // How many of D1 to D7 a layout uses.

@@ -1,4 +1,3 @@
-mod Missed
 pub mod EveryRow
 pub mod Tasks
 pub mod FlowKinds

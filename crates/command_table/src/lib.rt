@@ -137,21 +137,7 @@ impl FlowKind {
     pub fn is_ending(self) -> bool
         ensures { result ≡ is_ending self }
     {
-        match self {
-            FlowKind::Ending => true,
-            FlowKind::Nothing => false,
-            FlowKind::Next => false,
-            FlowKind::Wait => false,
-            FlowKind::Jump => false,
-            FlowKind::Branch => false,
-            FlowKind::Call => false,
-            FlowKind::Return => false,
-            FlowKind::StartBias => false,
-            FlowKind::StartPlc => false,
-            FlowKind::StartMathematics => false,
-            FlowKind::ComputedJump => false,
-            FlowKind::ComputedStartBias => false,
-        }
+        matches!(self, FlowKind::Ending)
     }
 }
 
@@ -172,6 +158,7 @@ pub const PM: u8 = P + M;
 pub const BPM: u8 = B + P + M;
 
 // The row of a code, by code.
+#[tactic(auto, unfolding(crate::specs::Rows::row_of, crate::specs::Rows::rows, crate::specs::Rows::row_in))]
 pub fn find(code: u8) -> Row
     ensures { result ≡ row_of code }
 {
@@ -303,11 +290,11 @@ fn entry(layout: Layout, device: Device, ranges: Ranges, tasks: u8, flow: FlowKi
 {
     Row {
         carried: true,
-        layout: layout,
-        device: device,
-        ranges: ranges,
-        tasks: tasks,
-        flow: flow,
+        layout,
+        device,
+        ranges,
+        tasks,
+        flow,
     }
 }
 

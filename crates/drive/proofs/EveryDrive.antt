@@ -8,15 +8,17 @@ use lib.ListN.{length, get_or}
 use lib.Dec.{T, eqb, ltb, leb, leb-zero}
 use borrow.Author.Tests.{ltb-true, leb-true, eqb-true, eqb-false, eq-eqb, ne_eqb, lt-ltb, le-ltb, le-leb}
 use Rattle.drive.specs.Types.{types, cycles, slot_b, slot_c, cycle_of, takes, takes_b, takes_c}
+use Rattle.std.specs.Prelude.{Option, None, Some, Ok, Err}
+use Rattle.std.specs.Option.{option_map_or}
 use Rattle.drive_pins.specs.Homes.{home_in, home_of, inputs, outputs_written, outputs_read}
 use Rattle.drive.specs.Pins.{on_board, presence, pin_of}
 use Rattle.drive.specs.declared.Drive.{Drive}
 use Rattle.drive_pins.specs.declared.Home.{Home}
-use Rattle.drive_pins.specs.declared.Home.TheVariants.{Nowhere, Only631, Others, SlotB, SlotC}
+use Rattle.drive_pins.specs.declared.Home.TheVariants.{Only631, Others, SlotB, SlotC}
 use Rattle.drive_pins.specs.declared.PinKind.{PinKind}
 use Rattle.drive_pins.specs.declared.PinKind.TheVariants.{Input, OutputWritten, OutputRead}
-use Rattle.drive.specs.declared.Presence.{Presence}
-use Rattle.drive.specs.declared.Presence.TheVariants.{Present, Never}
+use Rattle.drive.specs.Types.{Presence}
+use Rattle.drive.specs.declared.Absence.TheVariants.{Never}
 use Rattle.drive.proofs.TypesAndSlots.{no_cycle, past_types, by_least}
 use Rattle.logic.proofs.Choice.{clash, both}
 use Rattle.logic.specs.Each.{each_below}
@@ -76,60 +78,63 @@ no_board_on_631 b =
 
 -- pin 8 can be read as an output on the types 1 to 4 and not on the 631, and can be written on none
 pub output_8 : (d : Drive) →
-    (d.model ≡ 0 → pin_of d OutputRead 8 ≡ Never) × (0 < d.model → d.model < 5 → pin_of d OutputRead 8 ≡ Present) × (pin_of d OutputWritten 8 ≡ Never)
+    (d.model ≡ 0 → pin_of d OutputRead 8 ≡ Err Never) × (0 < d.model → d.model < 5 → pin_of d OutputRead 8 ≡ Ok tt) × (pin_of d OutputWritten 8 ≡ Err Never)
 unfolding pin_of home_of home_in outputs_read outputs_written presence
 output_8 d =
     (λ e. simp (eq-eqb _ _ e), λ h k. simp (ne_eqb d.model 0 (λ e. omega arith), lt-ltb _ _ k), refl)
 
 -- an output that a drive can write, or could with another board, it can read, or could, likewise
-pub written_is_read : (d : Drive) (pin : ℕ) → (pin_of d OutputWritten pin ≡ Never → ⊥) → pin_of d OutputRead pin ≡ pin_of d OutputWritten pin
+pub written_is_read : (d : Drive) (pin : ℕ) → (pin_of d OutputWritten pin ≡ Err Never → ⊥) → pin_of d OutputRead pin ≡ pin_of d OutputWritten pin
 unfolding pin_of home_of
 written_is_read d pin n = split (eqb pin 8) refl
   where
     split : (b : Bool) → eqb pin 8 ≡ b → pin_of d OutputRead pin ≡ pin_of d OutputWritten pin
     split true e = absurd (n (ap (pin_of d OutputWritten) (eqb-true pin 8 e) ∙ (output_8 d).2))
-    split false e = ap (presence d) (read_other pin (eqb-false pin 8 e))
+    split false e = ap (λ (h : Option Home). option_map_or (presence d) h (Err Never)) (read_other pin (eqb-false pin 8 e))
 
-nothing : (d : Drive) → 5 ≤ d.model → (h : Home) → presence d h ≡ Never
+nothing : (d : Drive) → 5 ≤ d.model → (h : Home) → presence d h ≡ Err Never
 unfolding presence on_board
-nothing d h Nowhere = refl
 nothing d h Only631 = simp (ne_eqb d.model 0 (λ e. omega arith))
 nothing d h Others = simp (ne_eqb d.model 0 (λ e. omega arith), le-ltb _ _ h)
 nothing d h (SlotB b) = simp (past_types slot_b d.model b h)
 nothing d h (SlotC b) = simp (past_types slot_c d.model b h)
 
 -- a drive whose type number is none of the five has no pin, and its cycle length is 0
-pub no_type : (d : Drive) → 5 ≤ d.model → ((kind : PinKind) (pin : ℕ) → pin_of d kind pin ≡ Never) × (cycle_of d.model ≡ 0)
+pub no_type : (d : Drive) → 5 ≤ d.model → ((kind : PinKind) (pin : ℕ) → pin_of d kind pin ≡ Err Never) × (cycle_of d.model ≡ 0)
 unfolding pin_of
-no_type d h = (λ kind pin. nothing d h (home_of kind pin), no_cycle d.model h)
+no_type d h = (λ kind pin. go (home_of kind pin), no_cycle d.model h)
+  where
+    go : (home : Option Home) → option_map_or (presence d) home (Err Never) ≡ Err Never
+    go None = refl
+    go (Some home) = nothing d h home
 
 -- whether a 631, or else another type, can have what is at a home, by the drive itself or a board
-abbrev on : Bool → Home → Bool
-on is631 Nowhere = false
-on is631 Only631 = is631
-on is631 Others = not is631
-on is631 (SlotB b) = true
-on is631 (SlotC b) = true
+abbrev on : Bool → Option Home → Bool
+on is631 None = false
+on is631 (Some Only631) = is631
+on is631 (Some Others) = not is631
+on is631 (Some (SlotB b)) = true
+on is631 (Some (SlotC b)) = true
 
 -- what a drive has, or would have with another board
-has : (d : Drive) (h : Home) → (presence d h ≡ Never → ⊥) → T (on (eqb d.model 0) h)
+has : (d : Drive) (h : Option Home) → (option_map_or (presence d) h (Err Never) ≡ Err Never → ⊥) → T (on (eqb d.model 0) h)
 unfolding presence
-has d Nowhere p = p refl
-has d Only631 p = only (eqb d.model 0) p
+has d None p = p refl
+has d (Some Only631) p = only (eqb d.model 0) p
   where
-    only : (b : Bool) → (cond b Present Never ≡ Never → ⊥) → T b
+    only : (b : Bool) → (cond b (Ok (tt {0})) (Err Never) ≡ Err Never → ⊥) → T b
     only true n = tt
     only false n = n refl
-has d Others p = others (eqb d.model 0) _ p
+has d (Some Others) p = others (eqb d.model 0) _ p
   where
-    others : (b : Bool) (x : Presence) → (cond b Never x ≡ Never → ⊥) → T (not b)
+    others : (b : Bool) (x : Presence) → (cond b (Err Never) x ≡ Err Never → ⊥) → T (not b)
     others true x n = n refl
     others false x n = tt
-has d (SlotB b) p = tt
-has d (SlotC b) p = tt
+has d (Some (SlotB b)) p = tt
+has d (Some (SlotC b)) p = tt
 
 -- neither a 631 nor another type can have both
-abbrev apart : Home → Home → Bool
+abbrev apart : Option Home → Option Home → Bool
 apart h g = not (on true h && on true g) && not (on false h && on false g)
 
 hit : (a b : Bool) → not (a && b) ≡ true → T a → T b → ⊥
@@ -137,12 +142,12 @@ hit true true t p q = clash (sym t)
 hit true false t p q = q
 hit false b t p q = p
 
-not_both : (b : Bool) (h g : Home) → apart h g ≡ true → T (on b h) → T (on b g) → ⊥
+not_both : (b : Bool) (h g : Option Home) → apart h g ≡ true → T (on b h) → T (on b g) → ⊥
 not_both true h g e p q = hit (on true h) (on true g) (both (not (on true h && on true g)) (not (on false h && on false g)) e).0 p q
 not_both false h g e p q = hit (on false h) (on false g) (both (not (on true h && on true g)) (not (on false h && on false g)) e).1 p q
 
 -- a pin that a drive has as an input, or would have with another board, it never has as an output that can be read
-pub never_both : (d : Drive) (pin : ℕ) → pin < 256 → (pin_of d Input pin ≡ Never → ⊥) → (pin_of d OutputRead pin ≡ Never → ⊥) → ⊥
+pub never_both : (d : Drive) (pin : ℕ) → pin < 256 → (pin_of d Input pin ≡ Err Never → ⊥) → (pin_of d OutputRead pin ≡ Err Never → ⊥) → ⊥
 unfolding pin_of home_of home_in inputs outputs_read outputs_written each_below
 never_both d pin h p q =
     not_both (eqb d.model 0) (home_in inputs pin) (home_in outputs_read pin)

@@ -32,11 +32,6 @@ pub no_cycle : (t : ℕ) → 5 ≤ t → cycle_of t ≡ 0
 unfolding cycle_of
 no_cycle t h = get_or-eq_default cycles 0 h
 
--- no type takes a board number past the slot's list
-pub past_boards : (least : List ℕ) (t b : ℕ) → length least ≤ b → takes least t b ≡ false
-unfolding takes
-past_boards least t b h = simp (le-ltb _ _ h)
-
 -- no number past the types takes a board
 pub past_types : (least : List ℕ) (t b : ℕ) → 5 ≤ t → takes least t b ≡ false
 unfolding takes

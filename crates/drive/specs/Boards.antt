@@ -1,17 +1,15 @@
 -- Boards fitted to a drive, of which the laws of change request 3 speak (proofs/Boards.antt).
-use Rattle.std.specs.Prelude.{ℕ, ◌≡◌, Bool, true, false, ◌&&◌, not, eqb}
+use Rattle.std.specs.Prelude.{ℕ, ◌≡◌, Bool, true, false, ◌&&◌, not, Some, eqb, Ok}
 use Rattle.drive_pins.specs.declared.Home.{Home}
-use Rattle.drive_pins.specs.declared.Home.TheVariants.{Nowhere, Only631, Others, SlotB, SlotC}
+use Rattle.drive_pins.specs.declared.Home.TheVariants.{Only631, Others, SlotB, SlotC}
 use Rattle.drive_pins.specs.Homes.{home_of}
 use Rattle.drive_pins.specs.declared.PinKind.{PinKind}
 use Rattle.drive.specs.Types.{takes_b, takes_c}
 use Rattle.drive.specs.Pins.{pin_of}
 use Rattle.drive.specs.declared.Drive.{Drive}
-use Rattle.drive.specs.declared.Presence.TheVariants.{Present}
 
 -- whether the home is a board, and one that the type may carry; board 0 is the empty slot
 abbrev pub may_carry : ℕ → Home → Bool
-may_carry t Nowhere = false
 may_carry t Only631 = false
 may_carry t Others = false
 may_carry t (SlotB b) = not (eqb b 0) && takes_b t b
@@ -23,7 +21,6 @@ with_boards d b c = record { model = d.model; b = b; c = c }
 
 -- the same type with that board in its slot, whatever was there, and the other slot as it was
 abbrev pub fitted : Drive → Home → Drive
-fitted d Nowhere = d
 fitted d Only631 = d
 fitted d Others = d
 fitted d (SlotB b) = with_boards d b d.c
@@ -36,10 +33,12 @@ pub record Carries (d : Drive) (b c : ℕ) : Type 0 where
 
 -- 23: the pin's home is a board that the type may carry; with that board fitted the drive has the pin, and as it is it has not
 pub record Missing (d : Drive) (kind : PinKind) (pin : ℕ) : Type 0 where
-  pub carried : may_carry d.model (home_of kind pin) ≡ true
-  pub bought : pin_of (fitted d (home_of kind pin)) kind pin ≡ Present
-  pub absent : pin_of d kind pin ≡ Present → ⊥
+  pub board : Home
+  pub has_it : home_of kind pin ≡ Some board
+  pub carried : may_carry d.model board ≡ true
+  pub bought : pin_of (fitted d board) kind pin ≡ Ok tt
+  pub absent : pin_of d kind pin ≡ Ok tt → ⊥
 
 -- 6: no boards that the type may carry bring the pin
 pub record NeverThere (d : Drive) (kind : PinKind) (pin : ℕ) : Type 0 where
-  pub none : (b c : ℕ) → Carries d b c → pin_of (with_boards d b c) kind pin ≡ Present → ⊥
+  pub none : (b c : ℕ) → Carries d b c → pin_of (with_boards d b c) kind pin ≡ Ok tt → ⊥

@@ -1,6 +1,13 @@
 -- Types of drives, their cycle lengths and the boards they may carry: document 01, "Drive and pins".
 -- Types: 0 is the 631, 1 the 635, 2 the 637, 3 the 637+, 4 the 637f.
-use Rattle.std.specs.Prelude.{ℕ, Bool, ◌&&◌, List, [], ◌∷◌, length, get_or, ltb, leb}
+use Rattle.std.specs.Prelude.{ℕ, Bool, ◌&&◌, List, [], ◌∷◌, length, get_or, ltb, leb, Result}
+use Rattle.drive.specs.declared.Slot.{Slot}
+use Rattle.drive.specs.declared.Slot.TheVariants.{B, C}
+use Rattle.drive.specs.declared.Absence.{Absence}
+
+-- whether a drive has a pin
+abbrev pub Presence : Type 0
+Presence = Result (Unit {0}) Absence
 
 -- how many types there are
 abbrev pub types : ℕ
@@ -29,6 +36,11 @@ slot_b = 0 ∷ 1 ∷ 4 ∷ []
 -- the same for slot C: 0 empty, 1 RP-EAE (not on a 631), 2 RP-SBT (type 4 only)
 abbrev pub slot_c : List ℕ
 slot_c = 0 ∷ 1 ∷ 4 ∷ []
+
+-- the least types of a slot's boards
+abbrev pub boards : Slot → List ℕ
+boards B = slot_b
+boards C = slot_c
 
 -- whether type t, one of the five, may carry board b, one of the slot's
 unfoldable pub takes : List ℕ → ℕ → ℕ → Bool

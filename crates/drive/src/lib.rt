@@ -2,23 +2,44 @@
 #![tactic(auto)]
 
 ghost use Rattle.std.specs.Prelude.{◌≡◌};
-ghost use Rattle.drive.specs.Types.{cycle_of, takes, takes_b, takes_c};
+ghost use Rattle.drive.specs.Types.{boards, cycle_of, takes};
 ghost use Rattle.drive.specs.Pins.{on_board, presence, pin_of};
 
 use drive_pins::{Home, PinKind};
 
+// The slots for option boards.
+#[derive(Clone, Copy, PartialEq, Eq)]
+pub enum Slot {
+    B,
+    C,
+}
+
+impl Slot {
+    // The least types of the slot's boards.
+    fn boards(self) -> [u32; 3]
+        ensures { result ≡ boards self }
+    {
+        match self {
+            Slot::B => Drive::SLOT_B,
+            Slot::C => Drive::SLOT_C,
+        }
+    }
+}
+
 // A drive as the header of an image names it: its model (document 01: type), and the numbers of the boards in its slots B and C.
-#[derive(Clone, Copy)]
+#[derive(Clone, Copy, PartialEq, Eq, Default)]
 pub struct Drive {
     pub model: u8,
     pub b: u8,
     pub c: u8,
 }
 
-// Whether a drive has a pin of a kind; if not, whether a board that its type may carry would bring it.
-#[derive(Clone, Copy)]
-pub enum Presence {
-    Present,
+// Whether a drive has a pin of a kind.
+pub type Presence = Result<(), Absence>;
+
+// Why it has not: a board that its type may carry would bring the pin, or nothing would.
+#[derive(Clone, Copy, PartialEq, Eq)]
+pub enum Absence {
     BoardMissing,
     Never,
 }
@@ -51,88 +72,74 @@ impl Drive {
     pub const SHORT_CYCLE: u32 = 844;
 
     // The cycle length in microseconds; 0 for a number that is no type.
+    #[tactic(auto, using(crate::proofs::TypesAndSlots::long_cycle, crate::proofs::TypesAndSlots::short_cycle, crate::proofs::TypesAndSlots::no_cycle))]
     pub fn cycle(self) -> u32
         ensures { result ≡ cycle_of self.model }
     {
-        let t = self.model;
-        match t {
-            0..=2 => Drive::LONG_CYCLE,
-            3..=4 => Drive::SHORT_CYCLE,
+        match self.model {
+            Drive::TYPE_631..=Drive::TYPE_637 => Drive::LONG_CYCLE,
+            Drive::TYPE_637_PLUS..=Drive::TYPE_637F => Drive::SHORT_CYCLE,
             _ => 0,
         }
     }
 
-    // Whether a type may have this board number in slot B.
-    pub fn takes_b(model: u32, board: u32) -> bool
-        ensures { result ≡ takes_b model board }
+    // Whether a type may have this board number in this slot.
+    #[tactic(auto, unfolding(crate::specs::Types::takes))]
+    pub fn takes(slot: Slot, model: u32, board: u32) -> bool
+        ensures { result ≡ takes (boards slot) model board }
     {
-        may_take(Drive::SLOT_B, model, board)
-    }
-
-    // Whether a type may have this board number in slot C.
-    pub fn takes_c(model: u32, board: u32) -> bool
-        ensures { result ≡ takes_c model board }
-    {
-        may_take(Drive::SLOT_C, model, board)
+        let least = slot.boards();
+        board < Drive::BOARDS && model < Drive::TYPES && least[board as usize] <= model
     }
 
     // Whether this drive has the pin, used in this way.
+    #[tactic(auto, unfolding(crate::specs::Pins::pin_of))]
     pub fn pin(self, kind: PinKind, pin: u8) -> Presence
         ensures { result ≡ pin_of self kind pin }
     {
-        found(self, drive_pins::home_of(kind, pin))
+        match drive_pins::home_of(kind, pin) {
+            Some(home) => found(self, home),
+            None => Err(Absence::Never),
+        }
     }
-}
-
-// Whether a type may carry a board of a slot, from the least types of the slot's boards.
-fn may_take(least: [u32; 3], model: u32, board: u32) -> bool
-    ensures { result ≡ takes least model board }
-{
-    if board >= Drive::BOARDS {
-        return false;
-    }
-    if model >= Drive::TYPES {
-        return false;
-    }
-    least[board as usize] <= model
 }
 
 // Whether a drive has what is at this home.
+#[tactic(auto, unfolding(crate::specs::Pins::presence))]
 fn found(d: Drive, home: Home) -> Presence
     ensures { result ≡ presence d home }
 {
-    let t = d.model;
+    let model = u32::from(d.model);
     match home {
-        Home::Nowhere => Presence::Never,
         Home::Only631 => {
-            if t == Drive::TYPE_631 {
-                return Presence::Present;
+            if d.model == Drive::TYPE_631 {
+                Ok(())
+            } else {
+                Err(Absence::Never)
             }
-            Presence::Never
         }
         Home::Others => {
-            if t == Drive::TYPE_631 {
-                return Presence::Never;
+            if d.model != Drive::TYPE_631 && model < Drive::TYPES {
+                Ok(())
+            } else {
+                Err(Absence::Never)
             }
-            if t as u32 >= Drive::TYPES {
-                return Presence::Never;
-            }
-            Presence::Present
         }
-        Home::SlotB(board) => on_board(Drive::takes_b(t as u32, board as u32), board, d.b),
-        Home::SlotC(board) => on_board(Drive::takes_c(t as u32, board as u32), board, d.c),
+        Home::SlotB(board) => on_board(Drive::takes(Slot::B, model, u32::from(board)), board, d.b),
+        Home::SlotC(board) => on_board(Drive::takes(Slot::C, model, u32::from(board)), board, d.c),
     }
 }
 
 // Whether a drive has the pins of a board: `could`, whether its type may carry the board; `slot`, the board that its slot holds.
+#[tactic(auto, unfolding(crate::specs::Pins::on_board))]
 fn on_board(could: bool, board: u8, slot: u8) -> Presence
     ensures { result ≡ on_board could board slot }
 {
     if !could {
-        return Presence::Never;
+        Err(Absence::Never)
+    } else if slot == board {
+        Ok(())
+    } else {
+        Err(Absence::BoardMissing)
     }
-    if slot == board {
-        return Presence::Present;
-    }
-    Presence::BoardMissing
 }

@@ -1,18 +1,16 @@
 -- Pins: document 01, "Drive and pins", row by row. A pin's home is the part that has it: the 631 itself, every other type itself, or a board.
-use Rattle.std.specs.Prelude.{ℕ, ◌&&◌, cond, List, [], ◌∷◌, get_or, leb}
+use Rattle.std.specs.Prelude.{ℕ, ◌&&◌, List, [], ◌∷◌, Option, leb}
+use Rattle.std.specs.List.{find}
+use Rattle.std.specs.Option.{option_map}
 use Rattle.drive_pins.specs.declared.Home.{Home}
-use Rattle.drive_pins.specs.declared.Home.TheVariants.{Nowhere, Only631, Others, SlotB, SlotC}
+use Rattle.drive_pins.specs.declared.Home.TheVariants.{Only631, Others, SlotB, SlotC}
 use Rattle.drive_pins.specs.declared.PinKind.{PinKind}
 use Rattle.drive_pins.specs.declared.PinKind.TheVariants.{Input, OutputWritten, OutputRead}
+use Rattle.drive_pins.specs.declared.PinRow.{PinRow}
 
--- the pins from `first` to `last` are at `home`
-pub record PinRow : Type 0 where
-  pub home : Home
-  pub first : ℕ
-  pub last : ℕ
-
+-- the pins from `a` to `b` are at `h`
 abbrev pub pin_row : Home → ℕ → ℕ → PinRow
-pin_row h a b = record { home = h; first = a; last = b }
+pin_row h a b = record { first = a; last = b; home = h }
 
 -- boards by their numbers
 abbrev pub rp_ea5 : Home
@@ -53,22 +51,10 @@ unfoldable pub outputs_read : List PinRow
 outputs_read = pin_row Others 8 8 ∷ outputs_written
 
 -- the home of a pin: that of the first row which has it
-unfoldable pub home_in : List PinRow → ℕ → Home
-home_in [] pin = Nowhere
-home_in (r ∷ rs) pin = cond (leb r.first pin && leb pin r.last) r.home (home_in rs pin)
+unfoldable pub home_in : List PinRow → ℕ → Option Home
+home_in rows pin = option_map (λ (r : PinRow). r.home) (find (λ (r : PinRow). leb r.first pin && leb pin r.last) rows)
 
-unfoldable pub home_of : PinKind → ℕ → Home
+unfoldable pub home_of : PinKind → ℕ → Option Home
 home_of Input pin = home_in inputs pin
 home_of OutputWritten pin = home_in outputs_written pin
 home_of OutputRead pin = home_in outputs_read pin
-
--- ---- how the code holds the rows: the first pin, the last pin and the number of the home of each
-
-unfoldable pub home_numbered : ℕ → Home
-home_numbered n = get_or (Nowhere ∷ Only631 ∷ Others ∷ rp_ea5 ∷ rp2c8 ∷ rp_eae ∷ rp_sbt ∷ []) n Nowhere
-
-unfoldable pub rows_of : List ℕ → List ℕ → List ℕ → List PinRow
-rows_of [] lasts homes = []
-rows_of (a ∷ firsts) [] homes = []
-rows_of (a ∷ firsts) (b ∷ lasts) [] = []
-rows_of (a ∷ firsts) (b ∷ lasts) (h ∷ homes) = pin_row (home_numbered h) a b ∷ rows_of firsts lasts homes

@@ -1,15 +1,14 @@
 -- What an action comes to, and the forms of actions: those of effects (machine, Effect), with what changes in the place of the values.
-use Rattle.std.specs.Prelude.{ℕ, Bool, ◌||◌, cond, List, [], ◌∷◌, get_or, ℤ, pos}
+use Rattle.std.specs.Prelude.{ℕ, Bool, ◌||◌, cond, List, get_or, ℤ, pos, Option, Some, None}
+use Rattle.std.specs.List.{find}
 use Rattle.limits.specs.Limits.{most_time}
 use Rattle.num_arith.specs.Ops.{eq_z}
-use Rattle.num_arith.specs.declared.Quotient.{Quotient}
-use Rattle.num_arith.specs.declared.Quotient.TheVariants.{Value, ByZero}
 use Rattle.command_operands.specs.declared.Command.{Command}
 use Rattle.state.specs.Change.{changed}
 use Rattle.state.specs.State.{first_axis}
 use Rattle.state.specs.declared.Axis.{Axis}
 use Rattle.state.specs.declared.Change.{Change}
-use Rattle.state.specs.declared.Change.TheVariants.{Nothing, Variable, Parameters, Mark}
+use Rattle.state.specs.declared.Change.TheVariants.{Variable, Parameters, Mark}
 use Rattle.state.specs.declared.Motion.{Motion}
 use Rattle.state.specs.declared.Notes.{Notes}
 use Rattle.state.specs.declared.Values.{Values}
@@ -21,10 +20,7 @@ use Rattle.machine.specs.declared.Effect.{Effect}
 use Rattle.machine.specs.declared.Outcome.{Outcome}
 use Rattle.machine.specs.declared.Outcome.TheVariants.{GoOn, Stay, Jump, Halt}
 use Rattle.machine.specs.declared.Request.{Request}
-use Rattle.machine.specs.declared.Request.TheVariants.{None}
 use Rattle.exec_action.specs.declared.Action.{Action}
-use Rattle.exec_action.specs.declared.Landing.{Landing}
-use Rattle.exec_action.specs.declared.Landing.TheVariants.{At, Nowhere}
 
 -- a variable's content
 abbrev pub content : List ℤ → ℕ → ℤ
@@ -39,12 +35,12 @@ abbrev pub acted : Action → Values → Effect
 acted a v = effect (changed a.change v) a.request a.outcome
 
 -- at most one change, a motion is asked for, and the task goes on
-abbrev pub asking : Change → Request → Action
-asking change m = record { change = change; request = m; outcome = GoOn }
+abbrev pub asking : Option Change → Request → Action
+asking change m = record { change = change; request = Some m; outcome = GoOn }
 
--- at most one change, and the task goes on
+-- one change, and the task goes on
 abbrev pub setting : Change → Action
-setting change = asking change None
+setting change = record { change = Some change; request = None; outcome = GoOn }
 
 -- a variable is set
 abbrev pub assigning : Command → ℤ → Action
@@ -52,7 +48,7 @@ assigning c z = setting (Variable c.x z)
 
 -- nothing changes but the task
 abbrev pub flowing : Outcome → Action
-flowing o = record { change = Nothing; request = None; outcome = o }
+flowing o = record { change = None; request = None; outcome = o }
 
 -- a jump where a condition holds
 abbrev pub jumping_if : Bool → ℕ → Action
@@ -63,13 +59,13 @@ abbrev pub halting : Cause → Action
 halting q = flowing (Halt q)
 
 -- a quotient; a zero divisor is 19
-abbrev pub dividing : Command → Quotient → Action
-dividing c (Value z) = assigning c z
-dividing c ByZero = halting ZeroDivisor
+abbrev pub dividing : Command → Option ℤ → Action
+dividing c (Some z) = assigning c z
+dividing c None = halting ZeroDivisor
 
 -- a move, which clears the start mark; it stays until it is started
 abbrev pub starting : Context → Motion → Notes → Request → Action
-starting g motion notes request = cond (started g motion notes) (asking (Mark 0) request) (flowing (Stay 0 0))
+starting g motion notes request = cond (started g motion notes) (asking (Some (Mark 0)) request) (flowing (Stay 0 0))
 
 -- a parameter is set to a content: 20 unless it is in range
 abbrev pub loading : ℕ → (ℕ → Axis → Axis) → ℤ → Axis → Action
@@ -80,10 +76,9 @@ abbrev pub waiting : Context → ℤ → Action
 waiting g content =
     cond (is_set g.time || within 0 most_time content) (flowing (waits (time_of g.drive.model (natural content)) g)) (halting BadContent)
 
--- the landing block of a list that a content names
-unfoldable pub landing_of : List ℕ → ℤ → Landing
-landing_of [] z = Nowhere
-landing_of (a ∷ landings) z = cond (eq_z z (pos a)) (At a) (landing_of landings z)
+-- the landing block of a list that a content names, if it names one
+unfoldable pub landing_of : List ℕ → ℤ → Option ℕ
+landing_of landings z = find (λ a. eq_z z (pos a)) landings
 
 -- on to the landing block that a content names, 22 unless it names one
 abbrev pub landing : List ℕ → (ℕ → Outcome) → ℤ → Action

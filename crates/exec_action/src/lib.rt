@@ -16,34 +16,30 @@ use state::Change;
 // request to the axis; and what becomes of its task.
 #[derive(Clone, Copy)]
 pub struct Action {
-    pub change: Change,
-    pub request: Request,
+    pub change: Option<Change>,
+    pub request: Option<Request>,
     pub outcome: Outcome,
 }
 
-// The landing block that a content names, if it names one.
-#[derive(Clone, Copy)]
-pub enum Landing {
-    At(u16),
-    Nowhere,
-}
-
 // At most one change, a motion is asked for, and the task goes on.
-pub fn asks(change: Change, request: Request) -> Action
+pub fn asks(change: Option<Change>, request: Request) -> Action
     ensures { result ≡ asking change request }
 {
     Action {
-        change: change,
-        request: request,
+        change,
+        request: Some(request),
         outcome: Outcome::GoOn,
     }
 }
 
-// At most one change, and the task goes on.
+// One change, and the task goes on.
 pub fn sets(change: Change) -> Action
     ensures { result ≡ setting change }
 {
-    asks(change, Request::None)
+    Action {
+        change: Some(change),
+        ..flows(Outcome::GoOn)
+    }
 }
 
 // Variable x of a command is set, and the task goes on.
@@ -58,9 +54,9 @@ pub fn flows(outcome: Outcome) -> Action
     ensures { result ≡ flowing outcome }
 {
     Action {
-        change: Change::Nothing,
-        request: Request::None,
-        outcome: outcome,
+        change: None,
+        request: None,
+        outcome,
     }
 }
 
@@ -68,11 +64,11 @@ pub fn flows(outcome: Outcome) -> Action
 pub fn jump_if(condition: bool, block: u16) -> Action
     ensures { result ≡ jumping_if condition block }
 {
-    if condition {
-        flows(Outcome::Jump(block))
+    flows(if condition {
+        Outcome::Jump(block)
     } else {
-        flows(Outcome::GoOn)
-    }
+        Outcome::GoOn
+    })
 }
 
 // A halt changes nothing.
@@ -86,14 +82,14 @@ pub fn halts(cause: Cause) -> Action
 pub fn content(variables: &[i32; CELLS], x: u8) -> i32
     ensures { result ≡ content variables.now x }
 {
-    variables[x as usize]
+    variables[usize::from(x)]
 }
 
 // A flag, or an output's level.
 pub fn level_of(levels: &[u8; CELLS], x: u8) -> u8
     ensures { result ≡ level_of levels.now x }
 {
-    levels[x as usize]
+    levels[usize::from(x)]
 }
 
 // The conditions of 61, 6E, 70 and 71: 0 equal, any other unequal.
@@ -107,26 +103,15 @@ pub fn compares(condition: u8, a: u8, b: u8) -> bool
 pub fn level(byte: u8) -> u8
     ensures { result ≡ level byte }
 {
-    if byte == 0 { 0 } else { 1 }
+    u8::from(byte != 0)
 }
 
-// The landing block that a content names.
-pub fn find_landing(content: i32, landings: &[u16]) -> Landing
+// The landing block that a content names, if it names one.
+pub fn find_landing(content: i32, landings: &[u16]) -> Option<u16>
     ensures { result ≡ landing_of landings.now content }
 {
-    let mut k: usize = 0;
-    while k < landings.len() {
-        if is_block(content, landings[k]) {
-            return Landing::At(landings[k]);
-        }
-        k += 1;
-    }
-    Landing::Nowhere
-}
-
-// Whether a content is the number of a block.
-fn is_block(content: i32, block: u16) -> bool
-    ensures { result ≡ eq_z content (pos block) }
-{
-    content == block as i32
+    landings
+        .iter()
+        .copied()
+        .find(|block| content == i32::from(*block))
 }

@@ -1,9 +1,9 @@
-// Commands of control (51 to 5B; 50 does nothing) and of mathematics (90): one function for each. They take what they read, and change
+// Commands of control (51 to 5B; 50 does nothing) and of mathematics (90): one function for each, and one for starts. They take what they read, and change
 // nothing but tasks.
 #![tactic(auto)]
 
 ghost use Rattle.std.specs.Prelude.{◌≡◌, cond, ◌*◌, ◌<◌, eqb};
-ghost use Rattle.limits.specs.Limits.{bias, plc, mathematics, most_time};
+ghost use Rattle.limits.specs.Limits.{bias, most_time};
 ghost use Rattle.state.specs.Wait.{due};
 ghost use Rattle.machine.specs.Effect.{within, natural, arrived, waits, time_of};
 ghost use Rattle.exec_action.specs.Action.{flowing, waiting, content, landing};
@@ -11,7 +11,7 @@ ghost use Rattle.machine.specs.declared.Outcome.TheVariants.{GoOn, Stay, Jump, C
 
 use command_operands::Command;
 use drive::Drive;
-use exec_action::{Action, Landing};
+use exec_action::Action;
 use limits::CELLS;
 use machine::{Cause, Context, Outcome};
 use state::Notes;
@@ -20,10 +20,11 @@ use state::Notes;
 pub fn end(c: Command) -> Action
     ensures { result ≡ flowing (cond (eqb c.x 0) Restart End) }
 {
-    if c.x == 0 {
-        return exec_action::flows(Outcome::Restart);
-    }
-    exec_action::flows(Outcome::End)
+    exec_action::flows(if c.x == 0 {
+        Outcome::Restart
+    } else {
+        Outcome::End
+    })
 }
 
 // 52: a call.
@@ -40,11 +41,11 @@ pub fn come_back() -> Action
     exec_action::flows(Outcome::Return)
 }
 
-// 54: the PLC is started.
-pub fn start_plc(c: Command) -> Action
-    ensures { result ≡ flowing (Start plc c.word) }
+// 54, 57 and 90: a task is started.
+pub fn start(task: u8, c: Command) -> Action
+    ensures { result ≡ flowing (Start task c.word) }
 {
-    exec_action::flows(Outcome::Start(limits::PLC, c.word))
+    exec_action::flows(Outcome::Start(task, c.word))
 }
 
 // 55: a jump.
@@ -58,17 +59,11 @@ pub fn jump(c: Command) -> Action
 pub fn jump_to_landing<'a>(c: Command, variables: &'a [i32; CELLS], landings: &'a [u16]) -> Action
     ensures { result ≡ landing landings.now Jump (content variables.now c.x) }
 {
-    match exec_action::find_landing(exec_action::content(variables, c.x), landings) {
-        Landing::At(block) => exec_action::flows(Outcome::Jump(block)),
-        Landing::Nowhere => exec_action::halts(Cause::NoLanding),
-    }
-}
-
-// 57: BIAS is started.
-pub fn start_bias(c: Command) -> Action
-    ensures { result ≡ flowing (Start bias c.word) }
-{
-    exec_action::flows(Outcome::Start(limits::BIAS, c.word))
+    let found = exec_action::find_landing(exec_action::content(variables, c.x), landings);
+    exec_action::flows(found.map_or(
+        Outcome::Halt(Cause::NoLanding),
+        |block| Outcome::Jump(block),
+    ))
 }
 
 // 58: on when the ramp has ended, the position is in the window and the preceding BIAS step, refused and halted ones apart, was no move.
@@ -86,7 +81,7 @@ pub fn wait(context: Context, c: Command) -> Action
     requires { context.turns < 4294967295 }
     ensures { result ≡ flowing (waits (2 * c.word) context) }
 {
-    exec_action::flows(waits(context, 2 * (c.word as u32)))
+    exec_action::flows(waits(context, 2 * u32::from(c.word)))
 }
 
 // 5A: a wait of so many ms as variable x holds, read at the first step.
@@ -109,10 +104,11 @@ pub fn start_bias_at_landing<'a>(
 ) -> Action
     ensures { result ≡ landing landings.now (Start bias) (content variables.now c.x) }
 {
-    match exec_action::find_landing(exec_action::content(variables, c.x), landings) {
-        Landing::At(block) => exec_action::flows(Outcome::Start(limits::BIAS, block)),
-        Landing::Nowhere => exec_action::halts(Cause::NoLanding),
-    }
+    let found = exec_action::find_landing(exec_action::content(variables, c.x), landings);
+    exec_action::flows(found.map_or(
+        Outcome::Halt(Cause::NoLanding),
+        |block| Outcome::Start(limits::BIAS, block),
+    ))
 }
 
 // A wait: a time is pending from the first step on, and each later step counts a turn.
@@ -147,7 +143,7 @@ fn is_time(content: i32) -> bool
 fn natural(content: i32) -> u32
     ensures { result ≡ natural content }
 {
-    if content < 0 { 0 } else { content as u32 }
+    u32::try_from(content).unwrap_or(0)
 }
 
 // The time of a content: types before the 637+ leave an odd millisecond out.
@@ -158,11 +154,4 @@ fn time_of(drive: Drive, content: u32) -> u32
         return content - content % 2;
     }
     content
-}
-
-// 90: mathematics is started.
-pub fn start_mathematics(c: Command) -> Action
-    ensures { result ≡ flowing (Start mathematics c.word) }
-{
-    exec_action::flows(Outcome::Start(limits::MATHEMATICS, c.word))
 }

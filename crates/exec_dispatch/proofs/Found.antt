@@ -1,13 +1,12 @@
 -- A `match` on a command's code finds the effect of its row: an arm is the row of its code, and a code of no arm is in no row. Where a command does one of two
 -- things, the effect of one of two actions is one of two effects.
+use Rattle.std.specs.Prelude.{Some, ℤ, Option, None}
 use Prim.Native.Nat.{ℕ}
 use mathlib.Core.Path.{◌≡◌, refl, sym, ap, ◌∙◌}
 use mathlib.Core.Bool.{Bool, true, false, ◌||◌, cond}
 use mathlib.Core.List.{List}
 use Rattle.limits.specs.Limits.{most_time}
 use Rattle.logic.proofs.Lookup.{NoRow, looked_past}
-use Rattle.num_arith.specs.declared.Quotient.{Quotient}
-use Rattle.num_arith.specs.declared.Quotient.TheVariants.{Value, ByZero}
 use Rattle.command_operands.specs.declared.Command.{Command}
 use Rattle.state.specs.State.{first_axis}
 use Rattle.state.specs.declared.Axis.{Axis}
@@ -27,10 +26,10 @@ either : (t : Bool) (a b : Action) (v : Values) → acted (cond t a b) v ≡ con
 either true a b v = refl
 either false a b v = refl
 
-quotient_acted : (c : Command) (q : Quotient) (v : Values) → acted (dividing c q) v ≡ divides c q v
+quotient_acted : (c : Command) (q : Option ℤ) (v : Values) → acted (dividing c q) v ≡ divides c q v
 unfolding divides
-quotient_acted c (Value z) v = refl
-quotient_acted c ByZero v = refl
+quotient_acted c (Some z) v = refl
+quotient_acted c None v = refl
 
 module _ (inputs ls : List ℕ) (g : Context) (c : Command) (v : Values) where
   -- an arm whose action a has the effect of the row of k
@@ -49,7 +48,7 @@ module _ (inputs ls : List ℕ) (g : Context) (c : Command) (v : Values) where
   -- arms that do one of two things
   pub found_move : (kind : Axis → Request) {k : ℕ} {r : Action} → c.code ≡ k → r ≡ starting g v.motion v.notes (kind v.motion.axis)
       → moves kind g c v ≡ effect_in (effect_rows inputs ls) k g c v → acted r v ≡ effect_of inputs ls g c v
-  found_move kind i e h = found i e (either (started g v.motion v.notes) (asking (Mark 0) (kind v.motion.axis)) (flowing (Stay 0 0)) v ∙ h)
+  found_move kind i e h = found i e (either (started g v.motion v.notes) (asking (Some (Mark 0)) (kind v.motion.axis)) (flowing (Stay 0 0)) v ∙ h)
 
   pub found_parameter : (most : ℕ) (put : ℕ → Axis → Axis) {k : ℕ} {r : Action} → c.code ≡ k → r ≡ loading most put (variable v c.x) v.motion.axis
       → parameter most put g c v ≡ effect_in (effect_rows inputs ls) k g c v → acted r v ≡ effect_of inputs ls g c v
@@ -65,7 +64,7 @@ module _ (inputs ls : List ℕ) (g : Context) (c : Command) (v : Values) where
       (either (is_set g.time || within 0 most_time (variable v c.x)) (flowing (waits (time_of g.drive.model (natural (variable v c.x))) g))
       (halting BadContent) v ∙ h)
 
-  pub found_quotient : (q : Quotient) {k : ℕ} {r : Action} → c.code ≡ k → r ≡ dividing c q → divides c q v ≡ effect_in (effect_rows inputs ls) k g c v
+  pub found_quotient : (q : Option ℤ) {k : ℕ} {r : Action} → c.code ≡ k → r ≡ dividing c q → divides c q v ≡ effect_in (effect_rows inputs ls) k g c v
       → acted r v ≡ effect_of inputs ls g c v
   found_quotient q i e h = found i e (quotient_acted c q v ∙ h)
 

@@ -1,4 +1,5 @@
 -- What the engine's functions share: truths twice negated, what a task has room for, and the step by its tests.
+use Rattle.std.specs.Prelude.{Ok, Err}
 use Prim.Native.Nat.{ℕ, ◌<◌, ◌≤◌}
 use mathlib.Core.Path.{◌≡◌, refl, sym, ap, ◌∙◌}
 use mathlib.Core.Bool.{Bool, true, false, ◌&&◌, ◌||◌, not, cond}
@@ -10,19 +11,22 @@ use lib.ListN.{length}
 use borrow.Author.Tests.{eq-eqb, ne_eqb, lt-ltb, le-ltb}
 use Rattle.limits.specs.Limits.{task_count, most_blocks, most_depth, inputs_length}
 use Rattle.logic.proofs.Choice.{clash, both}
-use Rattle.image_header.specs.Scan.{header_of, landings_of, blocks_of}
-use Rattle.image_header.specs.declared.Header.{Header}
+use Rattle.image_header.specs.Scan.{read_result, header_of, landings_of, blocks_of}
+use Rattle.image_header.specs.Rows.{same_header, same_landings}
+use Rattle.image_header.proofs.Read.{handed, refused}
 use Rattle.image_header.specs.declared.reader.HeaderRead.{HeaderRead}
+use Rattle.image_result.specs.declared.ImageFault.{ImageFault}
+use Rattle.image_header.specs.declared.Header.{Header}
 use Rattle.command_operands.specs.Operands.{command}
 use Rattle.command_operands.specs.declared.Command.{Command}
 use Rattle.command_operands.specs.Operands.{laid_out, operands}
 use Rattle.command_table.specs.Rows.{row_of}
 use Rattle.command_judge.specs.BlockFault.{row_fault, block_fault, block_fault_number}
-use Rattle.walk_flow.specs.Terms.{under, by_header}
+use Rattle.walk_flow.specs.Terms.{Terms, under, by_header}
 use Rattle.walk_flow.specs.Flow.{flow_of}
 use Rattle.walk_flow.specs.Permission.{permitted}
 use Rattle.walk_fault.specs.Fault.{fault_number}
-use Rattle.walk_fault.specs.declared.Fault.{Fault}
+use Rattle.walk_fault.specs.Fault.{FaultResult}
 use Rattle.walk_point.specs.PointFault.{fault_of}
 use Rattle.walk_point.specs.declared.Point.{Point}
 use Rattle.walk.specs.Blocks.{block_at, command_at, fault_at}
@@ -37,11 +41,11 @@ use Rattle.state.specs.declared.State.{State}
 use Rattle.machine.specs.Inputs.{Inputs}
 use Rattle.machine.specs.Engine.{point_of, refuse, fits, carried_out, task_step, step, is_loaded, block_fits, wait_fits, is_wait, terms_held}
 use Rattle.machine.specs.Effect.{is_set}
-use Rattle.machine.specs.declared.Answer.TheVariants.{Done, NoTask, Inputs as BadInputs, NotRunning, Differs}
-use Rattle.machine.specs.declared.Answer.{Answer}
+use Rattle.machine.specs.declared.NotDone.{NotDone}
+use Rattle.machine.specs.declared.NotDone.TheVariants.{NoTask, Inputs as BadInputs, NotRunning, Differs}
+use Rattle.machine.specs.Answers.{Answer}
 use Rattle.exec_step.specs.Readiness.{passes, ready_for}
-use Rattle.exec_step.specs.declared.Ready.{Ready}
-use Rattle.exec_step.specs.declared.Ready.TheVariants.{Refused, Carries}
+use Rattle.std.specs.Prelude.{Result, Ok, Err}
 
 pub not_not : (t : Bool) → t ≡ not (not t)
 not_not true = refl
@@ -83,13 +87,19 @@ same_fault h m c p = refl
 
 -- the three tests of 17 are those of the image, its header and its block
 pub fits_is : (image : List ℕ) (h : Header) (m : List ℕ) (t : ℕ) (task : Task) (r : HeaderRead) (l bs block : List ℕ) (i : Instruction) (p : Point) (x y z : Bool)
-    → r ≡ header_of image → l ≡ landings_of image → bs ≡ blocks_of image → block ≡ block_at bs task.block → i ≡ instruction_of block → p ≡ point_of t task
-    → x ≡ is_loaded r l (under h m) → y ≡ passes h block i.command p → z ≡ (not (is_set task.time) || is_wait i.command.code)
+    → read_result (header_of image) ≡ Ok r → l ≡ landings_of image → bs ≡ blocks_of image → block ≡ block_at bs task.block → i ≡ instruction_of block
+    → p ≡ point_of t task → x ≡ (same_header r.header h && same_landings h.landings l (under h m).landings) → y ≡ passes h block i.command p → z ≡ (not (is_set task.time) || is_wait i.command.code)
     → (x && (y && z)) ≡ fits image (under h m) t task
 unfolding fits fault_at command_at
 fits_is image h m t task r l bs block i p x y z e₁ e₂ e₃ e₄ e₅ e₆ e₇ e₈ e₉ =
-    let q = e₈ ∙ ap (λ (f : Fault). eqb (block_fault_number (block_fault h block)) 0 && eqb (fault_number f) 0) (same_fault h m i.command p) in
-    rw (e₇, q, e₉, e₆, e₅, e₄, e₃, e₂, e₁) refl
+    let q = e₈ ∙ ap (λ (f : FaultResult). eqb (block_fault_number (block_fault h block)) 0 && eqb (fault_number f) 0) (same_fault h m i.command p) in
+    let is = handed image r e₁ in
+    rw (e₇, q, e₉, e₆, e₅, e₄, e₃, e₂, is.header, is.result) refl
+
+-- an image that is refused is not the one that was loaded
+pub not_loaded : (image : List ℕ) (terms : Terms) (t : ℕ) (task : Task) (f : ImageFault) → read_result (header_of image) ≡ Err f → fits image terms t task ≡ false
+unfolding fits
+not_loaded image terms t task f e = rw (refused image f e) refl
 
 -- the command of the instruction is that of the block
 pub command_here : (image : List ℕ) (task : Task) (bs block : List ℕ) (i : Instruction) → bs ≡ blocks_of image → block ≡ block_at bs task.block
@@ -100,29 +110,29 @@ command_here image task bs block i e₂ e₃ e₄ = rw (e₄, e₃, e₂) refl
 -- ---- the step by what was found
 
 -- what stands against a step, and the command that it carries out, of what was found
-answer_of : Ready → Answer
-answer_of (Refused a) = a
-answer_of (Carries c) = Done
+answer_of : Result Command NotDone → Answer
+answer_of (Err a) = Err a
+answer_of (Ok _) = Ok tt
 
-command_of : Ready → Command
-command_of (Refused a) = command 0 0 0 0 0 (pos 0)
-command_of (Carries c) = c
+command_of : Result Command NotDone → Command
+command_of (Err a) = command 0 0 0 0 0 (pos 0)
+command_of (Ok c) = c
 
-carries : Ready → Bool
-carries (Refused a) = false
-carries (Carries c) = true
+carries : Result Command NotDone → Bool
+carries (Err a) = false
+carries (Ok c) = true
 
 -- and they say what the step is
 module _ (image : List ℕ) (s : State) (x : Inputs) (task : Task) where
   abbrev here : Command
   here = command_at (blocks_of image) task.block
 
-  pub refused_step : (a : Answer) → Refused a ≡ ready_for image (terms_held s) x.task task → task_step image s x task ≡ refuse s a
+  pub refused_step : (a : NotDone) → Err a ≡ ready_for image (terms_held s) x.task task → task_step image s x task ≡ refuse s (Err a)
   unfolding ready_for task_step answer_of carries
   refused_step a e = go (eqb task.status runs) (fits image (terms_held s) x.task task) e
     where
-      go : (t u : Bool) → Refused a ≡ cond t (cond u (Carries here) (Refused (Differs (point_of x.task task)))) (Refused NotRunning)
-          → cond t (cond u (carried_out (blocks_of image) s x task) (refuse s (Differs (point_of x.task task)))) (refuse s NotRunning) ≡ refuse s a
+      go : (t u : Bool) → Err a ≡ cond t (cond u (Ok here) (Err (Differs (point_of x.task task)))) (Err NotRunning)
+          → cond t (cond u (carried_out (blocks_of image) s x task) (refuse s (Err (Differs (point_of x.task task))))) (refuse s (Err NotRunning)) ≡ refuse s (Err a)
       go true true i = clash (sym (ap carries i))
       go true false i = ap (refuse s) (sym (ap answer_of i))
       go false u i = ap (refuse s) (sym (ap answer_of i))
@@ -133,12 +143,12 @@ module _ (image : List ℕ) (s : State) (x : Inputs) (task : Task) where
     pub fitting : block_fits (terms_held s) (blocks_of image) x.task task ≡ true
     pub step_is : task_step image s x task ≡ carried_out (blocks_of image) s x task
 
-  pub carried_step : (c : Command) → Carries c ≡ ready_for image (terms_held s) x.task task → Carried c
+  pub carried_step : (c : Command) → Ok c ≡ ready_for image (terms_held s) x.task task → Carried c
   unfolding ready_for task_step carries command_of fits
   carried_step c e = go (eqb task.status runs) (fits image (terms_held s) x.task task) refl refl e
     where
       go : (t u : Bool) → eqb task.status runs ≡ t → fits image (terms_held s) x.task task ≡ u
-          → Carries c ≡ cond t (cond u (Carries here) (Refused (Differs (point_of x.task task)))) (Refused NotRunning) → Carried c
+          → Ok c ≡ cond t (cond u (Ok here) (Err (Differs (point_of x.task task)))) (Err NotRunning) → Carried c
       go true true i j k = record {
         is = ap command_of k;
         fitting = (both (block_fits (terms_held s) (blocks_of image) x.task task) (wait_fits (blocks_of image) task) (both (is_loaded (header_of image) (landings_of image)
@@ -149,11 +159,11 @@ module _ (image : List ℕ) (s : State) (x : Inputs) (task : Task) where
       go false u i j k = clash (ap carries k)
 
 module _ (image : List ℕ) (s : State) (x : Inputs) where
-  pub no_task_lem : task_count ≤ x.task → refuse s (NoTask x.task) ≡ step image s x
+  pub no_task_lem : task_count ≤ x.task → refuse s (Err (NoTask x.task)) ≡ step image s x
   unfolding step
   no_task_lem l = rw (le-ltb x.task task_count l) refl
 
-  pub bad_inputs_lem : x.task < task_count → (length x.levels ≡ inputs_length → ⊥) → refuse s (BadInputs (length x.levels)) ≡ step image s x
+  pub bad_inputs_lem : x.task < task_count → (length x.levels ≡ inputs_length → ⊥) → refuse s (Err (BadInputs (length x.levels))) ≡ step image s x
   unfolding step
   bad_inputs_lem l n = rw (lt-ltb x.task task_count l, ne_eqb (length x.levels) inputs_length n) refl
 

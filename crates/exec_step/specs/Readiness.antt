@@ -1,5 +1,5 @@
 -- What stands against a step, or the command that it carries out; and what a command reads, by its parts.
-use Rattle.std.specs.Prelude.{ℕ, Bool, ◌&&◌, cond, List, eqb}
+use Rattle.std.specs.Prelude.{ℕ, Bool, ◌&&◌, cond, List, Result, Ok, Err, eqb}
 use Rattle.drive.specs.declared.Drive.{Drive}
 use Rattle.image_header.specs.Scan.{blocks_of}
 use Rattle.image_header.specs.declared.Header.{Header}
@@ -15,16 +15,15 @@ use Rattle.state.specs.declared.Task.{Task}
 use Rattle.machine.specs.Inputs.{level}
 use Rattle.machine.specs.Engine.{fits, point_of}
 use Rattle.machine.specs.declared.Context.{Context}
-use Rattle.machine.specs.declared.Answer.TheVariants.{NotRunning, Differs}
-use Rattle.exec_step.specs.declared.Ready.{Ready}
-use Rattle.exec_step.specs.declared.Ready.TheVariants.{Refused, Carries}
+use Rattle.machine.specs.declared.NotDone.{NotDone}
+use Rattle.machine.specs.declared.NotDone.TheVariants.{NotRunning, Differs}
 
 -- 18, then 17, then the command at the task's block
-unfoldable pub ready_for : List ℕ → Terms → ℕ → Task → Ready
+unfoldable pub ready_for : List ℕ → Terms → ℕ → Task → Result Command NotDone
 ready_for image terms t task =
     cond (eqb task.status runs)
-    (cond (fits image terms t task) (Carries (command_at (blocks_of image) task.block)) (Refused (Differs (point_of t task))))
-    (Refused NotRunning)
+    (cond (fits image terms t task) (Ok (command_at (blocks_of image) task.block)) (Err (Differs (point_of t task))))
+    (Err NotRunning)
 
 -- a block with the command c passes 5 to 8 and 23 by itself, and 9 to 12 at a point
 abbrev pub passes : Header → List ℕ → Command → Point → Bool

@@ -2,13 +2,14 @@
 // answer.
 #![tactic(auto)]
 
-ghost use Rattle.std.specs.Prelude.{◌≡◌, ◌||◌, not, ◌<◌};
+ghost use Rattle.std.specs.Prelude.{◌≡◌, ◌&&◌, ◌||◌, not, ◌<◌};
+ghost use Rattle.image_header.specs.Rows.{same_header, same_landings};
 ghost use Rattle.walk_flow.specs.Terms.{under};
 ghost use Rattle.walk_blocks.specs.Instructions.{instruction_of};
 ghost use Rattle.state.specs.Change.{cells_of, values_of};
 ghost use Rattle.exec_action.specs.Action.{acted};
 ghost use Rattle.machine.specs.Effect.{bit, is_set, effect_of};
-ghost use Rattle.machine.specs.Engine.{is_wait, is_loaded, is_move, moved_after, notes_after, answer_to, point_of};
+ghost use Rattle.machine.specs.Engine.{is_wait, is_move, moved_after, notes_after, answer_to, point_of};
 ghost use Rattle.exec_step.specs.Readiness.{context_with, passes, ready_for};
 
 use command_operands::Command;
@@ -17,17 +18,10 @@ use exec_action::Action;
 use image_header::reader::HeaderRead;
 use image_header::{Header, reader};
 use limits::{BLOCK_LENGTH, CELLS, MOST_LANDINGS};
-use machine::{Answer, Context, Outcome, Request};
+use machine::{Answer, Context, NotDone, Outcome, Request};
 use state::{Motion, Notes, Task};
 use walk_blocks::Instruction;
 use walk_point::Point;
-
-// What stands against a step, by 18 or 17, or the command that it carries out.
-#[derive(Clone, Copy)]
-pub enum Ready {
-    Refused(Answer),
-    Carries(Command),
-}
 
 // Where a task is.
 pub fn point_of(t: u8, task: Task) -> Point
@@ -44,7 +38,7 @@ pub fn point_of(t: u8, task: Task) -> Point
 fn is_wait(code: u8) -> bool
     ensures { result ≡ is_wait code }
 {
-    (code == 0x59) | (code == 0x5A)
+    matches!(code, 0x59 | 0x5A)
 }
 
 // The answer to a command that was carried out, or halted its task.
@@ -52,52 +46,36 @@ pub fn answer_to(outcome: Outcome, p: Point) -> Answer
     ensures { result ≡ answer_to outcome p }
 {
     match outcome {
-        Outcome::GoOn => Answer::Done,
-        Outcome::Stay(time, turns) => Answer::Done,
-        Outcome::Jump(a) => Answer::Done,
-        Outcome::Call(a) => Answer::Done,
-        Outcome::Return => Answer::Done,
-        Outcome::Start(u, a) => Answer::Done,
-        Outcome::Restart => Answer::Done,
-        Outcome::End => Answer::Done,
-        Outcome::Halt(cause) => Answer::Halted(cause, p),
+        Outcome::Halt(cause) => Err(NotDone::Halted(cause, p)),
+        _ => Ok(()),
     }
 }
 
 // Whether a request moves the axis, 1 or 0; a stop does not.
-fn move_of(request: Request) -> u8
+fn move_of(request: Option<Request>) -> u8
     ensures { result ≡ bit (is_move request) }
 {
-    match request {
-        Request::None => 0,
-        Request::MoveTo(axis) => 1,
-        Request::MoveBy(axis) => 1,
-        Request::Forward(axis) => 1,
-        Request::Backward(axis) => 1,
-        Request::Stop(mode, deceleration) => 0,
-    }
+    u8::from(!matches!(request, None | Some(Request::Stop(_, _))))
 }
 
 // The note of a move after a command; a halt leaves the one before.
-fn moved_after(outcome: Outcome, request: Request, before: u8) -> u8
+fn moved_after(outcome: Outcome, request: Option<Request>, before: u8) -> u8
     ensures { result ≡ moved_after outcome request before }
 {
-    let moved = move_of(request);
     match outcome {
-        Outcome::GoOn => moved,
-        Outcome::Stay(time, turns) => moved,
-        Outcome::Jump(a) => moved,
-        Outcome::Call(a) => moved,
-        Outcome::Return => moved,
-        Outcome::Start(u, a) => moved,
-        Outcome::Restart => moved,
-        Outcome::End => moved,
-        Outcome::Halt(cause) => before,
+        Outcome::Halt(_) => before,
+        _ => move_of(request),
     }
 }
 
 // The notes after a step: a BIAS step takes the start input's level and whether it carried out a move.
-pub fn notes_after(t: u8, start: u8, outcome: Outcome, request: Request, before: Notes) -> Notes
+pub fn notes_after(
+    t: u8,
+    start: u8,
+    outcome: Outcome,
+    request: Option<Request>,
+    before: Notes,
+) -> Notes
     ensures { result ≡ notes_after t start outcome request before }
 {
     if t != limits::BIAS {
@@ -109,32 +87,35 @@ pub fn notes_after(t: u8, start: u8, outcome: Outcome, request: Request, before:
     }
 }
 
-// 18, then 17, of the task t with this record, in a program that was loaded with this header and landing list: header, landing list, block and row are read
-// once.
+// The command that a step of the task t with this record carries out, or what stands against it: 18, then 17, in a program that was loaded with this header
+// and landing list. Header, landing list, block and row are read once.
 pub fn ready_for(
     image: &[u8],
     header: Header,
     landings: &[u16; MOST_LANDINGS],
     t: u8,
     task: Task,
-) -> Ready
+) -> Result<Command, NotDone>
     ensures { result ≡ ready_for image.now (under header landings.now) t task }
 {
     if task.status != state::RUNNING {
-        return Ready::Refused(Answer::NotRunning);
+        return Err(NotDone::NotRunning);
     }
-    let mut lent = [0u16; MOST_LANDINGS];
-    let read = reader::read(image, &mut lent);
+    let p = point_of(t, task);
+    let mut lent = [0; MOST_LANDINGS];
+    let read = match reader::read(image, &mut lent) {
+        Ok(read) => read,
+        Err(_) => return Err(NotDone::Differs(p)),
+    };
     let block = walk_blocks::block_at(reader::part_of(image, read), task.block);
     let i = walk_blocks::decode(block);
     let c = i.command;
-    let p = point_of(t, task);
     if !(is_loaded(read, &lent, header, landings)
         & (block_fits(header, block, i, p) & wait_fits(c.code, task.time)))
     {
-        return Ready::Refused(Answer::Differs(p));
+        return Err(NotDone::Differs(p));
     }
-    Ready::Carries(c)
+    Ok(c)
 }
 
 // Whether what was read of the lent image is this header and this landing list.
@@ -144,12 +125,10 @@ fn is_loaded<'a>(
     header: Header,
     landings: &'a [u16; MOST_LANDINGS],
 ) -> bool
-    ensures { result ≡ is_loaded read lent.now (under header landings.now) }
+    ensures { result
+        ≡ (same_header read.header header && same_landings header.landings lent.now (under header landings.now).landings) }
 {
-    let result = read.result;
-    result.is_done()
-        & (reader::same(read.header, header)
-            & reader::same_landings(header.landings, lent, landings))
+    reader::same(read.header, header) & reader::same_landings(header.landings, lent, landings)
 }
 
 // Whether a block, whose instruction this is, passes 5 to 8 and 23 by itself, and 9 to 12 at a point.
@@ -161,7 +140,7 @@ fn block_fits(header: Header, block: [u8; BLOCK_LENGTH], i: Instruction, p: Poin
     let c = i.command;
     let by_itself = command_judge::judge_read(row, header, block, c);
     let there = p.fault(header, row, c);
-    (by_itself.number() == 0) & (there.number() == 0)
+    by_itself.is_ok() & there.is_ok()
 }
 
 // Whether a pending wait stands at a wait.
@@ -194,12 +173,12 @@ pub fn action_of<'a>(
         (values_of (cells_of variables.now flags.now outputs.now) motion notes) }
 {
     let context = Context {
-        drive: drive,
+        drive,
         start: exec_action::level(start),
         ramp_ended: exec_action::level(ramp_ended),
         in_window: exec_action::level(in_window),
-        time: time,
-        turns: turns,
+        time,
+        turns,
     };
     exec_dispatch::perform(
         context, inputs, landings, c, variables, flags, outputs, motion, notes,

@@ -10,27 +10,29 @@ use limits::TASKS;
 use machine::Outcome;
 use state::Task;
 
-const TASK_COUNT: u8 = limits::TASK_COUNT as u8;
-
 // To a block, with no wait.
-fn go_to(b: u16, mut task: Task) -> Task
+fn go_to(b: u16, task: Task) -> Task
     ensures { result ≡ go_to b task }
 {
-    task.status = state::RUNNING;
-    task.block = b;
-    task.time = 0;
-    task.turns = 0;
-    task
+    Task {
+        status: state::RUNNING,
+        block: b,
+        time: 0,
+        turns: 0,
+        ..task
+    }
 }
 
 // At the same block, with a wait.
-fn stay_with(time: u32, turns: u32, mut task: Task) -> Task
+fn stay_with(time: u32, turns: u32, task: Task) -> Task
     ensures { result ≡ stay_with time turns task }
 {
-    task.status = state::RUNNING;
-    task.time = time;
-    task.turns = turns;
-    task
+    Task {
+        status: state::RUNNING,
+        time,
+        turns,
+        ..task
+    }
 }
 
 // A call: the block behind it goes on the call stack.
@@ -39,14 +41,9 @@ fn call_to(a: u16, mut task: Task) -> Task
     requires depth_in_range { task.depth < most_depth }
     ensures { result ≡ call_to a task }
 {
-    let depth = task.depth;
-    task.stack[depth as usize] = task.block + 1;
-    task.status = state::RUNNING;
-    task.block = a;
-    task.depth = depth + 1;
-    task.time = 0;
-    task.turns = 0;
-    task
+    task.stack[usize::from(task.depth)] = task.block + 1;
+    task.depth += 1;
+    go_to(a, task)
 }
 
 // A return: the last block comes off the stack, and its entry is cleared.
@@ -55,27 +52,22 @@ fn return_from(mut task: Task) -> Task
     requires depth_in_range { task.depth ≤ most_depth }
     ensures { result ≡ return_from task }
 {
-    let last = task.depth - 1;
-    let stack = task.stack;
-    let b = stack[last as usize];
-    task.stack[last as usize] = 0;
-    task.status = state::RUNNING;
-    task.block = b;
-    task.depth = last;
-    task.time = 0;
-    task.turns = 0;
-    task
+    task.depth -= 1;
+    let last = usize::from(task.depth);
+    let b = task.stack[last];
+    task.stack[last] = 0;
+    go_to(b, task)
 }
 
 // A task anew at a block; the start of BIAS stays the program start.
 fn start_anew(first: u16, u: u8, a: u16) -> Task
     ensures { result ≡ start_anew first u a }
 {
-    let mut task = Task::running(a);
-    if u == limits::BIAS {
-        task.start = first;
+    let start = if u == limits::BIAS { first } else { a };
+    Task {
+        start,
+        ..Task::running(a)
     }
-    task
 }
 
 // A task back at its start.
@@ -86,21 +78,24 @@ fn restarted(task: Task) -> Task
 }
 
 // A task that has ended or is halted.
-fn stopped(status: u8, mut task: Task) -> Task
+fn stopped(status: u8, task: Task) -> Task
     ensures { result ≡ stopped status task }
 {
-    task.status = status;
-    task.time = 0;
-    task.turns = 0;
-    task
+    Task {
+        status,
+        time: 0,
+        turns: 0,
+        ..task
+    }
 }
 
 // A task's record put in its place.
 fn put(mut tasks: [Task; TASKS], t: u8, task: Task) -> [Task; TASKS]
     ensures { result ≡ set tasks t task }
 {
-    if t < TASK_COUNT {
-        tasks[t as usize] = task;
+    let place = usize::from(t);
+    if place < TASKS {
+        tasks[place] = task;
     }
     tasks
 }
@@ -118,14 +113,11 @@ pub fn after(first: u16, t: u8, task: Task, outcome: Outcome, tasks: [Task; TASK
         Outcome::Call(a) => put(tasks, t, call_to(a, task)),
         Outcome::Return => put(tasks, t, return_from(task)),
         Outcome::Start(u, a) => {
-            put(
-                put(tasks, t, go_to(task.block + 1, task)),
-                u,
-                start_anew(first, u, a),
-            )
+            let tasks = put(tasks, t, go_to(task.block + 1, task));
+            put(tasks, u, start_anew(first, u, a))
         }
         Outcome::Restart => put(tasks, t, restarted(task)),
         Outcome::End => put(tasks, t, stopped(state::ENDED, task)),
-        Outcome::Halt(cause) => put(tasks, t, stopped(state::HALTED, task)),
+        Outcome::Halt(_) => put(tasks, t, stopped(state::HALTED, task)),
     }
 }

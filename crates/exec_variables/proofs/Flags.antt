@@ -1,6 +1,6 @@
 -- Flags as a number that is cut to w bits, flag by flag, from the last one down: it does not matter whether the number is cut once or after each
 -- flag.
-use Rattle.std.proofs.Common.{◌≡◌, ℕ, suc, ◌+◌, ◌-◌, ◌*◌, ◌%◌, ◌^◌, ◌<◌, ◌≤◌, List, get_or, pos, sym, refl, ap, ◌∙◌, arith}
+use Rattle.std.proofs.Common.{◌≡◌, ℕ, suc, ◌+◌, ◌-◌, ◌*◌, ◌%◌, ◌^◌, ◌<◌, ◌≤◌, List, get_or, pos, sym, ap, ◌∙◌, arith}
 use native.Mathlib.Nat.{zero-mod, mod-add-mod, add-mod-mod}
 use mir.Syntax.{Width}
 use mir.Val.{bits}
@@ -32,11 +32,3 @@ module _ (w : Width) (flags : List ℕ) (first count : ℕ) where
       let k : count - (left - 1) ≡ suc (count - left) = omega arith in
       let a : first + (left - 1) + 1 ≡ first + left = omega arith in
       rw (e, k, a) (cut_before (2 ^ bits w) (get_or flags (first + (left - 1)) 0) (flag_number flags (first + left) (count - left)))
-
-  -- all of them
-  pub all : (left number : ℕ) → left ≡ 0 → number ≡ word w (pos (flag_number flags (first + left) (count - left)))
-      → number ≡ word w (pos (flag_number flags first count))
-  all left number z e =
-      let a : first + left ≡ first = omega arith in
-      let k : count - left ≡ count = omega arith in
-      e ∙ rw (a, k) refl

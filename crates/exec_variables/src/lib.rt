@@ -1,7 +1,8 @@
-// Commands of variables (80 to 86, 88 to 8D): one function for each. They take what they read.
+// Commands of variables (80 to 86, 88 to 8D): one function for each, or for the operations with one kind of operand. They take what
+// they read.
 #![tactic(auto)]
 
-ghost use Rattle.std.specs.Prelude.{◌≡◌, ◌+◌, ◌*◌, pos, ◌+ℤ◌, ◌-ℤ◌, ◌*ℤ◌};
+ghost use Rattle.std.specs.Prelude.{◌≡◌, ◌+◌, ◌*◌, ℤ, pos};
 ghost use Rattle.std.specs.Int.{w32};
 ghost use Rattle.num_arith.specs.Wrap.{word, wrap};
 ghost use Rattle.num_arith.specs.Ops.{quotient, holds};
@@ -12,7 +13,6 @@ use command_operands::Command;
 use exec_action::Action;
 use limits::CELLS;
 use machine::Cause;
-use num_arith::Quotient;
 
 // 80: variable x = value.
 pub fn set_variable(c: Command) -> Action
@@ -31,43 +31,25 @@ pub fn jump_by_value(c: Command, variables: &[i32; CELLS]) -> Action
     )
 }
 
-// 82: variable x = variable y + value.
-pub fn add_value(c: Command, variables: &[i32; CELLS]) -> Action
-    ensures { result ≡ assigning c (wrap w32 (content variables.now c.y +ℤ c.value)) }
+// 82, 83 and 84: variable x = variable y, and an operation with value.
+pub fn with_value<F: Fn(i32, i32) -> i32>(
+    c: Command,
+    variables: &[i32; CELLS],
+    operation: F,
+) -> Action
+    requires { F.IsAlwaysCallable operation }
+    ensures { (z : ℤ) × F.post operation (content variables.now c.y) c.value z × (result ≡ assigning c z) }
 {
-    exec_action::assigns(
-        c,
-        num_arith::add(exec_action::content(variables, c.y), c.value),
-    )
-}
-
-// 83: variable x = variable y - value.
-pub fn sub_value(c: Command, variables: &[i32; CELLS]) -> Action
-    ensures { result ≡ assigning c (wrap w32 (content variables.now c.y -ℤ c.value)) }
-{
-    exec_action::assigns(
-        c,
-        num_arith::sub(exec_action::content(variables, c.y), c.value),
-    )
-}
-
-// 84: variable x = variable y * value.
-pub fn mul_value(c: Command, variables: &[i32; CELLS]) -> Action
-    ensures { result ≡ assigning c (wrap w32 (content variables.now c.y *ℤ c.value)) }
-{
-    exec_action::assigns(
-        c,
-        num_arith::mul(exec_action::content(variables, c.y), c.value),
-    )
+    exec_action::assigns(c, operation(exec_action::content(variables, c.y), c.value))
 }
 
 // A quotient is stored; a zero divisor halts.
-fn divide(c: Command, q: Quotient) -> Action
+fn divide(c: Command, q: Option<i32>) -> Action
     ensures { result ≡ dividing c q }
 {
     match q {
-        Quotient::Value(z) => exec_action::assigns(c, z),
-        Quotient::ByZero => exec_action::halts(Cause::ZeroDivisor),
+        Some(z) => exec_action::assigns(c, z),
+        None => exec_action::halts(Cause::ZeroDivisor),
     }
 }
 
@@ -102,43 +84,18 @@ pub fn jump_by_variable(c: Command, variables: &[i32; CELLS]) -> Action
     )
 }
 
-// 8A: variable x = variable y + variable z.
-pub fn add_variable(c: Command, variables: &[i32; CELLS]) -> Action
-    ensures { result ≡ assigning c (wrap w32 (content variables.now c.y +ℤ content variables.now c.z)) }
+// 8A, 8B and 8C: variable x = variable y, and an operation with variable z.
+pub fn with_variable<F: Fn(i32, i32) -> i32>(
+    c: Command,
+    variables: &[i32; CELLS],
+    operation: F,
+) -> Action
+    requires { F.IsAlwaysCallable operation }
+    ensures { (z : ℤ) × F.post operation (content variables.now c.y) (content variables.now c.z) z × (result ≡ assigning c z) }
 {
-    exec_action::assigns(
-        c,
-        num_arith::add(
-            exec_action::content(variables, c.y),
-            exec_action::content(variables, c.z),
-        ),
-    )
-}
-
-// 8B: variable x = variable y - variable z.
-pub fn sub_variable(c: Command, variables: &[i32; CELLS]) -> Action
-    ensures { result ≡ assigning c (wrap w32 (content variables.now c.y -ℤ content variables.now c.z)) }
-{
-    exec_action::assigns(
-        c,
-        num_arith::sub(
-            exec_action::content(variables, c.y),
-            exec_action::content(variables, c.z),
-        ),
-    )
-}
-
-// 8C: variable x = variable y * variable z.
-pub fn mul_variable(c: Command, variables: &[i32; CELLS]) -> Action
-    ensures { result ≡ assigning c (wrap w32 (content variables.now c.y *ℤ content variables.now c.z)) }
-{
-    exec_action::assigns(
-        c,
-        num_arith::mul(
-            exec_action::content(variables, c.y),
-            exec_action::content(variables, c.z),
-        ),
-    )
+    let y = exec_action::content(variables, c.y);
+    let z = exec_action::content(variables, c.z);
+    exec_action::assigns(c, operation(y, z))
 }
 
 // 8D: variable x = variable y / variable z.
@@ -166,10 +123,8 @@ fn flag_number(flags: &[u8; CELLS], first: u8, count: u8) -> u32
     ensures { result ≡ word w32 (pos (flag_number flags.now first count)) }
 {
     let mut number: u32 = 0;
-    let mut left = count as usize;
-    while left > 0 {
-        left -= 1;
-        number = with_flag(number, level_at(flags, first as usize + left));
+    for left in (0..usize::from(count)).rev() {
+        number = with_flag(number, level_at(flags, usize::from(first) + left));
     }
     number
 }
@@ -178,13 +133,13 @@ fn flag_number(flags: &[u8; CELLS], first: u8, count: u8) -> u32
 fn with_flag(number: u32, level: u8) -> u32
     ensures { result ≡ word w32 (pos (level + 2 * number)) }
 {
-    let twice = std::num::wrapping_add_u32(number, number);
-    std::num::wrapping_add_u32(twice, level as u32)
+    let twice = number.wrapping_add(number);
+    twice.wrapping_add(u32::from(level))
 }
 
 // A flag by its number; past the last one there is 0.
 fn level_at(flags: &[u8], at: usize) -> u8
     ensures { result ≡ level_of flags.now at }
 {
-    if at < flags.len() { flags[at] } else { 0 }
+    flags.get(at).copied().unwrap_or(0)
 }

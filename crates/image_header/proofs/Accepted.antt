@@ -11,10 +11,13 @@ use lib.Seq.{get_or-set_same, get_or-drop}
 use lib.Dec.{eqb, ltb}
 use borrow.Author.Count.{below_more}
 use borrow.Author.Tests.{eqb-true, eqb-false, eq-eqb, lt-ltb, le-ltb, le-leb}
+use Rattle.std.specs.Prelude.{Result, Ok, Err}
 use Rattle.image_result.specs.ImageResult.{done}
-use Rattle.image_result.specs.declared.ImageResult.{ImageResult}
+use Rattle.image_number.specs.Number.{read_as}
+use Rattle.image_number.specs.declared.NumberFault as fault
+use Rattle.image_result.specs.ImageResult.{ImageResult}
 use Rattle.image_number.specs.declared.Number.{Number}
-use Rattle.image_number.specs.declared.Number as number
+use Rattle.image_number.specs.declared.NumberFault.{NumberFault}
 use Rattle.logic.proofs.Choice.{by, test, either, first_way, clash}
 use Rattle.limits.specs.Limits.{most_landings}
 use Rattle.drive.specs.Types.{slot_b, slot_c}
@@ -22,11 +25,9 @@ use Rattle.drive.proofs.EveryDrive.{board_small}
 use Rattle.logic.proofs.Each.{all_pass}
 use Rattle.image_header.specs.Numbers.{header_from, Narrow}
 use Rattle.image_header.specs.GoodHeader.{GoodHeader, GoodLandings}
-use Rattle.image_header.specs.Rows.{most_of, header_count, landing_count_row, row_count, landings_from, landing_fits, stands, header_checked, checked, passed}
+use Rattle.image_header.specs.Rows.{most_of, header_count, landing_count_row, row_count, landings_from, landing_fits, stands, Check, header_checked, checked, passed}
 use Rattle.image_header.specs.Rows.{accepts, entry_fits, accepts_landings}
-use Rattle.image_header.specs.Scan.{Source, Scanned, with_number, out_of_range, unless_failed, judged, taken, scan}
-use Rattle.image_header.specs.declared.reader.Check.{Check}
-use Rattle.image_header.specs.declared.reader.Check.TheVariants.{Passes, Fails}
+use Rattle.image_header.specs.Scan.{Source, Scanned, with_number, out_of_range, unless_failed, fault_result, judged, taken, scan}
 use Rattle.image_header.proofs.Rows.{most_of_lem, accepted_good, landings_accepted, header_row, landing_row, header_stands, landing_stands, looks_back}
 use Rattle.image_header.proofs.Scanning.{stays, takes, value, scan_long, number_is, zero_past, stands_then}
 
@@ -41,26 +42,26 @@ module _ (n : ℕ) (source : Source) where
 
   -- number k stands where the scan was, and the scan went behind it
   abbrev pub Stood : ℕ → Type 0
-  Stood k = source k (place k) ≡ number.Number.Value (value n source k) (place (suc k))
+  Stood k = source k (place k) ≡ read_as (value n source k) (place (suc k))
 
   -- number k was accepted, or passed over
   pub record Went (k : ℕ) : Type 0 where
     pub before : done (scan n source k).result ≡ true
     pub stood : standing k ≡ true → Stood k
-    pub row : standing k ≡ true → checked k (scan n source (suc k)).numbers ≡ Passes
+    pub row : standing k ≡ true → checked k (scan n source (suc k)).numbers ≡ Ok tt
     pub over : standing k ≡ false → scan n source (suc k) ≡ scan n source k
 
   -- a row that let pass left the scan with the number with_number
   kept : (k v next : ℕ) (c : Check) → checked k (set (scan n source k).numbers k v) ≡ c
       → scan n source (suc k) ≡ unless_failed c (scan n source k) (with_number k (scan n source k) v next) → done (scan n source (suc k)).result ≡ true
-      → (c ≡ Passes) × (scan n source (suc k) ≡ with_number k (scan n source k) v next)
-  kept k v next Passes q e h = (refl, e)
-  kept k v next (Fails j) q e h = clash (sym h ∙ ap (λ (s : Scanned). done s.result) e ∙ no_done j _)
+      → (c ≡ Ok tt) × (scan n source (suc k) ≡ with_number k (scan n source k) v next)
+  kept k v next (Ok _) q e h = (refl, e)
+  kept k v next (Err j) q e h = clash (sym h ∙ ap (λ (s : Scanned). done s.result) e ∙ no_done j _)
     where
       no_done : (j p : ℕ) → done (out_of_range j p) ≡ false
       no_done j p = either (λ (o : ImageResult). done o ≡ false) (ltb j landing_count_row) refl refl
 
-  went_by : (k : ℕ) → k < row_count → (t u : Bool) → done (scan n source k).result ≡ t → standing k ≡ u → (x : Number) → source k (place k) ≡ x
+  went_by : (k : ℕ) → k < row_count → (t u : Bool) → done (scan n source k).result ≡ t → standing k ≡ u → (x : Result Number NumberFault) → source k (place k) ≡ x
       → done (scan n source (suc k)).result ≡ true → Went k
   unfolding scan taken judged
   went_by k l false u d e x g h =
@@ -68,22 +69,26 @@ module _ (n : ℕ) (source : Source) where
   went_by k l true false d e x g h =
       let s = scan n source k in
       record { before = d; stood = λ q. clash (sym q ∙ e); row = λ q. clash (sym q ∙ e); over = λ q. stays n source k s (rw (d, e)) }
-  went_by k l true true d e (number.Number.Value v next) g h =
+  went_by k l true true d e (Ok x) g h =
       let s = scan n source k in
-      let r = kept k v next (checked k (set s.numbers k v)) refl (takes n source k s (rw (d, e)) (number.Number.Value v next) g) h in
+      let v = x.value in
+      let next = x.next in
+      let r = kept k v next (checked k (set s.numbers k v)) refl (takes n source k s (rw (d, e)) (Ok x) g) h in
       let numbers : (scan n source (suc k)).numbers ≡ set s.numbers k v = ap (λ (x : Scanned). x.numbers) r.1 in
       let long = scan_long n source k in
       let same : v ≡ value n source k = sym (ap (λ (x : List ℕ). get_or x k 0) numbers ∙ get_or-set_same s.numbers k v 0 (omega arith)) in
       record {
         before = d;
-        stood = λ _. g ∙ (λ ι. number.Number.Value (same ι) (sym (ap (λ (x : Scanned). x.at) r.1) ι));
+        stood = λ _. g ∙ (λ ι. read_as (same ι) (sym (ap (λ (x : Scanned). x.at) r.1) ι));
         row = λ _. ap (checked k) numbers ∙ r.0;
         over = λ q. clash (sym e ∙ q);
       }
-  went_by k l true true d e number.Number.EndsEarly g h =
-      clash (sym h ∙ ap (λ (s : Scanned). done s.result) (takes n source k (scan n source k) (rw (d, e)) number.Number.EndsEarly g))
-  went_by k l true true d e number.Number.NotShortest g h =
-      clash (sym h ∙ ap (λ (s : Scanned). done s.result) (takes n source k (scan n source k) (rw (d, e)) number.Number.NotShortest g))
+  went_by k l true true d e (Err f) g h =
+      clash (sym h ∙ ap (λ (s : Scanned). done s.result) (takes n source k (scan n source k) (rw (d, e)) (Err f) g) ∙ faulty f)
+    where
+      faulty : (f : NumberFault) → done (fault_result f n (scan n source k).at) ≡ false
+      faulty fault.NumberFault.EndsEarly = refl
+      faulty fault.NumberFault.NotShortest = refl
 
   -- so was each before it
   pub went : (k : ℕ) → k ≤ row_count → done (scan n source k).result ≡ true → (j : ℕ) → j < k → Went j
@@ -121,7 +126,7 @@ module _ (n : ℕ) (source : Source) where
         ∙ zero_past n source k k (omega arith)
 
     -- a row that let pass when its number was read lets all of them pass
-    row_passes : (row : ℕ) → row < row_count → stands row all ≡ true → checked row all ≡ Passes
+    row_passes : (row : ℕ) → row < row_count → stands row all ≡ true → checked row all ≡ Ok tt
     row_passes row l e =
         looks_back all (scan n source (suc row)).numbers row
         (λ k u. number_is n source row_count k (omega arith) ∙ sym (number_is n source (suc row) k (omega arith)))

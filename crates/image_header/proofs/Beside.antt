@@ -1,4 +1,5 @@
 -- What the code holds of a scan, the header's numbers in a struct and the landing blocks in an array beside it, goes on as the scan does.
+use Rattle.std.specs.Prelude.{Ok, Err}
 use mathlib.Core.Path.{◌≡◌, refl, sym, ap, ◌∙◌, subst}
 use mathlib.Core.Bool.{Bool, true, false, ◌&&◌, ◌||◌, cond}
 use mathlib.Core.List.{List, [], ◌∷◌, ◌++◌}
@@ -11,18 +12,17 @@ use lib.Dec.{eqb, ltb}
 use borrow.Author.Tests.{ltb-false, eq-eqb, ne_eqb, lt-ltb, le-ltb}
 use Rattle.logic.proofs.Choice.{by}
 use Rattle.limits.specs.Limits.{most_landings}
+use Rattle.std.specs.Prelude.{Result, Ok, Err}
 use Rattle.image_result.specs.ImageResult.{done}
-use Rattle.image_result.specs.declared.ImageResult.TheVariants.{Done, BadLanding}
+use Rattle.image_result.specs.declared.ImageFault.TheVariants.{BadLanding}
 use Rattle.image_number.specs.Number.{number_bytes}
 use Rattle.image_number.specs.declared.Number.{Number}
-use Rattle.image_number.specs.declared.Number as number
+use Rattle.image_number.specs.declared.NumberFault.{NumberFault}
 use Rattle.image_header.specs.Numbers.{header_from, Narrow}
 use Rattle.image_header.specs.GoodHeader.{GoodHeader}
-use Rattle.image_header.specs.Rows.{header_count, landing_count_row, row_count, landings_from, landing_fits, stands, checked}
+use Rattle.image_header.specs.Rows.{header_count, landing_count_row, row_count, landings_from, landing_fits, stands, Check, checked}
 use Rattle.image_header.specs.Scan.{Source, Scanned, stopped, with_number, stands_at, out_of_range, unless_failed, judged, taken, more, scan}
 use Rattle.image_header.specs.Scan.{read_with, closed, beside, alone}
-use Rattle.image_header.specs.declared.reader.Check.{Check}
-use Rattle.image_header.specs.declared.reader.Check.TheVariants.{Passes, Fails}
 use Rattle.image_header.specs.declared.reader.Scan.{Scan}
 use Rattle.image_header.proofs.Numbers.{same_numbers}
 use Rattle.image_header.proofs.Rows.{landing_row, landing_stands, looks_back, stands_back, header_row, blames}
@@ -36,10 +36,10 @@ abbrev pub with : Scanned → List ℕ → Scanned
 with s l = record { result = s.result; numbers = s.numbers ++ l; at = s.at }
 
 module _ (l : List ℕ) where
-  unless_with : (c : Check) (s t : Scanned) → ((k : ℕ) → c ≡ Fails k → stands_at (t.numbers ++ l) k ≡ stands_at t.numbers k)
+  unless_with : (c : Check) (s t : Scanned) → ((k : ℕ) → c ≡ Err k → stands_at (t.numbers ++ l) k ≡ stands_at t.numbers k)
       → unless_failed c (with s l) (with t l) ≡ with (unless_failed c s t) l
-  unless_with Passes s t e = refl
-  unless_with (Fails k) s t e = ap (λ (p : ℕ). stopped (out_of_range k p) (with s l)) (e k refl)
+  unless_with (Ok _) s t e = refl
+  unless_with (Err k) s t e = ap (λ (p : ℕ). stopped (out_of_range k p) (with s l)) (e k refl)
 
   module _ (ns : List ℕ) (long : length ns ≡ header_count) where
     -- the header's numbers stand at the front
@@ -70,11 +70,10 @@ module _ (l : List ℕ) where
         (unless_with (checked row ns) s (with_number row s v next)
         (λ k q. front_place ns m k (let b = blames (header_from ns) row k (sym (header_row row ns u) ∙ q) in omega arith)))
 
-    taken_with : (n : ℕ) (x : Number) → taken n row (with s l) x ≡ with (taken n row s x) l
+    taken_with : (n : ℕ) (x : Result Number NumberFault) → taken n row (with s l) x ≡ with (taken n row s x) l
     unfolding taken
-    taken_with n (number.Number.Value v next) = judged_with v next
-    taken_with n number.Number.EndsEarly = refl
-    taken_with n number.Number.NotShortest = refl
+    taken_with n (Ok x) = judged_with x.value x.next
+    taken_with n (Err f) = refl
 
     more_with : (n : ℕ) (source : Source) → more n source row (with s l) ≡ with (more n source row s) l
     unfolding more
@@ -119,7 +118,7 @@ module _ (ns : List ℕ) (long : length ns ≡ header_count) (l : List ℕ) (i :
   behind_stands : stands (header_count + i) (ns ++ l) ≡ ltb i (get_or ns landing_count_row 0)
   behind_stands = front_stands l ns long (header_count + i) ∙ landing_stands i ns
 
-  behind_checked : checked (header_count + i) (ns ++ l) ≡ cond (landing_fits (get_or ns 5 0) l i) Passes (Fails (header_count + i))
+  behind_checked : checked (header_count + i) (ns ++ l) ≡ cond (landing_fits (get_or ns 5 0) l i) (Ok tt) (Err (header_count + i))
   behind_checked = landing_row i (ns ++ l) ∙ rw (front_number l ns long 5 (omega arith), drop_at ns l header_count long)
 
 -- the bytes of the first j landing blocks
@@ -157,18 +156,18 @@ fits_told count l i v before t u b e = fits_beside count l i v u ∙ rw (e, b)
 
 module _ (s : Scan) (long : length s.numbers ≡ header_count) (l : List ℕ) (i v next : ℕ) where
   pub landing_passes : landing_fits (get_or s.numbers 5 0) (set l i v) i ≡ true
-      → judged (header_count + i) (beside s l) v next ≡ record { result = Done; numbers = s.numbers ++ set l i v; at = next }
+      → judged (header_count + i) (beside s l) v next ≡ record { result = Ok tt; numbers = s.numbers ++ set l i v; at = next }
   unfolding judged
   landing_passes e = rw (behind_set s.numbers long l i v, behind_checked s.numbers long (set l i v) i, e)
 
   pub landing_fails : landing_fits (get_or s.numbers 5 0) (set l i v) i ≡ false
-      → judged (header_count + i) (beside s l) v next ≡ stopped (BadLanding (stands_at (s.numbers ++ l) (header_count + i))) (beside s l)
+      → judged (header_count + i) (beside s l) v next ≡ stopped (Err (BadLanding (stands_at (s.numbers ++ l) (header_count + i)))) (beside s l)
   unfolding judged
   landing_fails e =
       let p : stands_at (set (s.numbers ++ l) (header_count + i) v) (header_count + i) ≡ stands_at (s.numbers ++ l) (header_count + i) =
       same_place (set (s.numbers ++ l) (header_count + i) v) (s.numbers ++ l) (header_count + i)
       (λ j u. get_or-set_other (s.numbers ++ l) (header_count + i) j v 0 (λ q. absurd (omega arith))) in
-      let c : checked (header_count + i) (set (s.numbers ++ l) (header_count + i) v) ≡ Fails (header_count + i) =
+      let c : checked (header_count + i) (set (s.numbers ++ l) (header_count + i) v) ≡ Err (header_count + i) =
       ap (checked (header_count + i)) (behind_set s.numbers long l i v) ∙ behind_checked s.numbers long (set l i v) i ∙ rw e in
       rw (c, p, le-ltb (header_count + i) landing_count_row (omega arith))
 

@@ -1,3 +1,4 @@
+pub mod Each
 pub mod Numbers
 pub mod Rows
 pub mod Scanning

@@ -13,12 +13,13 @@ use borrow.Author.Tests.{ltb-false, eqb-false, lt-ltb, le-ltb}
 use Rattle.limits.specs.Limits.{most_blocks, block_length}
 use Rattle.drive.specs.Types.{slot_b, slot_c}
 use Rattle.drive.proofs.EveryDrive.{board_small}
+use Rattle.std.specs.Prelude.{Result, Ok, Err}
 use Rattle.image_result.specs.ImageResult.{done}
 use Rattle.logic.proofs.Choice as choice
 use Rattle.logic.proofs.Choice.{by}
 use Rattle.image_number.specs.Number.{number_limit, second_byte, first_byte, number_at}
 use Rattle.image_number.specs.declared.Number.{Number}
-use Rattle.image_number.specs.declared.Number as number
+use Rattle.image_number.specs.declared.NumberFault.{NumberFault}
 use Rattle.image_header.specs.Numbers.{header_from}
 use Rattle.image_header.specs.GoodHeader.{GoodHeader, GoodLandings}
 use Rattle.image_header.specs.Rows.{header_count, row_count, landings_from, stands}
@@ -30,10 +31,9 @@ use Rattle.image_header.proofs.Accepted.{place, Accepted, accepted_header}
 use Rattle.image_header.proofs.Read.{read_fine}
 
 -- a number takes no more bytes than one that is as great or greater may
-abbrev pub Sized : ℕ → Number → Type 0
-Sized at (number.Number.Value v next) = (most : ℕ) → v ≤ most → next ≤ at + size_up_to most
-Sized at number.Number.EndsEarly = Unit {0}
-Sized at number.Number.NotShortest = Unit {0}
+abbrev pub Sized : ℕ → Result Number NumberFault → Type 0
+Sized at (Ok x) = (most : ℕ) → x.value ≤ most → x.next ≤ at + size_up_to most
+Sized at (Err f) = Unit {0}
 
 -- one byte is never too many, and two are not from 128 on
 pub one_byte : (at most : ℕ) → at + 1 ≤ at + size_up_to most
@@ -42,7 +42,7 @@ one_byte at most = choice.either (λ (n : ℕ). at + 1 ≤ at + n) (ltb most 128
 pub two_bytes : (at v most : ℕ) → 128 ≤ v → v ≤ most → at + 2 ≤ at + size_up_to most
 two_bytes at v most l h = let e = le-ltb most 128 (omega arith) in rw e (omega arith)
 
-either : (P : Number → Type 0) (t : Bool) (a b : Number) → (t ≡ true → P a) → (t ≡ false → P b) → P (cond t a b)
+either : (P : Result Number NumberFault → Type 0) (t : Bool) (a b : Result Number NumberFault) → (t ≡ true → P a) → (t ≡ false → P b) → P (cond t a b)
 either P true a b f g = f refl
 either P false a b f g = g refl
 

@@ -8,8 +8,7 @@ use lib.ListN.{length, get_or, set}
 use lib.Seq.{get_or-set_other}
 use Rattle.logic.proofs.Choice.{test}
 use Rattle.image_result.specs.ImageResult.{done}
-use Rattle.image_number.specs.Number.{number_bytes}
-use Rattle.image_number.specs.declared.Number as number
+use Rattle.image_number.specs.Number.{number_bytes, read_as}
 use Rattle.image_number.proofs.RoundTrip.{number_only}
 use Rattle.image_header.specs.Rows.{row_count}
 use Rattle.image_header.specs.Scan.{Source, Scanned, from_image, stands_at, scan}
@@ -18,7 +17,7 @@ use Rattle.image_header.proofs.Accepted.{place, standing, went}
 
 -- a source whose numbers are in their shortest form
 abbrev pub Shortest : Source → Type 0
-Shortest source = (row at v next : ℕ) → source row at ≡ number.Number.Value v next → next ≡ at + length (number_bytes v)
+Shortest source = (row at v next : ℕ) → source row at ≡ read_as v next → next ≡ at + length (number_bytes v)
 
 pub image_shortest : (image : List ℕ) → ((k : ℕ) → get_or image k 0 < 256) → Shortest (from_image image)
 image_shortest image bytes row at v next e = (number_only image at v next (bytes at) e).next

@@ -10,6 +10,7 @@ use lib.ListN.{length, get_or, get_or-eq_default}
 use lib.Seq.{get_or-drop}
 use lib.Dec.{eqb, ltb, leb}
 use borrow.Author.Tests.{eqb-true, ltb-true, leb-true, eq-eqb, ne_eqb, lt-ltb, le-ltb, le-leb}
+use Rattle.std.specs.Prelude.{Ok, Err}
 use Rattle.logic.specs.Each.{each_below}
 use Rattle.logic.proofs.Each.{each_passes, all_pass}
 use Rattle.limits.specs.Limits.{most_blocks, most_landings}
@@ -19,11 +20,9 @@ use Rattle.image_header.specs.Numbers.{header_from}
 use Rattle.image_header.specs.GoodHeader.{GoodHeader, GoodLandings}
 use Rattle.image_header.specs.Rows as rows
 use Rattle.image_header.specs.Rows.{format1, format2, most_of, format_fits, type_fits, slot_b_fits, slot_c_fits, count_fits, start_fits, landing_count_fits}
-use Rattle.image_header.specs.Rows.{landing_fits, Test, header_count, landing_count_row, landings_from, stands, check, header_checked, checked, passed, accepts}
+use Rattle.image_header.specs.Rows.{landing_fits, Test, header_count, landing_count_row, landings_from, stands, Check, check, header_checked, checked, passed, accepts}
 use Rattle.image_header.specs.Rows.{entry_fits, accepts_landings}
 use Rattle.image_header.specs.declared.Header.{Header}
-use Rattle.image_header.specs.declared.reader.Check.{Check}
-use Rattle.image_header.specs.declared.reader.Check.TheVariants.{Passes, Fails}
 
 -- ---- one test
 
@@ -35,9 +34,9 @@ held t ts h e = go (t.fits h) refl
     go true q = (q, rw q at e)
     go false q = clash (sym (rw q at e))
 
-pub is_passed : (c : Check) → passed c ≡ true → c ≡ Passes
-is_passed Passes e = refl
-is_passed (Fails k) e = clash (sym e)
+pub is_passed : (c : Check) → passed c ≡ true → c ≡ Ok tt
+is_passed (Ok _) e = refl
+is_passed (Err k) e = clash (sym e)
 
 -- no format has more landing blocks than the most
 pub most_of_lem : (format : ℕ) → most_of format ≤ most_landings
@@ -156,7 +155,7 @@ pub header_row : (row : ℕ) (ns : List ℕ) → row < header_count → checked 
 unfolding checked
 header_row row ns l = rw (lt-ltb row header_count l)
 
-pub landing_row : (i : ℕ) (ns : List ℕ) → checked (header_count + i) ns ≡ cond (landing_fits (get_or ns 5 0) (landings_from ns) i) Passes (Fails (header_count + i))
+pub landing_row : (i : ℕ) (ns : List ℕ) → checked (header_count + i) ns ≡ cond (landing_fits (get_or ns 5 0) (landings_from ns) i) (Ok tt) (Err (header_count + i))
 unfolding checked
 landing_row i ns = let q : header_count + i - header_count ≡ i = omega arith in rw (le-ltb (header_count + i) header_count (omega arith), q)
 
@@ -202,7 +201,7 @@ module _ (ns ms : List ℕ) where
       (λ l.
       let q : row ≡ header_count + (row - header_count) = omega arith in
       let b = landing_back (row - header_count) (λ k u. s k (omega arith)) in
-      rw q (landing_row (row - header_count) ns ∙ ap (λ (t : Bool). cond t Passes (Fails (header_count + (row - header_count)))) b
+      rw q (landing_row (row - header_count) ns ∙ ap (λ (t : Bool). cond t (Ok tt) (Err (header_count + (row - header_count)))) b
       ∙ sym (landing_row (row - header_count) ms)))
 
   -- and whether a number stands is told by those of the header before it
@@ -218,22 +217,22 @@ module _ (ns ms : List ℕ) where
 -- ---- a row of a header blames no number behind its own
 
 -- one test
-blames_one : (t : Bool) (c : Check) (j n : ℕ) → j ≤ n → ((k : ℕ) → c ≡ Fails k → k ≤ n) → (k : ℕ) → cond t c (Fails j) ≡ Fails k → k ≤ n
+blames_one : (t : Bool) (c : Check) (j n : ℕ) → j ≤ n → ((k : ℕ) → c ≡ Err k → k ≤ n) → (k : ℕ) → cond t c (Err j) ≡ Err k → k ≤ n
 blames_one true c j n l f k e = f k e
 blames_one false c j n l f k e = let q : j ≡ k = cc in omega arith
 
-no_blame : (n k : ℕ) → Passes ≡ Fails k → k ≤ n
+no_blame : (n k : ℕ) → ◌≡◌ {A = Check} (Ok tt) (Err k) → k ≤ n
 no_blame n k e = clash (ap passed e)
 
 module _ (h : Header) where
-  pub blames : (row k : ℕ) → header_checked row h ≡ Fails k → k ≤ row
+  pub blames : (row k : ℕ) → header_checked row h ≡ Err k → k ≤ row
   unfolding header_checked
-  blames zero k e = blames_one (format_fits h) Passes 0 0 (omega arith) (no_blame 0) k e
-  blames (suc zero) k e = blames_one (type_fits h) Passes 1 1 (omega arith) (no_blame 1) k e
-  blames (suc (suc zero)) k e = blames_one (slot_b_fits h) Passes 2 2 (omega arith) (no_blame 2) k e
-  blames (suc (suc (suc zero))) k e = blames_one (slot_c_fits h) Passes 3 3 (omega arith) (no_blame 3) k e
+  blames zero k e = blames_one (format_fits h) (Ok tt) 0 0 (omega arith) (no_blame 0) k e
+  blames (suc zero) k e = blames_one (type_fits h) (Ok tt) 1 1 (omega arith) (no_blame 1) k e
+  blames (suc (suc zero)) k e = blames_one (slot_b_fits h) (Ok tt) 2 2 (omega arith) (no_blame 2) k e
+  blames (suc (suc (suc zero))) k e = blames_one (slot_c_fits h) (Ok tt) 3 3 (omega arith) (no_blame 3) k e
   blames (suc (suc (suc (suc zero)))) k e = no_blame 4 k e
   blames (suc (suc (suc (suc (suc zero))))) k e =
-      blames_one (count_fits h) (cond (start_fits h) Passes (Fails 4)) 5 5 (omega arith) (blames_one (start_fits h) Passes 4 5 (omega arith) (no_blame 5)) k e
-  blames (suc (suc (suc (suc (suc (suc zero)))))) k e = blames_one (landing_count_fits h) Passes 6 6 (omega arith) (no_blame 6) k e
+      blames_one (count_fits h) (cond (start_fits h) (Ok tt) (Err 4)) 5 5 (omega arith) (blames_one (start_fits h) (Ok tt) 4 5 (omega arith) (no_blame 5)) k e
+  blames (suc (suc (suc (suc (suc (suc zero)))))) k e = blames_one (landing_count_fits h) (Ok tt) 6 6 (omega arith) (no_blame 6) k e
   blames (suc (suc (suc (suc (suc (suc (suc row))))))) k e = no_blame _ k e

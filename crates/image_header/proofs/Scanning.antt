@@ -9,15 +9,14 @@ use lib.Dec.{eqb, ltb}
 use Prim.Native.Nat.{ℕ, zero, suc, ◌+◌, ◌*◌, ◌<◌, ◌≤◌}
 use native.Mathlib.Numerals.{add-one}
 use borrow.Author.Count.{below_more}
+use Rattle.std.specs.Prelude.{Result, Ok, Err}
 use Rattle.image_result.specs.ImageResult.{done}
 use Rattle.image_number.specs.Number.{number_at, first_byte, second_byte}
 use Rattle.image_number.specs.declared.Number.{Number}
-use Rattle.image_number.specs.declared.Number as number
+use Rattle.image_number.specs.declared.NumberFault.{NumberFault}
 use Rattle.logic.proofs.Choice.{by, either}
-use Rattle.image_header.specs.Rows.{row_count, stands, checked}
+use Rattle.image_header.specs.Rows.{row_count, stands, Check, checked}
 use Rattle.image_header.specs.Scan.{Source, Scanned, from_image, with_number, stands_at, unless_failed, judged, taken, more, scan}
-use Rattle.image_header.specs.declared.reader.Check.{Check}
-use Rattle.image_header.specs.declared.reader.Check.TheVariants.{Passes, Fails}
 use Rattle.image_header.proofs.Rows.{stands_back}
 
 module _ (n : ℕ) (source : Source) (row : ℕ) (s : Scanned) where
@@ -27,7 +26,7 @@ module _ (n : ℕ) (source : Source) (row : ℕ) (s : Scanned) where
   stays h = rw h
 
   -- else the number that stands there is taken
-  pub takes : (done s.result && stands row s.numbers) ≡ true → (x : Number) → source row s.at ≡ x → more n source row s ≡ taken n row s x
+  pub takes : (done s.result && stands row s.numbers) ≡ true → (x : Result Number NumberFault) → source row s.at ≡ x → more n source row s ≡ taken n row s x
   unfolding more
   takes h x e = rw (h, e)
 
@@ -48,22 +47,20 @@ same_place ns ms (suc k) e =
 -- ---- a number takes at most two bytes, so a scan of k numbers is at most 2 * k bytes on
 
 -- the place behind a number
-abbrev pub Near : ℕ → Number → Type 0
-Near at (number.Number.Value v next) = next ≤ at + 2
-Near at number.Number.EndsEarly = Unit {0}
-Near at number.Number.NotShortest = Unit {0}
+abbrev pub Near : ℕ → Result Number NumberFault → Type 0
+Near at (Ok x) = x.next ≤ at + 2
+Near at (Err f) = Unit {0}
 
 -- a row leaves the scan at the next place, or where it was
 unless_near : (c : Check) (s t : Scanned) (m : ℕ) → s.at ≤ m → t.at ≤ m → (unless_failed c s t).at ≤ m
-unless_near Passes s t m h k = k
-unless_near (Fails j) s t m h k = h
+unless_near (Ok _) s t m h k = k
+unless_near (Err j) s t m h k = h
 
-taken_near : (n row : ℕ) (s : Scanned) (x : Number) (m : ℕ) → Near s.at x → s.at + 2 ≤ m → (taken n row s x).at ≤ m
+taken_near : (n row : ℕ) (s : Scanned) (x : Result Number NumberFault) (m : ℕ) → Near s.at x → s.at + 2 ≤ m → (taken n row s x).at ≤ m
 unfolding taken judged
-taken_near n row s (number.Number.Value v next) m h k =
-    unless_near (checked row (set s.numbers row v)) s (with_number row s v next) m (omega arith) (omega arith)
-taken_near n row s number.Number.EndsEarly m h k = omega arith
-taken_near n row s number.Number.NotShortest m h k = omega arith
+taken_near n row s (Ok x) m h k =
+    unless_near (checked row (set s.numbers row x.value)) s (with_number row s x.value x.next) m (omega arith) (omega arith)
+taken_near n row s (Err f) m h k = omega arith
 
 more_near : (n : ℕ) (source : Source) (row : ℕ) (s : Scanned) (m : ℕ) → ((row at : ℕ) → Near at (source row at)) → s.at + 2 ≤ m
     → (more n source row s).at ≤ m
@@ -101,14 +98,13 @@ set_differs : (row v next : ℕ) (s : Scanned) → Differs row s (with_number ro
 set_differs row v next s = let l = set s.numbers row v in sym (set-get_or l row 0) ∙ set-set s.numbers row v (get_or l row 0)
 
 unless_differs : (c : Check) (row v next : ℕ) (s : Scanned) → Differs row s (unless_failed c s (with_number row s v next))
-unless_differs Passes row v next s = set_differs row v next s
-unless_differs (Fails k) row v next s = same_differs row s (unless_failed (Fails k) s (with_number row s v next)) refl
+unless_differs (Ok _) row v next s = set_differs row v next s
+unless_differs (Err k) row v next s = same_differs row s (unless_failed (Err k) s (with_number row s v next)) refl
 
-taken_differs : (n row : ℕ) (s : Scanned) (x : Number) → Differs row s (taken n row s x)
+taken_differs : (n row : ℕ) (s : Scanned) (x : Result Number NumberFault) → Differs row s (taken n row s x)
 unfolding taken judged
-taken_differs n row s (number.Number.Value v next) = unless_differs (checked row (set s.numbers row v)) row v next s
-taken_differs n row s number.Number.EndsEarly = same_differs row s (taken n row s number.Number.EndsEarly) refl
-taken_differs n row s number.Number.NotShortest = same_differs row s (taken n row s number.Number.NotShortest) refl
+taken_differs n row s (Ok x) = unless_differs (checked row (set s.numbers row x.value)) row x.value x.next s
+taken_differs n row s (Err f) = same_differs row s (taken n row s (Err f)) refl
 
 more_differs : (n : ℕ) (source : Source) (row : ℕ) (s : Scanned) → Differs row s (more n source row s)
 unfolding more

@@ -1,13 +1,11 @@
 -- The numbers of an image judged (document 01, "The image" and refusal 3; change request 1, refusal 21): in which formats each stands, what must hold of it,
 -- and when it is asked.
-use Rattle.std.specs.Prelude.{ℕ, ◌+◌, ◌-◌, Bool, true, false, ◌&&◌, ◌||◌, not, cond, List, [], ◌∷◌, length, get_or, drop, eqb, ltb, leb}
+use Rattle.std.specs.Prelude.{ℕ, ◌+◌, ◌-◌, Bool, ◌&&◌, ◌||◌, not, cond, List, [], ◌∷◌, length, get_or, drop, eqb, ltb, leb, is_ok, Result, Ok, Err}
 use Rattle.logic.specs.Each.{each_below}
 use Rattle.limits.specs.Limits.{most_blocks, most_landings, up_to}
 use Rattle.drive.specs.Types.{types, takes_b, takes_c}
 use Rattle.image_header.specs.Numbers.{numbers_of, header_from}
 use Rattle.image_header.specs.declared.Header.{Header}
-use Rattle.image_header.specs.declared.reader.Check.{Check}
-use Rattle.image_header.specs.declared.reader.Check.TheVariants.{Passes, Fails}
 
 -- the formats: 2 has a landing count and landing blocks behind the block count
 abbrev pub format1 : ℕ
@@ -92,10 +90,14 @@ unfoldable pub stands : ℕ → List ℕ → Bool
 stands k ns =
     cond (ltb k header_count) (not (eqb k landing_count_row) || eqb (header_from ns).format format2) (ltb (k - header_count) (header_from ns).landings)
 
+-- what a row finds: nothing wrong, or which number is out of range
+abbrev pub Check : Type 0
+Check = Result (Unit {0}) ℕ
+
 -- the first test that does not hold
 abbrev pub check : List Test → Header → Check
-check [] h = Passes
-check (t ∷ ts) h = cond (t.fits h) (check ts h) (Fails t.number)
+check [] h = Ok tt
+check (t ∷ ts) h = cond (t.fits h) (check ts h) (Err t.number)
 
 -- what the row of a header's number finds
 unfoldable pub header_checked : ℕ → Header → Check
@@ -105,14 +107,13 @@ header_checked row h = check (get_or header_rows row []) h
 unfoldable pub checked : ℕ → List ℕ → Check
 checked row ns =
     cond (ltb row header_count) (header_checked row (header_from ns))
-    (cond (landing_fits (header_from ns).count (landings_from ns) (row - header_count)) Passes (Fails row))
+    (cond (landing_fits (header_from ns).count (landings_from ns) (row - header_count)) (Ok tt) (Err row))
 
 -- ---- a header and a landing list that load accepts: each row lets them pass
 
 -- nothing is wrong
 abbrev pub passed : Check → Bool
-passed Passes = true
-passed (Fails k) = false
+passed c = is_ok c
 
 -- so do the first n
 abbrev pub first_pass : ℕ → Header → Bool

@@ -7,7 +7,7 @@ use drive::Drive;
 pub mod reader;
 
 // The header of an image.
-#[derive(Clone, Copy)]
+#[derive(Clone, Copy, Default, PartialEq, Eq)]
 pub struct Header {
     pub format: u8,
     pub drive: Drive,

@@ -6,23 +6,25 @@ use Prim.Native.Nat.{ℕ, zero, suc, ◌+◌, ◌-◌, ◌*◌, ◌/◌, ◌%◌
 use native.Mathlib.Omega.{arith}
 use mathlib.Core.List.{List, [], ◌∷◌}
 use lib.ListN.{length, get_or}
-use Rattle.image_number.specs.Number.{number_limit, number_bytes, number_at, Readable}
+use Rattle.image_number.specs.Number.{number_limit, number_bytes, number_at, read_as, Readable}
+use Rattle.std.specs.Prelude.{Result, Err}
 use Rattle.image_number.specs.declared.Number.{Number}
+use Rattle.image_number.specs.declared.NumberFault.{NumberFault}
 use Rattle.logic.proofs.Choice.{by}
 use Rattle.logic.proofs.Has.{Has, whole, head, tail, nil, cons}
 use Rattle.image_number.proofs.Numbers as numbers
-use Rattle.image_number.proofs.Numbers.{one, two, short_one, cut, more, zero_high, big_high, good_high}
+use Rattle.image_number.proofs.Numbers.{value_of, next_of, one, two, short_one, cut, more, zero_high, big_high, good_high}
 
 -- a list that has the bytes of v at index at
 module _ (s : List ℕ) (at v : ℕ) (small : v < number_limit) (has : Has s at (number_bytes v)) (room : at + length (number_bytes v) ≤ length s) where
-  back_one : v < 128 → number_at s at ≡ Number.Value v (at + length (number_bytes v))
+  back_one : v < 128 → number_at s at ≡ read_as v (at + length (number_bytes v))
   back_one h =
       let e = one v h in
       let r : at + 1 ≤ length s = rw e at room in
       let g : get_or s at 0 ≡ v = head (rw e at has) in
       rw e (sym (short_one s at v (sym g) (omega arith) h))
 
-  back_two : 128 ≤ v → number_at s at ≡ Number.Value v (at + length (number_bytes v))
+  back_two : 128 ≤ v → number_at s at ≡ read_as v (at + length (number_bytes v))
   back_two h =
       let e = two v h in
       let r : at + 2 ≤ length s = rw e at room in
@@ -32,9 +34,9 @@ module _ (s : List ℕ) (at v : ℕ) (small : v < number_limit) (has : Has s at 
       let q : 128 + v % 128 - 128 + 128 * (v / 128) ≡ v = omega arith in
       rw e (sym (more s at (128 + v % 128) (sym g) (v / 128) (sym k) (omega arith) (omega arith))
       ∙ sym (good_high at (128 + v % 128) (v / 128) (λ z. omega arith) (omega arith))
-      ∙ ap (λ (n : ℕ). Number.Value n (at + 2)) q)
+      ∙ ap (λ (n : ℕ). read_as n (at + 2)) q)
 
-  pub number_back : number_at s at ≡ Number.Value v (at + length (number_bytes v))
+  pub number_back : number_at s at ≡ read_as v (at + length (number_bytes v))
   number_back = by v 128 back_one back_two
 
 -- the bytes of v stand at index at of s, with n behind them
@@ -44,26 +46,24 @@ pub record There (s : List ℕ) (at v n : ℕ) : Type 0 where
   pub next : n ≡ at + length (number_bytes v)
   pub room : n ≤ length s
 
-clash : {P : Type 0} {v n : ℕ} (r : Number) → r ≡ Number.Value v n → r ≡ Number.EndsEarly → P
+-- where a number is read, there is no fault
+clash : {P : Type 0} {v n : ℕ} {f : NumberFault} (r : Result Number NumberFault) → r ≡ read_as v n → r ≡ Err f → P
 clash r p q = let z : ◌≡◌ {A = ℕ} 0 1 = cc in absurd (omega arith)
 
-clash_long : {P : Type 0} {v n : ℕ} (r : Number) → r ≡ Number.Value v n → r ≡ Number.NotShortest → P
-clash_long r p q = let z : ◌≡◌ {A = ℕ} 0 1 = cc in absurd (omega arith)
-
-module _ (s : List ℕ) (at v n : ℕ) (byte : get_or s at 0 < 256) (read : number_at s at ≡ Number.Value v n) where
+module _ (s : List ℕ) (at v n : ℕ) (byte : get_or s at 0 < 256) (read : number_at s at ≡ read_as v n) where
   there_one : at < length s → get_or s at 0 < 128 → There s at v n
   there_one h l =
       let e = short_one s at (get_or s at 0) refl h l in
-      let p : get_or s at 0 ≡ v = cc in
-      let q : at + 1 ≡ n = cc in
+      let p = value_of (e ∙ read) in
+      let q = next_of (e ∙ read) in
       let w = one v (omega arith) in
       record { has = rw w (cons p nil); small = omega arith; next = rw w (sym q); room = omega arith }
 
   there_two : at + 1 < length s → 128 ≤ get_or s at 0 → (get_or s (at + 1) 0 ≡ 0 → ⊥) → get_or s (at + 1) 0 < 128 → There s at v n
   there_two h l z k =
       let e = good_high at (get_or s at 0) (get_or s (at + 1) 0) z k ∙ more s at (get_or s at 0) refl (get_or s (at + 1) 0) refl l h in
-      let p : get_or s at 0 - 128 + 128 * get_or s (at + 1) 0 ≡ v = cc in
-      let q : at + 2 ≡ n = cc in
+      let p = value_of (e ∙ read) in
+      let q = next_of (e ∙ read) in
       let w = two v (omega arith) in
       record { has = rw w (cons (omega arith) (cons (omega arith) nil)); small = omega arith; next = rw w (sym q); room = omega arith }
 
@@ -75,8 +75,8 @@ module _ (s : List ℕ) (at v n : ℕ) (byte : get_or s at 0 < 256) (read : numb
       (λ k. let m = more s at (get_or s at 0) refl (get_or s (at + 1) 0) refl l k in
       by 0 (get_or s (at + 1) 0)
       (λ z. by (get_or s (at + 1) 0) 128 (there_two k l (λ e. omega arith))
-      (λ g. clash_long (number_at s at) read (sym (big_high at (get_or s at 0) (get_or s (at + 1) 0) g ∙ m))))
-      (λ z. clash_long (number_at s at) read (sym (zero_high at (get_or s at 0) (get_or s (at + 1) 0) (omega arith) ∙ m))))
+      (λ g. clash (number_at s at) read (sym (big_high at (get_or s at 0) (get_or s (at + 1) 0) g ∙ m))))
+      (λ z. clash (number_at s at) read (sym (zero_high at (get_or s at 0) (get_or s (at + 1) 0) (omega arith) ∙ m))))
       (λ k. clash (number_at s at) read (sym (cut s at (get_or s at 0) refl h l k)))))
       (λ h. clash (number_at s at) read (sym (numbers.none s at h)))
 

@@ -1,16 +1,11 @@
--- A result that is no refusal is Done.
+-- A result that is no refusal is Ok.
+use Rattle.std.specs.Prelude.{Ok, Err}
 use mathlib.Core.Path.{◌≡◌, refl, sym}
 use mathlib.Core.Bool.{true}
 use Rattle.logic.proofs.Choice.{clash}
 use Rattle.image_result.specs.ImageResult.{done}
-use Rattle.image_result.specs.declared.ImageResult.{ImageResult}
-use Rattle.image_result.specs.declared.ImageResult.TheVariants.{Done, EndsEarly, NotShortest, OutOfRange, LeftOver, NoRoom, BadLanding}
+use Rattle.image_result.specs.ImageResult.{ImageResult}
 
-pub is_done : (o : ImageResult) → done o ≡ true → o ≡ Done
-is_done Done e = refl
-is_done (EndsEarly p) e = clash (sym e)
-is_done (NotShortest p) e = clash (sym e)
-is_done (OutOfRange p) e = clash (sym e)
-is_done (LeftOver p) e = clash (sym e)
-is_done (NoRoom p) e = clash (sym e)
-is_done (BadLanding p) e = clash (sym e)
+pub is_done : (o : ImageResult) → done o ≡ true → o ≡ Ok tt
+is_done (Ok _) e = refl
+is_done (Err f) e = clash (sym e)

@@ -1,5 +1,6 @@
 -- Numbers that the writer's judging let pass: they are those that the scan holds, each that stands has a form of one or two bytes, and they stand one after the
 -- other.
+use Rattle.std.specs.Prelude.{Ok, Err}
 use mathlib.Core.Path.{◌≡◌, refl, sym, ap, ◌∙◌}
 use mathlib.Core.Bool.{Bool, true, false, ◌||◌, cond}
 use mathlib.Core.Logic.{◌⊎◌, inl, inr}
@@ -11,9 +12,8 @@ use lib.Dec.{eqb, ltb}
 use borrow.Author.Tests.{ltb-false, le-ltb, eqb-true, eqb-false, eq-eqb, ne_eqb}
 use Rattle.limits.specs.Limits.{most_landings, block_length}
 use Rattle.image_result.specs.ImageResult.{done}
-use Rattle.image_result.specs.declared.ImageResult.TheVariants.{Done, OutOfRange, BadLanding}
-use Rattle.image_result.specs.declared.ImageResult.{ImageResult}
-use Rattle.image_number.specs.declared.Number as number
+use Rattle.image_result.specs.declared.ImageFault.TheVariants.{OutOfRange, BadLanding}
+use Rattle.image_result.specs.ImageResult.{ImageResult}
 use Rattle.image_header.specs.Rows.{header_count, landing_count_row, row_count, stands}
 use Rattle.image_header.specs.Scan.{Scanned, scan_begun, stopped, scan, most_header_bytes, scanned_header, first_refusal, beside, alone}
 use Rattle.image_header.specs.declared.reader.Scan.{Scan}
@@ -21,6 +21,7 @@ use Rattle.image_writer.specs.Writer.{given_numbers, HaveForms, first_numbers, i
 use Rattle.image_writer.specs.Writer.{landings_stand, judged_for, written, out_after}
 use Rattle.image_writer.specs.declared.Written.{Written}
 use Rattle.logic.proofs.Choice.{clash, test, or_is, either, first_way, other_way}
+use Rattle.image_number.proofs.Numbers.{value_of, next_of}
 use Rattle.image_header.proofs.Rows.{header_stands, stands_back}
 use Rattle.image_header.proofs.Scanning.{number_is, scan_long, at_most}
 use Rattle.image_header.proofs.Accepted.{place, Accepted, accepted_header}
@@ -28,12 +29,6 @@ use Rattle.image_header.proofs.Beside.{with, header_long, front_number, front_st
 use Rattle.image_header.proofs.Longest.{number_small}
 use Rattle.image_header.proofs.Read.{neither, both_pass}
 use Rattle.image_writer.proofs.HeaderBytes.{one_more, image_length, given_near}
-
-value_of : {v w a b : ℕ} → number.Number.Value v a ≡ number.Number.Value w b → v ≡ w
-value_of e = cc
-
-next_of : {v w a b : ℕ} → number.Number.Value v a ≡ number.Number.Value w b → a ≡ b
-next_of e = cc
 
 -- each landing block that is given has its place
 abbrev pub LandingsStand : List ℕ → Type 0
@@ -116,10 +111,10 @@ module _ (format : ℕ) (numbers : List ℕ) where
       (sym (ap (λ (x : Scanned). done x.result) a.1) ∙ h) in
       record { own = eqb-true (get_or numbers 0 0) format a.0; stand = b.0; is = a.1 ∙ b.1 }
     where
-      never : (o : ImageResult) (p : ℕ) → done (first_refusal o (BadLanding p)) ≡ false
+      never : (o : ImageResult) (p : ℕ) → done (first_refusal o (Err (BadLanding p))) ≡ false
       never o p = go (done o) refl
         where
-          go : (t : Bool) → done o ≡ t → done (first_refusal o (BadLanding p)) ≡ false
+          go : (t : Bool) → done o ≡ t → done (first_refusal o (Err (BadLanding p))) ≡ false
           go true e = rw e
           go false e = rw e e
 
@@ -128,7 +123,7 @@ module _ (format : ℕ) (numbers : List ℕ) where
   passed_judged e t = rw (eq-eqb (get_or numbers 0 0) format e, t)
 
   -- the code's way to it: another format is refused; else the scan is that of the numbers, unless a landing block has no place
-  pub other_format : (get_or numbers 0 0 ≡ format → ⊥) → judged_for format numbers ≡ stopped (OutOfRange 0) scan_begun
+  pub other_format : (get_or numbers 0 0 ≡ format → ⊥) → judged_for format numbers ≡ stopped (Err (OutOfRange 0)) scan_begun
   unfolding judged_for
   other_format n = rw (ne_eqb (get_or numbers 0 0) format n)
 
@@ -146,7 +141,7 @@ stand_beside ns ws l long s r e =
     (ap (λ (t : Scanned). with t l) e ∙ go (stands landing_count_row ns || eqb (get_or ns landing_count_row 0) 0))
   where
     o : ImageResult
-    o = first_refusal s.result (BadLanding s.at)
+    o = first_refusal s.result (Err (BadLanding s.at))
 
     go : (t : Bool) → with (cond t (alone s) (stopped o (alone s))) l ≡ cond t (beside s l) (stopped o (beside s l))
     go true = refl
@@ -188,7 +183,7 @@ pub record Fits (s : Scanned) (b room : ℕ) : Type 0 where
   pub judged : done s.result ≡ true
   pub long : b ≡ block_length * (scanned_header s).count
   pub fits : s.at + b ≤ room
-  pub is : judged_write s b room ≡ record { result = Done; length = s.at + b }
+  pub is : judged_write s b room ≡ record { result = Ok tt; length = s.at + b }
 
 pub room_right : (at count b room : ℕ) → done (room_result at count b room) ≡ true → (b ≡ block_length * count) × (at + b ≤ room)
 unfolding room_result
@@ -200,12 +195,12 @@ room_right at count b room h =
     let high = ltb-false (block_length * count) b y.0 in
     (omega arith, ltb-false room (at + b) z.0)
 
-room_passes : (at count b room : ℕ) → b ≡ block_length * count → at + b ≤ room → room_result at count b room ≡ Done
+room_passes : (at count b room : ℕ) → b ≡ block_length * count → at + b ≤ room → room_result at count b room ≡ Ok tt
 unfolding room_result
 room_passes at count b room e h = rw (le-ltb b (block_length * count) (omega arith), le-ltb (block_length * count) b (omega arith), le-ltb room (at + b) h)
 
 pub judged_write_is : (s : Scanned) (b room : ℕ) → done s.result ≡ true → b ≡ block_length * (scanned_header s).count → s.at + b ≤ room
-    → judged_write s b room ≡ record { result = Done; length = s.at + b }
+    → judged_write s b room ≡ record { result = Ok tt; length = s.at + b }
 unfolding judged_write written_with
 judged_write_is s b room d e h =
     rw (both_pass s.result (room_result s.at (scanned_header s).count b room) d, room_passes s.at (scanned_header s).count b room e h)
@@ -228,7 +223,7 @@ fitted_fine s b room h = go (done o) refl
 pub record Fine (format : ℕ) (numbers : List ℕ) (b room : ℕ) : Type 0 where
   pub passed : Passed format numbers
   pub fits : Fits (scan 0 (given_numbers numbers) row_count) b room
-  pub is : written format numbers b room ≡ record { result = Done; length = (scan 0 (given_numbers numbers) row_count).at + b }
+  pub is : written format numbers b room ≡ record { result = Ok tt; length = (scan 0 (given_numbers numbers) row_count).at + b }
 
 pub written_fine : (format : ℕ) (numbers : List ℕ) (b room : ℕ) → done (written format numbers b room).result ≡ true → Fine format numbers b room
 unfolding written

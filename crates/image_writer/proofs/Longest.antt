@@ -1,4 +1,5 @@
 -- No image that the writer puts is longer than the longest, room for that one is room enough for every write, and it can be written.
+use Rattle.std.specs.Prelude.{Ok}
 use mathlib.Core.Path.{◌≡◌, refl, sym, ap, ◌∙◌}
 use mathlib.Core.Bool.{Bool, true, false}
 use mathlib.Core.List.{List, [], ◌∷◌}
@@ -10,7 +11,6 @@ use borrow.Author.Tests.{ltb-false}
 use Rattle.limits.specs.Limits.{most_blocks, most_landings, block_length}
 use Rattle.drive.specs.Types as types
 use Rattle.image_result.specs.ImageResult.{done}
-use Rattle.image_result.specs.declared.ImageResult.TheVariants.{Done}
 use Rattle.image_number.specs.Number.{number_bytes}
 use Rattle.image_header.specs.Rows as rows
 use Rattle.image_header.specs.Rows.{format2, landing_count_row, row_count}
@@ -62,7 +62,7 @@ last_blocks (suc n) = (most_blocks - suc n) ∷ last_blocks n
 abbrev pub longest_numbers : List ℕ
 longest_numbers = with_landings (take landing_count_row greatest_header) (word_bytes (last_blocks most_landings))
 
-pub longest_written : written format2 longest_numbers (block_length * most_blocks) longest_image ≡ record { result = Done; length = longest_image }
+pub longest_written : written format2 longest_numbers (block_length * most_blocks) longest_image ≡ record { result = Ok tt; length = longest_image }
 unfolding
     types.takes rows.stands rows.header_checked rows.checked judged
     number_bytes taken more scan first_refusal room_result written_with judged_write landings_stand judged_for written words_of word_bytes

@@ -1,5 +1,6 @@
 -- Reader and writers undo each other: what a writer wrote is read back, and what the reader accepted is written back byte for byte by the writer of its format.
 -- Both follow from one fact: where two sources hand over the same numbers at the same places, they give the same scan.
+use Rattle.std.specs.Prelude.{Ok}
 use mathlib.Core.Path.{◌≡◌, refl, sym, ap, ◌∙◌}
 use mathlib.Core.Bool.{Bool, true, false, ◌&&◌}
 use Prim.Native.Nat.{ℕ, zero, suc, ◌+◌, ◌-◌, ◌*◌, ◌<◌, ◌≤◌}
@@ -11,16 +12,14 @@ use borrow.Author.Count.{below_more}
 use borrow.Author.Tests.{eq-eqb, lt-ltb}
 use Rattle.limits.specs.Limits.{most_landings, block_length}
 use Rattle.image_result.specs.ImageResult.{done}
-use Rattle.image_number.specs.Number.{number_bytes, number_at}
+use Rattle.image_number.specs.Number.{number_bytes, number_at, read_as}
 use Rattle.image_header.specs.Rows.{header_count, landing_count_row, row_count, landings_from, stands}
 use Rattle.image_header.specs.Numbers.{numbers_of, header_from}
 use Rattle.image_header.specs.Scan.{Source, Scanned, from_image, taken, more, scan, scanned_header, closed, scan_of, header_of, landings_of, blocks_of}
 use Rattle.image_writer.specs.Writer.{words_of, word_bytes, landings_given, with_landings, given_numbers, bytes_at, first_numbers, image_of, judged_for, judged_write}
 use Rattle.image_writer.specs.Writer.{written, overlaid, out_after}
-use Rattle.image_result.specs.declared.ImageResult.TheVariants.{Done}
-use Rattle.image_number.specs.declared.Number.{Number}
 use Rattle.image_header.specs.declared.Header.{Header}
-use Rattle.image_header.specs.declared.reader.HeaderRead.{HeaderRead}
+use Rattle.image_header.specs.Scan.{HeaderJudged}
 use Rattle.image_writer.specs.declared.Written.{Written}
 use Rattle.num_le.specs.LittleEndian.{Bytes}
 use Rattle.logic.proofs.Choice.{by, test, or_right}
@@ -40,7 +39,7 @@ use Rattle.image_writer.proofs.Judged.{judged_write_is, Fine, written_fine, put_
 -- the same numbers at the same places give the same scan
 module _ (n m : ℕ) (source other : Source) (a : Accepted n source)
     (same : (k : ℕ) → k < row_count → stands k (scan n source row_count).numbers ≡ true
-    → other k (place n source k) ≡ Number.Value (value n source k) (place n source (suc k))) where
+    → other k (place n source k) ≡ read_as (value n source k) (place n source (suc k))) where
   -- a number comes next where it stands
   next : (k : ℕ) → k < row_count → (t : Bool) → stands k (scan n source row_count).numbers ≡ t
       → (done (scan n source k).result && stands k (scan n source k).numbers) ≡ t
@@ -73,7 +72,7 @@ each_number s numbers (suc m) h k lt =
 
 -- what an image of these numbers and blocks is read as
 pub record ReadBack (numbers blocks image : List ℕ) : Type 0 where
-  pub result : (header_of image).result ≡ Done
+  pub result : (header_of image).result ≡ Ok tt
   pub header : (header_of image).header ≡ header_from numbers
   pub landings : (i : ℕ) → i < (header_of image).header.landings → get_or (landings_of image) i 0 ≡ get_or (landings_from numbers) i 0
   pub body : blocks_of image ≡ blocks
@@ -93,7 +92,7 @@ module _ (format : ℕ) (numbers blocks : List ℕ) (space : ℕ) (ok : done (wr
 
   -- each number stands in the image where the writer judged it
   stood : (k : ℕ) → k < row_count → stands k all ≡ true → number_at (image_of numbers blocks) (place 0 (given_numbers numbers) k)
-      ≡ Number.Value (value 0 (given_numbers numbers) k) (place 0 (given_numbers numbers) (suc k))
+      ≡ read_as (value 0 (given_numbers numbers) k) (place 0 (given_numbers numbers) (suc k))
   unfolding image_of
   stood k lt e =
       let s = image_of numbers blocks in
@@ -110,8 +109,8 @@ module _ (format : ℕ) (numbers blocks : List ℕ) (space : ℕ) (ok : done (wr
       let v : get_or numbers k 0 ≡ value 0 (given_numbers numbers) k = sym (given_is numbers fits stand k lt t) ∙ number_is 0 (given_numbers numbers) row_count k lt in
       ap (number_at s) p
       ∙ number_back s (length (first_numbers numbers k)) (get_or numbers k 0) (small_numbers numbers fits stand k lt t) h (omega arith)
-      ∙ ap (Number.Value (get_or numbers k 0)) n
-      ∙ ap (λ (x : ℕ). Number.Value x (place 0 (given_numbers numbers) (suc k))) v
+      ∙ ap (read_as (get_or numbers k 0)) n
+      ∙ ap (λ (x : ℕ). read_as x (place 0 (given_numbers numbers) (suc k))) v
 
   read_scan : scan_of (image_of numbers blocks) ≡ scan 0 (given_numbers numbers) row_count
   read_scan =
@@ -119,7 +118,7 @@ module _ (format : ℕ) (numbers blocks : List ℕ) (space : ℕ) (ok : done (wr
       (omega arith)
 
   read_header : header_of (image_of numbers blocks)
-      ≡ record { result = Done; header = scanned_header (scan 0 (given_numbers numbers) row_count); at = (scan 0 (given_numbers numbers) row_count).at }
+      ≡ record { result = Ok tt; header = scanned_header (scan 0 (given_numbers numbers) row_count); at = (scan 0 (given_numbers numbers) row_count).at }
   unfolding header_of
   read_header =
       let l = image_length numbers blocks in
@@ -133,7 +132,7 @@ module _ (format : ℕ) (numbers blocks : List ℕ) (space : ℕ) (ok : done (wr
   read_landing i u =
       let g = (judged_numbers numbers fits stand).good.landings in
       let m = most_of_lem (header_from all).format in
-      let c : (header_of (image_of numbers blocks)).header.landings ≡ get_or all landing_count_row 0 = ap (λ (r : HeaderRead). r.header.landings) read_header in
+      let c : (header_of (image_of numbers blocks)).header.landings ≡ get_or all landing_count_row 0 = ap (λ (r : HeaderJudged). r.header.landings) read_header in
       let h = header_given numbers fits stand landing_count_row (omega arith) in
       let t : stands (header_count + i) numbers ≡ true = landing_stands i numbers ∙ lt-ltb i (get_or numbers landing_count_row 0) (omega arith) in
       ap (λ (s : Scanned). get_or (landings_from s.numbers) i 0) read_scan
@@ -145,8 +144,8 @@ module _ (format : ℕ) (numbers blocks : List ℕ) (space : ℕ) (ok : done (wr
   unfolding blocks_of image_of
   image_read =
       record {
-        result = ap (λ (r : HeaderRead). r.result) read_header;
-        header = ap (λ (r : HeaderRead). r.header) read_header ∙ same_numbers all numbers (header_given numbers fits stand);
+        result = ap (λ (r : HeaderJudged). r.result) read_header;
+        header = ap (λ (r : HeaderJudged). r.header) read_header ∙ same_numbers all numbers (header_given numbers fits stand);
         landings = read_landing;
         body =
             rw (read_header)
@@ -160,7 +159,7 @@ pub record WrittenBack (format : ℕ) (numbers blocks out : List ℕ) : Type 0 w
   pub behind : drop (written format numbers (length blocks) (length out)).length (out_after format numbers blocks out)
       ≡ drop (written format numbers (length blocks) (length out)).length out
 
-pub read_what_was_written : (format : ℕ) (numbers blocks out : List ℕ) → (written format numbers (length blocks) (length out)).result ≡ Done
+pub read_what_was_written : (format : ℕ) (numbers blocks out : List ℕ) → (written format numbers (length blocks) (length out)).result ≡ Ok tt
     → WrittenBack format numbers blocks out
 unfolding overlaid
 read_what_was_written format numbers blocks out h =
@@ -179,7 +178,7 @@ read_what_was_written format numbers blocks out h =
 
 -- ---- writing what was read
 
-module _ (image : List ℕ) (bytes : Bytes image) (ok : (header_of image).result ≡ Done) where
+module _ (image : List ℕ) (bytes : Bytes image) (ok : (header_of image).result ≡ Ok tt) where
   abbrev header : Header
   header = (header_of image).header
 
@@ -259,10 +258,10 @@ module _ (image : List ℕ) (bytes : Bytes image) (ok : (header_of image).result
       rw (number_same k ∙ number_is (length image) (from_image image) row_count k lt)
       (number_only image (p k) (v k) (p (suc k)) (bytes (p k)) (was.numbers k lt e))
 
-  given_same : (k : ℕ) → k < row_count → stands k read ≡ true → given_numbers numbers_read k (p k) ≡ Number.Value (v k) (p (suc k))
+  given_same : (k : ℕ) → k < row_count → stands k read ≡ true → given_numbers numbers_read k (p k) ≡ read_as (v k) (p (suc k))
   given_same k lt e =
-      ap (Number.Value (get_or numbers_read k 0)) (sym (there k lt e).next)
-      ∙ ap (λ (x : ℕ). Number.Value x (p (suc k))) (number_same k ∙ number_is (length image) (from_image image) row_count k lt)
+      ap (read_as (get_or numbers_read k 0)) (sym (there k lt e).next)
+      ∙ ap (λ (x : ℕ). read_as x (p (suc k))) (number_same k ∙ number_is (length image) (from_image image) row_count k lt)
 
   judged_scan : judged_for header.format numbers_read ≡ scan_of image
   judged_scan =
@@ -298,7 +297,7 @@ module _ (image : List ℕ) (bytes : Bytes image) (ok : (header_of image).result
 
   blocks_are : blocks_of image ≡ drop (p row_count) image
   unfolding blocks_of header_of
-  blocks_are = rw fine_image (ap (λ (r : HeaderRead). drop r.at image) (read_fine image fine_image).is)
+  blocks_are = rw fine_image (ap (λ (r : HeaderJudged). drop r.at image) (read_fine image fine_image).is)
 
   image_back : image_of numbers_read (blocks_of image) ≡ image
   unfolding image_of
@@ -312,7 +311,7 @@ module _ (image : List ℕ) (bytes : Bytes image) (ok : (header_of image).result
 
   -- the writer of the image's format, given the numbers and the blocks that were read, answers with the image's length and puts the image itself
   pub write_what_was_read : (out : List ℕ) → length image ≤ length out
-      → (written header.format numbers_read (length (blocks_of image)) (length out) ≡ record { result = Done; length = length image })
+      → (written header.format numbers_read (length (blocks_of image)) (length out) ≡ record { result = Ok tt; length = length image })
       × (out_after header.format numbers_read (blocks_of image) out ≡ overlaid image out)
   unfolding written
   write_what_was_read out h =
@@ -320,20 +319,20 @@ module _ (image : List ℕ) (bytes : Bytes image) (ok : (header_of image).result
       let l = (read_fine image fine_image).long in
       let b : length (blocks_of image) ≡ block_length * (scanned_header s).count = ap length blocks_are ∙ length-drop (p row_count) image ∙ omega arith in
       let e : s.at + length (blocks_of image) ≡ length image = omega arith in
-      let w : written header.format numbers_read (length (blocks_of image)) (length out) ≡ record { result = Done; length = length image } =
+      let w : written header.format numbers_read (length (blocks_of image)) (length out) ≡ record { result = Ok tt; length = length image } =
       ap (λ (x : Scanned). judged_write x (length (blocks_of image)) (length out)) judged_scan
       ∙ judged_write_is s (length (blocks_of image)) (length out) (read_fine image fine_image).scanned b (omega arith)
-      ∙ ap (λ (n : ℕ). record { result = Done; length = n }) e in
+      ∙ ap (λ (n : ℕ). record { result = Ok tt; length = n }) e in
       (w, sym (put_there header.format numbers_read (blocks_of image) out (ap (λ (r : Written). done r.result) w)) ∙ ap (λ (x : List ℕ). overlaid x out) image_back)
 
 -- ---- what the first of them gives when it is taken apart
 
-module _ (format : ℕ) (numbers blocks out : List ℕ) (ok : (written format numbers (length blocks) (length out)).result ≡ Done) where
+module _ (format : ℕ) (numbers blocks out : List ℕ) (ok : (written format numbers (length blocks) (length out)).result ≡ Ok tt) where
   -- what stands at the front of the buffer
   abbrev pub image_written : List ℕ
   image_written = take (written format numbers (length blocks) (length out)).length (out_after format numbers blocks out)
 
-  pub header_as_written : ((header_of image_written).result ≡ Done) × ((header_of image_written).header ≡ header_from numbers)
+  pub header_as_written : ((header_of image_written).result ≡ Ok tt) × ((header_of image_written).header ≡ header_from numbers)
   header_as_written = let r = (read_what_was_written format numbers blocks out ok).read in (r.result, r.header)
 
   pub blocks_back : blocks_of image_written ≡ blocks
@@ -345,7 +344,7 @@ module _ (format : ℕ) (numbers blocks out : List ℕ) (ok : (written format nu
 
 -- the landing blocks that are read are those that were given
 module _ (format : ℕ) (numbers landings blocks out : List ℕ) (six : length numbers ≡ landing_count_row)
-    (ok : (written format (with_landings numbers landings) (length blocks) (length out)).result ≡ Done) where
+    (ok : (written format (with_landings numbers landings) (length blocks) (length out)).result ≡ Ok tt) where
   abbrev given : List ℕ
   given = with_landings numbers landings
 

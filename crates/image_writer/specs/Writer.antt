@@ -1,15 +1,15 @@
 -- The image writers: document 01, "Refused because of the input", its last paragraph; change request 1. One for each format.
-use Rattle.std.specs.Prelude.{ℕ, zero, suc, ◌+◌, ◌*◌, ◌/◌, ◌%◌, ◌<◌, ◌≡◌, true, ◌&&◌, ◌||◌, cond, List, [], ◌∷◌, ◌++◌, length, get_or, drop, eqb, ltb, leb}
+use Rattle.std.specs.Prelude.{ℕ, zero, suc, ◌+◌, ◌*◌, ◌/◌, ◌%◌, ◌<◌, ◌≡◌, true, ◌&&◌, ◌||◌, cond, List, [], ◌∷◌, ◌++◌, length, get_or, drop, eqb, ltb, leb, Result, Ok, Err}
 use Rattle.limits.specs.Limits.{block_length, most_landings}
 use Rattle.num_le.specs.LittleEndian.{le_number, le_bytes}
 use Rattle.image_result.specs.ImageResult.{done}
-use Rattle.image_number.specs.Number.{number_limit, number_bytes}
+use Rattle.image_number.specs.Number.{number_limit, number_bytes, read_as}
 use Rattle.image_header.specs.Rows.{landing_count_row, row_count, stands}
 use Rattle.image_header.specs.Scan.{Source, Scanned, scan_begun, stopped, scan, scanned_header, first_refusal}
 use Rattle.image_number.specs.declared.Number.{Number}
-use Rattle.image_number.specs.declared.Number.TheVariants.{Value}
-use Rattle.image_result.specs.declared.ImageResult.{ImageResult}
-use Rattle.image_result.specs.declared.ImageResult.TheVariants.{Done, EndsEarly, OutOfRange, LeftOver, NoRoom, BadLanding}
+use Rattle.image_number.specs.declared.NumberFault.{NumberFault}
+use Rattle.image_result.specs.ImageResult.{ImageResult}
+use Rattle.image_result.specs.declared.ImageFault.TheVariants.{EndsEarly, OutOfRange, LeftOver, NoRoom, BadLanding}
 use Rattle.image_writer.specs.declared.Written.{Written}
 
 -- ---- the numbers that a writer is given
@@ -35,8 +35,8 @@ abbrev pub with_landings : List ℕ → List ℕ → List ℕ
 with_landings numbers landings = numbers ++ (landings_given (length landings) ∷ words_of landings)
 
 -- a number v that stands at a place, its bytes before the next place
-abbrev pub standing : ℕ → ℕ → Number
-standing v at = Value v (at + length (number_bytes v))
+abbrev pub standing : ℕ → ℕ → Result Number NumberFault
+standing v at = read_as v (at + length (number_bytes v))
 
 -- the writer has the numbers given
 abbrev pub given_numbers : List ℕ → Source
@@ -65,9 +65,9 @@ not_written o = record { result = o; length = 0 }
 -- blocks of b bytes behind numbers that end at `at`: 1 and 4 at the length of the blocks, 14 at the length needed
 unfoldable pub room_result : ℕ → ℕ → ℕ → ℕ → ImageResult
 room_result at count b room =
-    cond (ltb b (block_length * count)) (EndsEarly b)
-    (cond (ltb (block_length * count) b) (LeftOver b)
-    (cond (ltb room (at + b)) (NoRoom (at + b)) Done))
+    cond (ltb b (block_length * count)) (Err (EndsEarly b))
+    (cond (ltb (block_length * count) b) (Err (LeftOver b))
+    (cond (ltb room (at + b)) (Err (NoRoom (at + b))) (Ok tt)))
 
 -- numbers, blocks and room judged: the length, or the refusal
 unfoldable pub written_with : Scanned → ℕ → ImageResult → Written
@@ -80,12 +80,12 @@ judged_write s b room = written_with s b (first_refusal s.result (room_result s.
 -- landing blocks that are given where the format has no landing count: 21 where it would stand, behind the numbers that do
 unfoldable pub landings_stand : List ℕ → Scanned → Scanned
 landings_stand numbers s =
-    cond (stands landing_count_row numbers || eqb (get_or numbers landing_count_row 0) 0) s (stopped (first_refusal s.result (BadLanding s.at)) s)
+    cond (stands landing_count_row numbers || eqb (get_or numbers landing_count_row 0) 0) s (stopped (first_refusal s.result (Err (BadLanding s.at))) s)
 
 -- the numbers judged by the writer of one format: another format is 3 at byte 0
 unfoldable pub judged_for : ℕ → List ℕ → Scanned
 judged_for format numbers =
-    cond (eqb (get_or numbers 0 0) format) (landings_stand numbers (scan 0 (given_numbers numbers) row_count)) (stopped (OutOfRange 0) scan_begun)
+    cond (eqb (get_or numbers 0 0) format) (landings_stand numbers (scan 0 (given_numbers numbers) row_count)) (stopped (Err (OutOfRange 0)) scan_begun)
 
 -- what the writer of a format answers: the numbers are judged first
 unfoldable pub written : ℕ → List ℕ → ℕ → ℕ → Written

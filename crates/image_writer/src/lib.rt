@@ -13,7 +13,7 @@ ghost use Rattle.image_writer.specs.Writer.{landings_stand, judged_for, written,
 
 use image_header::reader;
 use image_header::reader::{BEFORE_LANDINGS, HEADER_ROWS, Scan};
-use image_result::ImageResult;
+use image_result::{ImageFault, ImageResult};
 use limits::MOST_LANDINGS;
 
 // The numbers that any format has before the blocks.
@@ -45,8 +45,7 @@ pub fn write(
     let mut list = [0; MOST_LANDINGS];
     let s = judge(format, given, landings, &mut list);
     let w = fit(s, blocks.len(), out.len());
-    let judged = w.result;
-    if !judged.is_done() {
+    if !w.result.is_ok() {
         return w;
     }
     put_image(given, landings, blocks, out);
@@ -54,6 +53,7 @@ pub fn write(
 }
 
 // The header's numbers, of which the landing count is the last; the landing blocks are so many bytes.
+#[tactic(auto, using(crate::proofs::Words::with_count))]
 fn with_count(n: [u32; BEFORE_LANDINGS], bytes: usize) -> [u32; HEADER_ROWS]
     ensures { result ≡ n ++ (landings_given bytes ∷ []) }
 {
@@ -72,10 +72,7 @@ fn with_count(n: [u32; BEFORE_LANDINGS], bytes: usize) -> [u32; HEADER_ROWS]
 fn count_given(bytes: usize) -> u32
     ensures { result ≡ landings_given bytes }
 {
-    if bytes % 2 == 1 {
-        return TOO_MANY;
-    }
-    if 2 * MOST_LANDINGS < bytes {
+    if bytes % 2 == 1 || 2 * MOST_LANDINGS < bytes {
         return TOO_MANY;
     }
     (bytes / 2) as u32
@@ -93,22 +90,22 @@ fn judge(
     ensures landings_len { length landings.new ≡ most_landings }
 {
     if numbers[reader::FORMAT] != format {
-        return reader::stop(ImageResult::OutOfRange(0), reader::begin());
+        return reader::stop(Err(ImageFault::OutOfRange(0)), reader::begin());
     }
     let s = judge_numbers(numbers, bytes, landings);
     landings_stand(numbers, s)
 }
 
 // The scan refused by 21 where landing blocks are given that have no place in the format.
+#[tactic(auto, unfolding(crate::specs::Writer::landings_stand))]
 fn landings_stand(n: [u32; HEADER_ROWS], s: Scan) -> Scan
     ensures { alone result ≡ landings_stand n (alone s) }
 {
     if reader::stands(reader::LANDINGS, n) | (n[reader::LANDINGS] == 0) {
         return s;
     }
-    let judged = s.result;
     reader::stop(
-        reader::first_refusal(judged, ImageResult::BadLanding(s.at)),
+        reader::first_refusal(s.result, Err(ImageFault::BadLanding(s.at))),
         s,
     )
 }
@@ -124,10 +121,8 @@ fn judge_numbers(
     ensures landings_len { length landings.new ≡ most_landings }
 {
     let mut s = reader::begin();
-    let mut row: usize = 0;
-    while row < ROWS {
+    for row in 0..ROWS {
         s = judge_number(s, row, numbers, bytes, landings);
-        row += 1;
     }
     s
 }
@@ -158,12 +153,13 @@ fn judge_number(
         i,
         s,
         block,
-        s.at + image_number::size(reader::wide(block)),
+        s.at + image_number::size(u32::from(block)),
         landings,
     )
 }
 
 // Landing block i of these bytes; 0 where they have none.
+#[tactic(auto, using(crate::proofs::Words::word_at, crate::proofs::Words::word_past))]
 fn word_at(bytes: &[u8], i: usize) -> u16
     requires { i < most_landings }
     ensures { result ≡ get_or (words_of bytes.now) i 0 }
@@ -176,42 +172,41 @@ fn word_at(bytes: &[u8], i: usize) -> u16
 }
 
 // What the judged numbers, the length of the blocks and the room come to.
+#[tactic(auto, unfolding(crate::specs::Writer::judged_write, crate::specs::Writer::written_with))]
 fn fit(s: Scan, blocks: usize, room: usize) -> Written
     requires { s.at ≤ most_header_bytes }
     ensures { result ≡ judged_write (alone s) blocks room }
 {
-    let judged = s.result;
-    let numbers = s.numbers;
-    let at = s.at;
     let result = reader::first_refusal(
-        judged,
-        judge_room(at, numbers[reader::COUNT], blocks, room),
+        s.result,
+        judge_room(s.at, s.numbers[reader::COUNT], blocks, room),
     );
-    if !result.is_done() {
+    if !result.is_ok() {
         return not_written(result);
     }
     Written {
-        result: result,
-        length: at + blocks,
+        result,
+        length: s.at + blocks,
     }
 }
 
 // Whether the blocks are as long as the count says, and there is room for them behind the numbers.
+#[tactic(auto, unfolding(crate::specs::Writer::room_result))]
 fn judge_room(at: usize, count: u32, blocks: usize, room: usize) -> ImageResult
     requires { at ≤ most_header_bytes }
     ensures { result ≡ room_result at count blocks room }
 {
     let whole = limits::BLOCK_LENGTH * (count as usize);
     if blocks < whole {
-        return ImageResult::EndsEarly(blocks);
+        return Err(ImageFault::EndsEarly(blocks));
     }
     if whole < blocks {
-        return ImageResult::LeftOver(blocks);
+        return Err(ImageFault::LeftOver(blocks));
     }
     if room < at + blocks {
-        return ImageResult::NoRoom(at + blocks);
+        return Err(ImageFault::NoRoom(at + blocks));
     }
-    ImageResult::Done
+    Ok(())
 }
 
 fn not_written(res: ImageResult) -> Written
@@ -242,10 +237,8 @@ fn put_numbers(numbers: [u32; HEADER_ROWS], landings: &[u8], out: &mut [u8]) -> 
     ensures out_after { out.new ≡ sets out.old 0 (first_numbers (numbers ++ words_of landings.now) row_count) }
 {
     let mut at = 0;
-    let mut row: usize = 0;
-    while row < ROWS {
+    for row in 0..ROWS {
         at = put_number(numbers, landings, row, at, out);
-        row += 1;
     }
     at
 }
@@ -278,10 +271,11 @@ fn number_given(row: usize, numbers: [u32; HEADER_ROWS], landings: &[u8]) -> u32
     if row < HEADER_ROWS {
         return numbers[row];
     }
-    reader::wide(word_at(landings, row - HEADER_ROWS))
+    u32::from(word_at(landings, row - HEADER_ROWS))
 }
 
 // Writes a number at a place, and gives the place behind it.
+#[tactic(auto, unfolding(image_number::specs::Number::number_bytes))]
 fn put(out: &mut [u8], at: usize, v: u32) -> usize
     requires { (v < number_limit) × (at + length (number_bytes v) ≤ length out.old) }
     ensures { (result ≡ at + length (number_bytes v)) × (out.new ≡ sets out.old at (number_bytes v)) }

@@ -39,14 +39,12 @@ fn rows<P: Print>(rt: &P, text: &[u8]) -> io::Result<usize>
 {
     let mut from = 0;
     let mut n = 0;
-    let mut i = 0;
-    while i < text.len() {
-        if text[i] == LINE_END {
+    for (i, byte) in text.iter().enumerate() {
+        if *byte == LINE_END {
             row(rt, &text[from..i])?;
             from = i + 1;
             n += 1;
         }
-        i += 1;
     }
     Ok(n)
 }
@@ -91,12 +89,13 @@ fn summed(bytes: &[u8]) -> Blocks
     ensures { result ≡ part_of bytes.now }
 {
     let mut check: u64 = 0;
-    let mut i = 0;
-    while i < bytes.len() {
-        check = next(check, bytes[i]);
-        i += 1;
+    for byte in bytes {
+        check = next(check, *byte);
     }
-    Blocks { length: i, check }
+    Blocks {
+        length: bytes.len(),
+        check,
+    }
 }
 
 // The sum with a byte more.
@@ -104,7 +103,7 @@ fn next(check: u64, byte: u8) -> u64
     requires { check < 65521 }
     ensures { result ≡ (257 * check + byte) % 65521 }
 {
-    (257 * check + byte as u64) % 65521
+    (257 * check + u64::from(byte)) % 65521
 }
 
 // Prints the line of blocks, nothing where there are none; gives them back.

@@ -63,5 +63,5 @@ pub const INPUTS_LENGTH: usize = CELLS;
 pub fn up_to(most: u16, v: u16) -> bool
     ensures { result ≡ up_to most v }
 {
-    (0 < v) & (v <= most)
+    0 < v && v <= most
 }

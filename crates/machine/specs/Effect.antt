@@ -1,14 +1,12 @@
 -- What each command does: to the values, to the axis by a request, and to its task. One row for each code, from the command's page in 000 (its number stands
 -- behind the row) and document 01, "Running"; 56 and 5B are change request 1's. The engine's step and the reference machine both use these rows, and share
 -- nothing else of what a step does. Sources are read before the target is written.
-use Rattle.std.specs.Prelude.{ℕ, zero, suc, ◌+◌, ◌-◌, ◌*◌, ◌%◌, Bool, true, false, ◌&&◌, ◌||◌, not, cond, List, [], ◌∷◌, ◌++◌, eqb, ltb, get_or, ℤ, pos, negsuc, ◌+ℤ◌, ◌-ℤ◌, ◌*ℤ◌}
+use Rattle.std.specs.Prelude.{ℕ, zero, suc, ◌+◌, ◌-◌, ◌*◌, ◌%◌, Bool, true, false, ◌&&◌, ◌||◌, not, cond, List, [], ◌∷◌, ◌++◌, eqb, ltb, get_or, ℤ, pos, negsuc, ◌+ℤ◌, ◌-ℤ◌, ◌*ℤ◌, Option, Some, None}
 use Rattle.std.specs.Int.Signed.{le_z}
 use Rattle.std.specs.Int.{w32}
 use Rattle.limits.specs.Limits.{bias, plc, mathematics, most_speed, most_ramp, most_time}
 use Rattle.num_arith.specs.Wrap.{wrap}
 use Rattle.num_arith.specs.Ops.{quotient, holds, bit_at, eq_z}
-use Rattle.num_arith.specs.declared.Quotient.{Quotient}
-use Rattle.num_arith.specs.declared.Quotient.TheVariants.{Value, ByZero}
 use Rattle.drive.specs.Types.{type_637_plus}
 use Rattle.command_operands.specs.declared.Command.{Command}
 use Rattle.state.specs.State.{with_variable, with_flag, with_output, first_axis, axis_of, with_axis, with_mark}
@@ -21,7 +19,7 @@ use Rattle.state.specs.declared.Values.{Values}
 use Rattle.machine.specs.Inputs.{input_at}
 use Rattle.machine.specs.declared.Context.{Context}
 use Rattle.machine.specs.declared.Request.{Request}
-use Rattle.machine.specs.declared.Request.TheVariants.{None, MoveTo, MoveBy, Forward, Backward, Stop}
+use Rattle.machine.specs.declared.Request.TheVariants.{MoveTo, MoveBy, Forward, Backward, Stop}
 use Rattle.machine.specs.declared.Cause.{Cause}
 use Rattle.machine.specs.declared.Cause.TheVariants.{ZeroDivisor, BadContent, NoLanding}
 use Rattle.machine.specs.declared.Outcome.{Outcome}
@@ -30,7 +28,7 @@ use Rattle.machine.specs.declared.Effect.{Effect}
 
 -- ---- forms of effects
 
-abbrev pub effect : Values → Request → Outcome → Effect
+abbrev pub effect : Values → Option Request → Outcome → Effect
 effect v m o = record { values = v; request = m; outcome = o }
 
 -- the values change, and the task goes on
@@ -90,7 +88,7 @@ abbrev pub started : Context → Motion → Notes → Bool
 started g motion notes = is_set motion.mark || (is_set g.start && eqb notes.level 0)
 
 abbrev pub moves : (Axis → Request) → CommandEffect
-moves kind g c v = cond (started g v.motion v.notes) (effect (with_mark 0 v) (kind (axis_of first_axis v)) GoOn) (flows v (Stay 0 0))
+moves kind g c v = cond (started g v.motion v.notes) (effect (with_mark 0 v) (Some (kind (axis_of first_axis v))) GoOn) (flows v (Stay 0 0))
 
 -- 58 passes when the ramp has ended, the position is in the window, and the preceding BIAS step, refused and halted ones apart, was no move (change
 -- request 4)
@@ -114,9 +112,9 @@ abbrev pub assigns : Command → ℤ → Values → Effect
 assigns c z v = sets (with_variable c.x z v)
 
 -- a quotient; a zero divisor is 19
-unfoldable pub divides : Command → Quotient → Values → Effect
-divides c (Value z) v = assigns c z v
-divides c ByZero v = halts ZeroDivisor v
+unfoldable pub divides : Command → Option ℤ → Values → Effect
+divides c (Some z) v = assigns c z v
+divides c None v = halts ZeroDivisor v
 
 -- n flags from flag k on as a number, the first one lowest
 unfoldable pub flag_number : List ℕ → ℕ → ℕ → ℕ
@@ -160,8 +158,8 @@ motion_rows =
     effect_row 0x03 (moves Forward) ∷  -- p. 34
     effect_row 0x04 (moves Backward) ∷  -- p. 35
     effect_row 0x0E (λ g c v. sets (with_mark 1 v)) ∷  -- p. 49
-    effect_row 0x0F (λ g c v. effect v (Stop c.x (axis_of first_axis v).deceleration) GoOn) ∷  -- p. 50
-    effect_row 0x1F (λ g c v. effect v (Stop c.x c.word) GoOn) ∷  -- p. 65
+    effect_row 0x0F (λ g c v. effect v (Some (Stop c.x (axis_of first_axis v).deceleration)) GoOn) ∷  -- p. 50
+    effect_row 0x1F (λ g c v. effect v (Some (Stop c.x c.word)) GoOn) ∷  -- p. 65
     effect_row 0x20 (λ g c v. sets (with_axis first_axis (with_position c.value (axis_of first_axis v)) v)) ∷  -- p. 66
     effect_row 0x21 (λ g c v. sets (with_axis first_axis (with_speed c.word (axis_of first_axis v)) v)) ∷  -- p. 67
     effect_row 0x22 (λ g c v. sets (with_axis first_axis (with_acceleration c.word (axis_of first_axis v)) v)) ∷  -- p. 68

@@ -1,11 +1,11 @@
 -- The engine's step on values (document 01, "Running", and 15, 18, 17, 19, 20, 22): the tests in their order, then the command, with a call stack of
 -- bounded length for each task. 16 is the buffer's.
-use Rattle.std.specs.Prelude.{ℕ, ◌+◌, ◌-◌, Bool, true, false, ◌&&◌, ◌||◌, not, cond, List, eqb, ltb, length, get_or, set}
+use Rattle.std.specs.Prelude.{ℕ, ◌+◌, ◌-◌, Bool, true, false, ◌&&◌, ◌||◌, not, cond, List, eqb, ltb, length, get_or, set, Option, Some, None, Ok, Err}
 use Rattle.limits.specs.Limits.{bias, task_count, inputs_length}
 use Rattle.image_result.specs.ImageResult.{done}
 use Rattle.image_header.specs.Rows.{same_header, same_landings}
 use Rattle.image_header.specs.Scan.{header_of, landings_of, blocks_of}
-use Rattle.image_header.specs.declared.reader.HeaderRead.{HeaderRead}
+use Rattle.image_header.specs.Scan.{HeaderJudged}
 use Rattle.walk_flow.specs.Terms.{Terms, under}
 use Rattle.walk_fault.specs.Fault.{fault_number}
 use Rattle.walk_point.specs.PointFault.{point}
@@ -19,13 +19,13 @@ use Rattle.machine.specs.Inputs.{Inputs, level}
 use Rattle.machine.specs.declared.Context.{Context}
 use Rattle.machine.specs.Effect.{effect_of, is_set, bit}
 use Rattle.machine.specs.declared.Request.{Request}
-use Rattle.machine.specs.declared.Request.TheVariants.{None, MoveTo, MoveBy, Forward, Backward, Stop}
+use Rattle.machine.specs.declared.Request.TheVariants.{MoveTo, MoveBy, Forward, Backward, Stop}
 use Rattle.machine.specs.declared.Outcome.{Outcome}
 use Rattle.machine.specs.declared.Outcome.TheVariants.{GoOn, Stay, Jump, Call, Return, Start, Restart, End, Halt}
 use Rattle.machine.specs.declared.Effect.{Effect}
 use Rattle.machine.specs.declared.StepOut.{StepOut}
-use Rattle.machine.specs.declared.Answer.{Answer}
-use Rattle.machine.specs.declared.Answer.TheVariants.{Done, NoTask, Inputs as BadInputs, NotRunning, Differs, Halted}
+use Rattle.machine.specs.Answers.{Answer}
+use Rattle.machine.specs.declared.NotDone.TheVariants.{NoTask, Inputs as BadInputs, NotRunning, Differs, Halted}
 
 -- ---- tasks
 
@@ -81,26 +81,26 @@ point_of t task = point t task.block task.depth
 
 -- the answer to a command that was done
 abbrev pub answer_to : Outcome → Point → Answer
-answer_to GoOn p = Done
-answer_to (Stay time turns) p = Done
-answer_to (Jump a) p = Done
-answer_to (Call a) p = Done
-answer_to Return p = Done
-answer_to (Start u a) p = Done
-answer_to Restart p = Done
-answer_to End p = Done
-answer_to (Halt q) p = Halted q p
+answer_to GoOn p = Ok tt
+answer_to (Stay time turns) p = Ok tt
+answer_to (Jump a) p = Ok tt
+answer_to (Call a) p = Ok tt
+answer_to Return p = Ok tt
+answer_to (Start u a) p = Ok tt
+answer_to Restart p = Ok tt
+answer_to End p = Ok tt
+answer_to (Halt q) p = Err (Halted q p)
 
 -- ---- the notes of a BIAS step
 
 -- a request that moves the axis; a stop does not
-abbrev pub is_move : Request → Bool
+abbrev pub is_move : Option Request → Bool
 is_move None = false
-is_move (MoveTo axis) = true
-is_move (MoveBy axis) = true
-is_move (Forward axis) = true
-is_move (Backward axis) = true
-is_move (Stop mode deceleration) = false
+is_move (Some (MoveTo axis)) = true
+is_move (Some (MoveBy axis)) = true
+is_move (Some (Forward axis)) = true
+is_move (Some (Backward axis)) = true
+is_move (Some (Stop mode deceleration)) = false
 
 -- 19, 20 or 22
 abbrev pub is_halt : Outcome → Bool
@@ -115,11 +115,11 @@ is_halt End = false
 is_halt (Halt q) = true
 
 -- the note of a move after a command: whether it carried one out; a halt leaves the note as it was before (change request 4)
-abbrev pub moved_after : Outcome → Request → ℕ → ℕ
+abbrev pub moved_after : Outcome → Option Request → ℕ → ℕ
 moved_after outcome request before = cond (is_halt outcome) before (bit (is_move request))
 
 -- the notes after a step: a BIAS step takes the start input's level and whether it carried out a move
-abbrev pub notes_after : ℕ → ℕ → Outcome → Request → Notes → Notes
+abbrev pub notes_after : ℕ → ℕ → Outcome → Option Request → Notes → Notes
 notes_after t start outcome request before =
     cond (eqb t bias) (record { level = level start; moved = moved_after outcome request before.moved }) before
 
@@ -155,7 +155,7 @@ abbrev pub terms_held : State → Terms
 terms_held s = under s.header s.landings
 
 -- what was read of the lent image, header and landing list, is what was loaded
-abbrev pub is_loaded : HeaderRead → List ℕ → Terms → Bool
+abbrev pub is_loaded : HeaderJudged → List ℕ → Terms → Bool
 is_loaded r landings terms =
     done r.result && (same_header r.header terms.header && same_landings terms.header.landings landings terms.landings)
 
@@ -169,7 +169,7 @@ abbrev pub wait_fits : List ℕ → Task → Bool
 wait_fits bs task = not (is_set task.time) || is_wait (command_at bs task.block).code
 
 -- of an image whose header and landing list were read as r and `landings`, and whose blocks are bs
-abbrev pub fits_as : HeaderRead → List ℕ → List ℕ → Terms → ℕ → Task → Bool
+abbrev pub fits_as : HeaderJudged → List ℕ → List ℕ → Terms → ℕ → Task → Bool
 fits_as r landings bs terms t task = is_loaded r landings terms && (block_fits terms bs t task && wait_fits bs task)
 
 unfoldable pub fits : List ℕ → Terms → ℕ → Task → Bool
@@ -185,12 +185,12 @@ task_step image s x task =
     cond (eqb task.status runs)
     (cond (fits image (terms_held s) x.task task)
     (carried_out (blocks_of image) s x task)
-    (refuse s (Differs (point_of x.task task))))
-    (refuse s NotRunning)
+    (refuse s (Err (Differs (point_of x.task task)))))
+    (refuse s (Err NotRunning))
 
 -- 15 first: the task number, then the length of the input levels
 unfoldable pub step : List ℕ → State → Inputs → StepOut
 step image s x =
     cond (ltb x.task task_count)
-    (cond (eqb (length x.levels) inputs_length) (task_step image s x (task_at s x.task)) (refuse s (BadInputs (length x.levels))))
-    (refuse s (NoTask x.task))
+    (cond (eqb (length x.levels) inputs_length) (task_step image s x (task_at s x.task)) (refuse s (Err (BadInputs (length x.levels)))))
+    (refuse s (Err (NoTask x.task)))

@@ -1,7 +1,7 @@
 -- The reference machine (document 01: plain machine): for each task a list of return blocks without limit, and no test of depth or permission. It is fed the
 -- image and each step's task number and inputs. It shares with the engine what a command does, the reading of the header and the landing list, of levels and of
 -- operands, whether a code has any, and the numbers of answers, and nothing else.
-use Rattle.std.specs.Prelude.{ℕ, ◌+◌, Bool, true, false, cond, List, [], ◌∷◌, eqb, ltb, length, get_or, set, replicate, take, pos}
+use Rattle.std.specs.Prelude.{ℕ, ◌+◌, Bool, true, false, cond, List, [], ◌∷◌, eqb, ltb, length, get_or, set, replicate, take, pos, Option, Some, None, Ok, Err}
 use Rattle.image_header.specs.Scan.{header_of, landings_of, blocks_of}
 use Rattle.command_table.specs.Rows.{row_of}
 use Rattle.walk.specs.Blocks.{command_at}
@@ -10,12 +10,12 @@ use Rattle.state.specs.declared.Values.{Values}
 use Rattle.machine.specs.Inputs.{Inputs, level}
 use Rattle.machine.specs.Effect.{effect_of}
 use Rattle.machine.specs.declared.Request.{Request}
-use Rattle.machine.specs.declared.Request.TheVariants.{None, MoveTo, MoveBy, Forward, Backward, Stop}
+use Rattle.machine.specs.declared.Request.TheVariants.{MoveTo, MoveBy, Forward, Backward, Stop}
 use Rattle.machine.specs.declared.Outcome.{Outcome}
 use Rattle.machine.specs.declared.Outcome.TheVariants.{GoOn, Stay, Jump, Call, Return, Start, Restart, End, Halt}
 use Rattle.machine.specs.declared.Effect.{Effect}
-use Rattle.machine.specs.declared.Answer.{Answer}
-use Rattle.machine.specs.declared.Answer.TheVariants.{Done, NoTask, Inputs as BadInputs, NotRunning, Halted}
+use Rattle.machine.specs.Answers.{Answer}
+use Rattle.machine.specs.declared.NotDone.TheVariants.{NoTask, Inputs as BadInputs, NotRunning, Halted}
 
 -- a task: whether it runs, its block, its start block, its wait (T and k), and its return blocks, the latest first
 pub record Thread : Type 0 where
@@ -85,30 +85,30 @@ follows t thread (Halt q) l = put t (off thread) l
 
 pub record ReferenceOut : Type 0 where
   pub machine : Machine
-  pub request : Request
+  pub request : Option Request
   pub answer : Answer
 
 abbrev pub stands_still : Machine → Answer → ReferenceOut
 stands_still m a = record { machine = m; request = None; answer = a }
 
 abbrev pub replies : Outcome → ℕ → Thread → Answer
-replies GoOn t thread = Done
-replies (Stay time turns) t thread = Done
-replies (Jump a) t thread = Done
-replies (Call a) t thread = Done
-replies Return t thread = Done
-replies (Start u a) t thread = Done
-replies Restart t thread = Done
-replies End t thread = Done
-replies (Halt q) t thread = Halted q (record { task = t; block = thread.block; depth = length thread.returns })
+replies GoOn t thread = Ok tt
+replies (Stay time turns) t thread = Ok tt
+replies (Jump a) t thread = Ok tt
+replies (Call a) t thread = Ok tt
+replies Return t thread = Ok tt
+replies (Start u a) t thread = Ok tt
+replies Restart t thread = Ok tt
+replies End t thread = Ok tt
+replies (Halt q) t thread = Err (Halted q (record { task = t; block = thread.block; depth = length thread.returns }))
 
 -- whether what is asked of the axis is a move: to a position, by a distance, or endless
-abbrev pub moving : Request → ℕ
-moving (MoveTo axis) = 1
-moving (MoveBy axis) = 1
-moving (Forward axis) = 1
-moving (Backward axis) = 1
-moving (Stop mode deceleration) = 0
+abbrev pub moving : Option Request → ℕ
+moving (Some (MoveTo axis)) = 1
+moving (Some (MoveBy axis)) = 1
+moving (Some (Forward axis)) = 1
+moving (Some (Backward axis)) = 1
+moving (Some (Stop mode deceleration)) = 0
 moving None = 0
 
 -- a task that 19, 20 or 22 halts has carried out nothing: what was noted of a move stands
@@ -153,7 +153,7 @@ lost (Halt q) l = false
 
 -- a return with nothing to return to stands still
 unfoldable pub tries : Machine → Inputs → Thread → Effect → ReferenceOut
-tries m x thread e = cond (lost e.outcome thread.returns) (stands_still m Done) (does m x thread e)
+tries m x thread e = cond (lost e.outcome thread.returns) (stands_still m (Ok tt)) (does m x thread e)
 
 -- the landing blocks of an image, as many as its landing count says (change request 1)
 abbrev pub landing_blocks : List ℕ → List ℕ
@@ -175,13 +175,13 @@ acts image m x thread =
       turns = thread.turns;
     })
     (command_at (blocks_of image) thread.block) m.values))
-    (stands_still m Done))
-    (stands_still m Done)
+    (stands_still m (Ok tt)))
+    (stands_still m (Ok tt))
 
 -- what 15 and 18 describe changes nothing
 unfoldable pub reference_step : List ℕ → Machine → Inputs → ReferenceOut
 reference_step image m x =
-    cond (ltb 2 x.task) (stands_still m (NoTask x.task))
+    cond (ltb 2 x.task) (stands_still m (Err (NoTask x.task)))
     (cond (eqb (length x.levels) 256)
-    (cond (get_or m.threads x.task idle).runs (acts image m x (get_or m.threads x.task idle)) (stands_still m NotRunning))
-    (stands_still m (BadInputs (length x.levels))))
+    (cond (get_or m.threads x.task idle).runs (acts image m x (get_or m.threads x.task idle)) (stands_still m (Err NotRunning)))
+    (stands_still m (Err (BadInputs (length x.levels)))))

@@ -1,8 +1,7 @@
 -- Runs (document 01, "Runs and the plain machine"): a list of steps from a fresh load, the state handed from step to step.
-use Rattle.std.specs.Prelude.{ℕ, ◌<◌, ◌≤◌, ◌≡◌, List, [], ◌∷◌}
+use Rattle.std.specs.Prelude.{ℕ, ◌<◌, ◌≤◌, ◌≡◌, List, [], ◌∷◌, Ok}
 use Rattle.limits.specs.Limits.{most_depth}
 use Rattle.image_header.specs.Scan.{header_of, blocks_of}
-use Rattle.walk_fault.specs.declared.Fault.TheVariants.{Fine}
 use Rattle.walk_flow.specs.Terms.{terms_of}
 use Rattle.walk.specs.Blocks.{fault_at, block_number}
 use Rattle.state.specs.declared.Task.{Task}
@@ -40,5 +39,5 @@ pub data SameHanded : List StepOut → List ReferenceOut → Type 0 where
 pub record Permitted (image : List ℕ) (t : ℕ) (task : Task) : Type 0 where
   pub block : task.block < (header_of image).header.count
   pub sound : block_number (terms_of image) (blocks_of image) task.block ≡ 0
-  pub fine : fault_at (terms_of image) (blocks_of image) (point_of t task) ≡ Fine
+  pub fine : fault_at (terms_of image) (blocks_of image) (point_of t task) ≡ Ok tt
   pub depth : task.depth ≤ most_depth

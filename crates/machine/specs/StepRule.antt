@@ -1,7 +1,7 @@
 -- What holds at every step of a run, by itself (demand 3, parts 4 to 6, 8 and 9 in docs/PROMISES.md): a return goes behind its task's own latest open call, a
 -- task stops only itself and for a named reason, no step moves another task but by 54, 57, 90 and 5B, and a 58 goes on exactly when the ramp has ended, the
 -- position is in the window and no move came right before; and a 56 or a 5B lands where its variable says.
-use Rattle.std.specs.Prelude.{ℕ, ◌+◌, ◌<◌, ◌≡◌, Bool, true, false, ◌&&◌, ◌||◌, not, cond, ◌⊎◌, List, [], ◌∷◌, eqb, ℤ, pos}
+use Rattle.std.specs.Prelude.{ℕ, ◌+◌, ◌<◌, ◌≡◌, Bool, true, false, ◌&&◌, ◌||◌, not, cond, ◌⊎◌, List, [], ◌∷◌, eqb, ℤ, pos, Option, Some, None, Ok, Err}
 use Rattle.limits.specs.Limits.{bias, plc, mathematics, task_count, most_speed, most_ramp, most_time}
 use Rattle.image_header.specs.Scan.{blocks_of}
 use Rattle.command_operands.specs.declared.Command.{Command}
@@ -18,9 +18,9 @@ use Rattle.machine.specs.Engine.{step, point_of, stopped, terms_held}
 use Rattle.machine.specs.declared.Cause.{Cause}
 use Rattle.machine.specs.declared.Cause.TheVariants.{ZeroDivisor, BadContent, NoLanding}
 use Rattle.machine.specs.declared.Request.{Request}
-use Rattle.machine.specs.declared.Request.TheVariants.{None, MoveTo, MoveBy, Forward, Backward, Stop}
-use Rattle.machine.specs.declared.Answer.{Answer}
-use Rattle.machine.specs.declared.Answer.TheVariants.{Done, NoTask, Inputs as BadInputs, NotRunning, Differs, Halted}
+use Rattle.machine.specs.declared.Request.TheVariants.{MoveTo, MoveBy, Forward, Backward, Stop}
+use Rattle.machine.specs.Answers.{Answer}
+use Rattle.machine.specs.declared.NotDone.TheVariants.{NoTask, Inputs as BadInputs, NotRunning, Differs, Halted}
 
 -- the command at the block where a step's task stands
 abbrev pub command_of : List ℕ → State → Inputs → Command
@@ -28,12 +28,12 @@ command_of image s x = command_at (blocks_of image) (task_at s x.task).block
 
 -- the command was executed: the step was neither refused nor did it halt its task
 abbrev pub executed : Answer → Bool
-executed Done = true
-executed (NoTask t) = false
-executed (BadInputs n) = false
-executed NotRunning = false
-executed (Differs p) = false
-executed (Halted q p) = false
+executed (Ok _) = true
+executed (Err (NoTask t)) = false
+executed (Err (BadInputs n)) = false
+executed (Err NotRunning) = false
+executed (Err (Differs p)) = false
+executed (Err (Halted q p)) = false
 
 -- ---- part 4: returns
 
@@ -106,11 +106,11 @@ pub data Stopped (image : List ℕ) (s : State) (x : Inputs) : Type 0 where
   -- it halted by 19, 20 or 22 at its point, keeping block, start and call stack; no value changed but BIAS's noted start level, the note of a move is as it
   -- was, and no motion is asked for
   by_refusal : (q : Cause) → Reason (terms_held s).landings (command_of image s x) s.values (task_at s x.task).time q
-      → (step image s x).answer ≡ Halted q (point_of x.task (task_at s x.task))
+      → (step image s x).answer ≡ Err (Halted q (point_of x.task (task_at s x.task)))
       → (step image s x).state.values ≡ level_noted x.task x.start s.values
       → task_at (step image s x).state x.task ≡ stopped halted (task_at s x.task) → (step image s x).request ≡ None → Stopped image s x
   -- it ended by a 51 of its own mode, keeping the same
-  by_itself : (command_of image s x).code ≡ 0x51 → (command_of image s x).x ≡ x.task + 1 → (step image s x).answer ≡ Done
+  by_itself : (command_of image s x).code ≡ 0x51 → (command_of image s x).x ≡ x.task + 1 → (step image s x).answer ≡ Ok tt
       → task_at (step image s x).state x.task ≡ stopped ended (task_at s x.task) → Stopped image s x
 
 -- ---- part 8: the wait for the position (change request 4)
@@ -120,13 +120,13 @@ abbrev pub is_move_code : ℕ → Bool
 is_move_code code = eqb code 0x00 || (eqb code 0x01 || (eqb code 0x03 || eqb code 0x04))
 
 -- something is asked of the axis
-abbrev pub asks_motion : Request → Bool
+abbrev pub asks_motion : Option Request → Bool
 asks_motion None = false
-asks_motion (MoveTo axis) = true
-asks_motion (MoveBy axis) = true
-asks_motion (Forward axis) = true
-asks_motion (Backward axis) = true
-asks_motion (Stop mode d) = true
+asks_motion (Some (MoveTo axis)) = true
+asks_motion (Some (MoveBy axis)) = true
+asks_motion (Some (Forward axis)) = true
+asks_motion (Some (Backward axis)) = true
+asks_motion (Some (Stop mode d)) = true
 
 -- after a step: whether the latest step of BIAS that was executed, and so was neither refused nor halted its task, was a move that was carried out
 abbrev pub moved_last : List ℕ → State → Inputs → Bool → Bool

@@ -1,12 +1,11 @@
 -- What is proved of steps on values: the theorem over every list of steps (demand 3, parts 1 to 6, 8 and 9 in docs/PROMISES.md; part 7 is `exactly` in
 -- walk/proofs/Verdicts/OfImage.antt), proved as `every_value_run` in proofs/Runs/EveryRun.antt; and that a step keeps good states, proved as `keeps_good` in
 -- proofs/Steps/KeepsGood.antt.
-use Rattle.std.specs.Prelude.{ℕ, ◌<◌, ◌≡◌, List}
+use Rattle.std.specs.Prelude.{ℕ, ◌<◌, ◌≡◌, List, Ok}
 use Rattle.limits.specs.Limits.{task_count}
 use Rattle.num_le.specs.LittleEndian.{Bytes}
 use Rattle.image_header.specs.Scan.{header_of, landings_of}
 use Rattle.walk.specs.Verdict.{verdict_of}
-use Rattle.walk.specs.declared.Verdict.TheVariants as verdict
 use Rattle.state.specs.State.{runs, task_at, fresh}
 use Rattle.state.specs.GoodState.{GoodState}
 use Rattle.state.specs.declared.State.{State}
@@ -38,7 +37,7 @@ pub record ValueRun (image : List ℕ) (xs : List Inputs) : Type 0 where
 
 -- every image that is accepted, with marks of any length, and every list of steps: any task numbers, any input levels
 abbrev pub EveryValueRun : Type 0
-EveryValueRun = (image : List ℕ) (marks : ℕ) → verdict_of image marks ≡ verdict.Accepted → (xs : List Inputs) → ValueRun image xs
+EveryValueRun = (image : List ℕ) (marks : ℕ) → verdict_of image marks ≡ Ok tt → (xs : List Inputs) → ValueRun image xs
 
 -- a good state stays good, whatever bytes the image has and whatever the step is given, in a run or not
 abbrev pub KeepsGood : Type 0

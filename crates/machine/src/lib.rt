@@ -9,7 +9,6 @@ use walk_point::Point;
 // The motion request of a step. A move carries the stored position, speed, acceleration and deceleration; a stop its mode and a deceleration.
 #[derive(Clone, Copy)]
 pub enum Request {
-    None,
     MoveTo(Axis),
     MoveBy(Axis),
     Forward(Axis),
@@ -55,14 +54,16 @@ pub enum Outcome {
 #[derive(Clone, Copy)]
 pub struct Effect {
     pub values: Values,
-    pub request: Request,
+    pub request: Option<Request>,
     pub outcome: Outcome,
 }
 
-// What a step answers.
+// What a step answers: done, or why not.
+pub type Answer = Result<(), NotDone>;
+
+// Why a step was not done: it is refused by 15, 18 or 17 and changes nothing, or 19, 20 or 22 halts its task.
 #[derive(Clone, Copy)]
-pub enum Answer {
-    Done,
+pub enum NotDone {
     // 15: no such task
     NoTask(u32),
     // 15: input levels of this length
@@ -91,6 +92,6 @@ pub struct Context {
 #[derive(Clone, Copy)]
 pub struct StepOut {
     pub state: State,
-    pub request: Request,
+    pub request: Option<Request>,
     pub answer: Answer,
 }

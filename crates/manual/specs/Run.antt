@@ -9,6 +9,7 @@ use Rattle.text_verdict.specs.Input.{input_length}
 use Rattle.bias.specs.Load.{Load, load}
 use Rattle.bias.specs.Step.{stepped}
 use Rattle.text_hex.specs.Hex.{hex_bytes}
+use Rattle.manual.specs.declared.StepInputs.{StepInputs}
 
 -- a record of steps: how often, the task, the start input, ramp ended, in window, and four inputs that are high (0: none)
 abbrev pub record_length : ℕ
@@ -22,6 +23,10 @@ levels_at steps at = high steps (at + 8) (high steps (at + 7) (high steps (at + 
 
 abbrev pub inputs_at : List ℕ → ℕ → Inputs
 inputs_at steps at = inputs_of (get_or steps (at + 1) 0) (levels_at steps at) (get_or steps (at + 2) 0) (get_or steps (at + 3) 0) (get_or steps (at + 4) 0)
+
+-- the inputs that the program gives to a step
+abbrev pub given : StepInputs → Inputs
+given x = inputs_of x.task x.levels x.start x.ramp_ended x.in_window
 
 -- the buffer after n steps of one kind
 unfoldable pub repeated : List ℕ → Inputs → ℕ → List ℕ → List ℕ

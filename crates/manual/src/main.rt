@@ -2,12 +2,11 @@
 // held to the file stdout, which comes from other readings of the papers and not from this code; docs/EXAMPLES.md says which, and names the examples.
 #![tactic(auto)]
 
-ghost use Rattle.std.specs.Prelude.{◌≡◌, ◌+◌, ◌/◌, ◌≤◌, ◌==◌, length, set, position, IfOk, OnOk};
+ghost use Rattle.std.specs.Prelude.{◌≡◌, ◌/◌, ◌≤◌, ◌==◌, length, position, IfOk, OnOk};
 ghost use Rattle.limits.specs.Limits.{state_length};
 ghost use Rattle.text_hex.specs.Lines.{lines_of};
-ghost use Rattle.machine.specs.Inputs.{inputs_of};
 ghost use Rattle.bias.specs.Step.{stepped};
-ghost use Rattle.manual.specs.Run.{record_length, levels_at, repeated, with_byte, recorded, after, after_example, space_of, behind, example};
+ghost use Rattle.manual.specs.Run.{record_length, given, levels_at, inputs_at, repeated, with_byte, recorded, after, after_example, space_of, behind, example};
 
 use limits::{CELLS, STATE_LENGTH};
 use std::io;
@@ -38,15 +37,13 @@ fn examples<P: Print>(rt: &P, text: &[u8]) -> io::Result<usize>
 {
     let mut from = 0;
     let mut n = 0;
-    let mut i = 0;
-    while i < text.len() {
-        if text[i] == LINE_END {
-            text_print::show(rt, b"example ", n as u64 + 1)?;
+    for (i, byte) in text.iter().enumerate() {
+        if *byte == LINE_END {
+            n += 1;
+            println!(rt; "example {n}")?;
             example(rt, &text[from..i])?;
             from = i + 1;
-            n += 1;
         }
-        i += 1;
     }
     Ok(n)
 }
@@ -55,7 +52,6 @@ fn examples<P: Print>(rt: &P, text: &[u8]) -> io::Result<usize>
 fn example<P: Print>(rt: &P, line: &[u8]) -> io::Result<[u8; STATE_LENGTH]>
     ensures { IfOk result (λ state. state ≡ example line.now) }
 {
-    rt.write_all(b"\n")?;
     let mut image = text_verdict::input();
     let mut steps = [0u8; STEPS_LENGTH];
     let k = space_of(line);
@@ -109,54 +105,35 @@ fn run_records<P: Print>(rt: &P, image: &[u8], steps: &[u8], state: &mut [u8]) -
     requires { length state.old ≡ state_length }
     ensures { OnOk result (state.new ≡ after image.now steps.now (length steps.now / record_length) state.old) }
 {
-    let n = steps.len() / RECORD_LENGTH;
-    let mut k = 0;
-    while k < n {
-        run_record(rt, image, steps, RECORD_LENGTH * k, state)?;
-        k += 1;
+    for entry in steps.chunks_exact(RECORD_LENGTH) {
+        run_record(rt, image, entry, state)?;
     }
     Ok(())
 }
 
-// The record at a place: its steps, or the byte that it puts.
-fn run_record<P: Print>(
-    rt: &P,
-    image: &[u8],
-    steps: &[u8],
-    at: usize,
-    state: &mut [u8],
-) -> io::Result<()>
+// A record: its steps, or the byte that it puts.
+fn run_record<P: Print>(rt: &P, image: &[u8], entry: &[u8], state: &mut [u8]) -> io::Result<()>
     requires state_len { length state.old ≡ state_length }
-    requires record_in_bounds { at + record_length ≤ length steps.now }
-    ensures { OnOk result (state.new ≡ recorded image.now steps.now at state.old) }
+    requires entry_len { length entry.now ≡ record_length }
+    ensures { OnOk result (state.new ≡ recorded image.now entry.now 0 state.old) }
 {
-    if steps[at] == 0 {
-        put_byte(steps, at, state);
+    let n = entry[0];
+    if n == 0 {
+        put_byte(entry, state);
         return Ok(());
     }
-    let inputs = levels(steps, at);
-    repeat(
-        rt,
-        image,
-        steps[at] as usize,
-        steps[at + 1] as u32,
-        &inputs,
-        steps[at + 2],
-        steps[at + 3],
-        steps[at + 4],
-        state,
-    )
+    repeat(rt, image, n, &inputs_at(entry), state)
 }
 
-// The byte of the record at a place, put into the state buffer; none is put past its end.
-fn put_byte(steps: &[u8], at: usize, state: &mut [u8])
+// The byte of a record, put into the state buffer; none is put past its end.
+fn put_byte(entry: &[u8], state: &mut [u8])
     requires state_len { length state.old ≡ state_length }
-    requires record_in_bounds { at + record_length ≤ length steps.now }
-    ensures { state.new ≡ with_byte steps.now at state.old }
+    requires entry_len { length entry.now ≡ record_length }
+    ensures { state.new ≡ with_byte entry.now 0 state.old }
 {
-    let low = steps[at + 1];
-    let high = steps[at + 2];
-    let value = steps[at + 3];
+    let low = entry[1];
+    let high = entry[2];
+    let value = entry[3];
     let place = num_le::read_u16([low, high]) as usize;
     if place >= STATE_LENGTH {
         return;
@@ -164,23 +141,39 @@ fn put_byte(steps: &[u8], at: usize, state: &mut [u8])
     state_bytes::put_byte(state, place, value);
 }
 
-// The input levels of the record at a place.
-fn levels(steps: &[u8], at: usize) -> [u8; CELLS]
-    requires { at + record_length ≤ length steps.now }
-    ensures { result ≡ levels_at steps.now at }
-{
-    let low = [0u8; CELLS];
-    let one = with_high(low, steps[at + 5]);
-    let two = with_high(one, steps[at + 6]);
-    let three = with_high(two, steps[at + 7]);
-    with_high(three, steps[at + 8])
+// What a step is given besides the image and the state.
+#[derive(Clone, Copy)]
+struct StepInputs {
+    task: u32,
+    levels: [u8; CELLS],
+    start: u8,
+    ramp_ended: u8,
+    in_window: u8,
 }
 
-// One more input high.
-fn with_high(mut levels: [u8; CELLS], pin: u8) -> [u8; CELLS]
-    ensures { result ≡ set levels pin 1 }
+// The inputs of a record.
+fn inputs_at(entry: &[u8]) -> StepInputs
+    requires { length entry.now ≡ record_length }
+    ensures { given result ≡ inputs_at entry.now 0 }
 {
-    levels[pin as usize] = 1;
+    StepInputs {
+        task: u32::from(entry[1]),
+        levels: levels(entry),
+        start: entry[2],
+        ramp_ended: entry[3],
+        in_window: entry[4],
+    }
+}
+
+// The input levels of a record.
+fn levels(entry: &[u8]) -> [u8; CELLS]
+    requires { length entry.now ≡ record_length }
+    ensures { result ≡ levels_at entry.now 0 }
+{
+    let mut levels = [0u8; CELLS];
+    for pin in &entry[5..] {
+        levels[*pin as usize] = 1;
+    }
     levels
 }
 
@@ -188,44 +181,35 @@ fn with_high(mut levels: [u8; CELLS], pin: u8) -> [u8; CELLS]
 fn repeat<P: Print>(
     rt: &P,
     image: &[u8],
-    n: usize,
-    task: u32,
-    inputs: &[u8],
-    start: u8,
-    ramp_ended: u8,
-    in_window: u8,
+    n: u8,
+    inputs: &StepInputs,
     state: &mut [u8],
 ) -> io::Result<()>
     requires { length state.old ≡ state_length }
-    ensures { OnOk result
-        (state.new ≡ repeated image.now (inputs_of task inputs.now start ramp_ended in_window) n state.old) }
+    ensures { OnOk result (state.new ≡ repeated image.now (given inputs.now) n state.old) }
 {
-    let mut i = 0;
-    while i < n {
-        step(rt, image, task, inputs, start, ramp_ended, in_window, state)?;
-        i += 1;
+    for _i in 0..n {
+        step(rt, image, inputs, state)?;
     }
     Ok(())
 }
 
 // One step and its line.
-fn step<P: Print>(
-    rt: &P,
-    image: &[u8],
-    task: u32,
-    inputs: &[u8],
-    start: u8,
-    ramp_ended: u8,
-    in_window: u8,
-    state: &mut [u8],
-) -> io::Result<()>
+fn step<P: Print>(rt: &P, image: &[u8], inputs: &StepInputs, state: &mut [u8]) -> io::Result<()>
     requires { length state.old ≡ state_length }
-    ensures { state.new
-        ≡ (stepped image.now state.old (inputs_of task inputs.now start ramp_ended in_window)).buffer }
+    ensures { state.new ≡ (stepped image.now state.old (given inputs.now)).buffer }
 {
     let a = state_copy::copy_in(state);
-    let r = bias::bias_step(image, state, task, inputs, start, ramp_ended, in_window);
+    let r = bias::bias_step(
+        image,
+        state,
+        inputs.task,
+        &inputs.levels,
+        inputs.start,
+        inputs.ramp_ended,
+        inputs.in_window,
+    );
     let b = state_copy::copy_in(state);
-    text_step::show_step(rt, image, &a, &b, task, r)?;
+    text_step::show_step(rt, image, &a, &b, inputs.task, r)?;
     Ok(())
 }

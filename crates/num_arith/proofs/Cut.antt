@@ -1,19 +1,19 @@
 -- A number cut to a width v, at every width: it fits, it is the number itself where that fits, and it is what the low bits of a wider pattern say.
-use mathlib.Core.Path.{◌≡◌, refl, sym, ap, ◌∙◌, subst}
-use Prim.Native.Nat.{ℕ, suc, ◌+◌, ◌-◌, ◌*◌, ◌/◌, ◌%◌, ◌^◌, ◌<◌, ◌≤◌}
-use native.Mathlib.Nat.{add-mod_right, mod-eq-sub-mod, mod-lt, mod-eq_of_lt, lt_of_lt_of_le, div-eq_of_lt, div-lt_iff_lt-mul, div-add-mod', add-mul, suc-mul}
+use mathlib.Core.Path.{◌≡◌, refl, sym, ap, ◌∙◌}
+use Prim.Native.Nat.{ℕ, suc, ◌-◌, ◌/◌, ◌%◌, ◌^◌, ◌<◌, ◌≤◌}
+use native.Mathlib.Nat.{add-mod_right, mod-eq-sub-mod, mod-lt, mod-eq_of_lt, lt_of_lt_of_le, div-eq_of_lt}
 use native.Mathlib.Omega.{arith}
-use lib.Arith.{digits_mod}
-use lib.Bits.{bit_and, and_mask, mask_lt}
-use lib.Dec.{T, leb, ltb, leb→le}
+use lib.Dec.{ltb}
 use mathlib.Core.Bool.{Bool, true, false, cond}
 use borrow.Author.Tests.{ltb-true, ltb-false}
 use lib.IntN.{ℤ, pos, negsuc, ◌+ℤ◌}
-use lib.Pow.{pow_mono, pow-add, pow_pos, pow-sub-lt}
+use lib.Pow.{pow_mono, pow_pos, pow-sub-lt}
 use mir.Syntax.{Width}
-use mir.Val.{Fits, SFits, bits, hbits, of_z, to_z}
-use mir.ValLaws.{half_full, to_z-Fits, bits-suc}
-use mir.Facts.{to_z-of_z, to_z_pos}
+use lib.Signed.{mag}
+use mir.Val.{Fits, SFits, bits, of_z, to_z}
+use mir.ValLaws.{half_full, to_z-Fits}
+use mir.Facts.{to_z-of_z}
+use Rattle.std.specs.Int.{int_wrap}
 use Rattle.num_arith.specs.Wrap.{word, wrap}
 use Rattle.num_arith.specs.Ops.{bit_at}
 
@@ -30,11 +30,15 @@ module _ (v : Width) where
       let q : word v z / 2 ^ n ≡ 0 = div-eq_of_lt (lt_of_lt_of_le (word_fits z).fits (pow_mono h)) in
       rw q
 
-  -- a number that fits has its own bits
-  pub word_same : (z : ℤ) → SFits v z → word v z ≡ of_z v z
+  -- a number that is less than a turn has its own bits
+  pub word_near : (z : ℤ) → mag z < 2 ^ bits v → word v z ≡ of_z v z
   unfolding word
-  word_same (pos k) f = mod-eq_of_lt (half_full v f.sfits)
-  word_same (negsuc k) f = ap (λ (n : ℕ). 2 ^ bits v - suc n) (mod-eq_of_lt (half_full v f.sfits))
+  word_near (pos k) h = mod-eq_of_lt h
+  word_near (negsuc k) h = ap (λ (n : ℕ). 2 ^ bits v - suc n) (mod-eq_of_lt h)
+
+  -- so has one that fits
+  pub word_same : (z : ℤ) → SFits v z → word v z ≡ of_z v z
+  word_same z f = word_near z (half_full v f.sfits)
 
   -- whatever z is, it is cut to a number from -2 ^ hbits v up to 2 ^ hbits v - 1
   pub wrap_fits : (z : ℤ) → SFits v (wrap v z)
@@ -61,34 +65,8 @@ module _ (v : Width) where
           let h : suc k ≤ 2 ^ bits v = ltb-false (2 ^ bits v) (suc k) e in
           mod-eq_of_lt (omega arith) ∙ ap (λ (n : ℕ). 2 ^ bits v - suc n) (sym (mod-eq_of_lt h))
 
--- M * c - 1 - k, modulo M
-below : (M c k : ℕ) → 0 < M → k < c * M → (c * M - suc k) % M ≡ M - suc (k % M)
-below M c k p h =
-    let q : k / M < c = (div-lt_iff_lt-mul p).1 h in
-    let r = mod-lt k p in
-    let s = div-add-mod' k M in
-    let d : ℕ = c - suc (k / M) in
-    let e : c ≡ d + suc (k / M) = omega arith in
-    let g : c * M ≡ d * M + suc (k / M) * M = ap (λ (n : ℕ). n * M) e ∙ add-mul d (suc (k / M)) M in
-    let l : suc (k / M) * M ≡ k / M * M + M = suc-mul (k / M) M in
-    let u : c * M - suc k ≡ d * M + (M - suc (k % M)) = omega arith in
-    ap (λ (n : ℕ). n % M) u ∙ digits_mod d (omega arith)
-
--- the low bits of a wider pattern
-module _ (v w : Width) (t : T (leb (bits v) (hbits w))) where
-  low_bits : (z : ℤ) → SFits w z → of_z w z % 2 ^ bits v ≡ word v z
-  unfolding word
-  low_bits (pos k) f = refl
-  low_bits (negsuc k) f =
-      let h : bits v ≤ hbits w = leb→le (bits v) (hbits w) t in
-      let b = bits-suc w in
-      let e : bits w ≡ bits w - bits v + bits v = omega arith in
-      let p : 2 ^ bits w ≡ 2 ^ (bits w - bits v) * 2 ^ bits v = ap (λ (n : ℕ). 2 ^ n) e ∙ pow-add 2 (bits w - bits v) (bits v) in
-      ap (λ (n : ℕ). (n - suc k) % 2 ^ bits v) p
-      ∙ below (2 ^ bits v) (2 ^ (bits w - bits v)) k (pow_pos (bits v)) (subst (λ (n : ℕ). k < n) p (half_full w f.sfits))
-
-  -- as `&` takes them out
-  pub masked : {z : ℤ} → SFits w z → to_z w (bit_and (of_z w z) (2 ^ bits v - 1)) ≡ pos (word v z)
-  masked {z} f =
-      to_z_pos w (lt_of_lt_of_le (mask_lt (of_z w z) (bits v)) (pow_mono (leb→le (bits v) (hbits w) t)))
-      ∙ ap pos (and_mask (of_z w z) (bits v) ∙ low_bits z f)
+  -- std's `int_wrap` cuts in the same way
+  pub is_wrap : (z : ℤ) → int_wrap v z ≡ wrap v z
+  unfolding wrap word int_wrap
+  is_wrap (pos k) = refl
+  is_wrap (negsuc k) = let e : 2 ^ bits v - 1 - k % 2 ^ bits v ≡ 2 ^ bits v - suc (k % 2 ^ bits v) = omega arith in ap (to_z v) e

@@ -3,9 +3,9 @@ use mathlib.Core.Path.{◌≡◌, refl}
 use mathlib.Core.Bool.{true}
 use lib.IntN.{ℤ, pos, negsuc, neg_ℤ, ◌+ℤ◌, ◌-ℤ◌, ◌*ℤ◌}
 use mir.Syntax.{w8, w32}
+use Rattle.std.specs.Prelude.{Some, None}
 use Rattle.num_arith.specs.Wrap.{word, wrap}
 use Rattle.num_arith.specs.Ops.{quotient, holds, bit_at}
-use Rattle.num_arith.specs.declared.Quotient.TheVariants.{Value, ByZero}
 
 most : ℤ
 most = pos 2147483647
@@ -34,15 +34,15 @@ unfolding most wrap word
 mul_most = refl
 
 -- -7 / 2 is -3, and -2^31 / -1 is -2^31
-div_toward_zero : quotient (negsuc 6) (pos 2) ≡ Value (negsuc 2)
+div_toward_zero : quotient (negsuc 6) (pos 2) ≡ Some (negsuc 2)
 unfolding quotient wrap word
 div_toward_zero = refl
 
-div_least : quotient least (negsuc 0) ≡ Value least
+div_least : quotient least (negsuc 0) ≡ Some least
 unfolding least quotient wrap word
 div_least = refl
 
-div_zero : quotient (pos 5) (pos 0) ≡ ByZero
+div_zero : quotient (pos 5) (pos 0) ≡ None
 unfolding quotient
 div_zero = refl
 

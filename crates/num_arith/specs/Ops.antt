@@ -1,10 +1,8 @@
 -- Quotients, comparisons and bits: document 01, "Running", and the conditions of 81 and 89.
-use Rattle.std.specs.Prelude.{ℕ, ◌/◌, ◌%◌, ◌^◌, Bool, false, not, cond, List, [], ◌∷◌, eqb, ℤ, pos, negsuc, ◌-ℤ◌, get_or}
+use Rattle.std.specs.Prelude.{ℕ, ◌/◌, ◌%◌, ◌^◌, Bool, false, not, cond, List, [], ◌∷◌, eqb, ℤ, pos, negsuc, ◌-ℤ◌, get_or, Option, Some, None}
 use Rattle.std.specs.Int.Signed.{lt_z, le_z, quot_z}
 use Rattle.std.specs.Int.{Width, w32}
 use Rattle.num_arith.specs.Wrap.{word, wrap}
-use Rattle.num_arith.specs.declared.Quotient.{Quotient}
-use Rattle.num_arith.specs.declared.Quotient.TheVariants.{Value, ByZero}
 
 -- whether two numbers are equal
 abbrev pub eq_z : ℤ → ℤ → Bool
@@ -13,9 +11,9 @@ eq_z (pos a) (negsuc b) = false
 eq_z (negsuc a) (pos b) = false
 eq_z (negsuc a) (negsuc b) = eqb a b
 
--- cut toward zero, as quot_z has it
-unfoldable pub quotient : ℤ → ℤ → Quotient
-quotient a b = cond (eq_z b (pos 0)) ByZero (Value (wrap w32 (quot_z a b)))
+-- cut toward zero, as quot_z has it; there is none by zero
+unfoldable pub quotient : ℤ → ℤ → Option ℤ
+quotient a b = cond (eq_z b (pos 0)) None (Some (wrap w32 (quot_z a b)))
 
 -- the conditions, by number from 0: a > b, a < b, a = b, a ≥ b, a ≤ b, a ≠ b;
 -- 6: the difference, as it is cut, is not negative; 7: it is negative

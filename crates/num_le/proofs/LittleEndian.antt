@@ -4,7 +4,7 @@ use Prim.Native.Nat.{ℕ, zero, suc, ◌+◌, ◌*◌, ◌/◌, ◌%◌, ◌^◌
 use native.Mathlib.Nat.{pow-suc}
 use native.Mathlib.Omega.{arith}
 use mathlib.Core.List.{List, [], ◌∷◌}
-use lib.ListN.{length, get_or}
+use lib.ListN.{length}
 use lib.IntN.{ℤ}
 use mir.Syntax.{Width, w8, w16, w32, w64, w128}
 use mir.Val.{Fits, SFits, bits, bytes, to_z}
@@ -42,17 +42,6 @@ put_back (b ∷ bs) h =
     let r : (b + 256 * le_number bs) % 256 ≡ b = omega arith in
     let q : (b + 256 * le_number bs) / 256 ≡ le_number bs = omega arith in
     rw (r, q, put_back bs (λ k. h (suc k)))
-
--- the number of n bytes that are handed over one by one
-abbrev pub spelled : ℕ → (ℕ → ℕ) → ℕ
-spelled zero f = 0
-spelled (suc n) f = f 0 + 256 * spelled n (λ k. f (suc k))
-
-pub spell : (n : ℕ) (s : List ℕ) → length s ≡ n → spelled n (λ k. get_or s k 0) ≡ le_number s
-spell zero [] h = refl
-spell zero (b ∷ bs) h = absurd (omega arith)
-spell (suc n) [] h = absurd (omega arith)
-spell (suc n) (b ∷ bs) h = ap (λ (m : ℕ). b + 256 * m) (spell n bs (omega arith))
 
 -- ---- signed numbers, at every width: the bytes of the two's complement pattern
 

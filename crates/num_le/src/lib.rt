@@ -2,7 +2,7 @@
 // an array of exactly its width, so no function here needs an index or a precondition.
 #![tactic(auto)]
 
-ghost use Rattle.std.specs.Prelude.{◌≡◌, ◌<◌};
+ghost use Rattle.std.specs.Prelude.{◌≡◌};
 ghost use Rattle.std.specs.Int.{w32};
 ghost use Rattle.std.proofs.Common.{to_z};
 ghost use Rattle.num_arith.specs.Wrap.{word};
@@ -19,13 +19,13 @@ pub fn read_u8(bytes: [u8; 1]) -> u8
 pub fn read_u16(bytes: [u8; 2]) -> u16
     ensures { result ≡ le_number bytes }
 {
-    wide16(bytes[0]) + 256 * wide16(bytes[1])
+    u16::from_le_bytes(bytes)
 }
 
 pub fn read_u32(bytes: [u8; 4]) -> u32
     ensures { result ≡ le_number bytes }
 {
-    wide32(bytes[0]) + 256 * (wide32(bytes[1]) + 256 * (wide32(bytes[2]) + 256 * wide32(bytes[3])))
+    u32::from_le_bytes(bytes)
 }
 
 pub fn read_i32(bytes: [u8; 4]) -> i32
@@ -43,34 +43,17 @@ pub fn put_u8(v: u8) -> [u8; 1]
 pub fn put_u16(v: u16) -> [u8; 2]
     ensures { result ≡ le_bytes 2 v }
 {
-    [(v % 256) as u8, (v / 256 % 256) as u8]
+    v.to_le_bytes()
 }
 
 pub fn put_u32(v: u32) -> [u8; 4]
     ensures { result ≡ le_bytes 4 v }
 {
-    [
-        (v % 256) as u8,
-        (v / 256 % 256) as u8,
-        (v / 256 / 256 % 256) as u8,
-        (v / 256 / 256 / 256 % 256) as u8,
-    ]
+    v.to_le_bytes()
 }
 
 pub fn put_i32(v: i32) -> [u8; 4]
     ensures { result ≡ le_bytes 4 (word w32 v) }
 {
     put_u32(pattern(v))
-}
-
-fn wide16(x: u8) -> u16
-    ensures { (result ≡ x) × (result < 256) }
-{
-    x as u16
-}
-
-fn wide32(x: u8) -> u32
-    ensures { (result ≡ x) × (result < 256) }
-{
-    x as u32
 }

@@ -1,4 +1,5 @@
 -- The example is accepted, by computation, and the theorem holds of its steps; what they come to is computed too.
+use Rattle.std.specs.Prelude.{Ok}
 use Prim.Native.Nat.{ℕ}
 use mathlib.Core.Path.{◌≡◌, refl, sym, ◌∙◌}
 use mathlib.Core.List.{List, map}
@@ -22,7 +23,6 @@ use Rattle.walk.specs.Successors as successors
 use Rattle.walk.specs.Graph.{least}
 use Rattle.walk.specs.Verdict as verdict
 use Rattle.walk.specs.Verdict.{verdict_of}
-use Rattle.walk.specs.declared.Verdict.TheVariants.{Accepted}
 use Rattle.walk.proofs.Verdicts.Fast.{closure_fast, walks_fast, blocks_fast, read_fast, verdict_fast, fast_is}
 use Rattle.state.specs.State as state
 use Rattle.state.specs.declared.Task.{Task}
@@ -31,7 +31,7 @@ use Rattle.machine.specs.Engine as engine
 use Rattle.machine.specs.declared.StepOut.{StepOut}
 use Rattle.machine.specs.Run.{outs, state_after}
 use Rattle.machine.specs.Theorem.{ValueRun, loaded}
-use Rattle.machine.specs.declared.Answer.{Answer}
+use Rattle.machine.specs.Answers.{Answer}
 use Rattle.machine.proofs.Runs.EveryRun.{every_value_run}
 use Rattle.proved_cases.specs.Example.{program as image, steps, example_answers, Place, places}
 use Rattle.proved_cases.specs.Example.{until_start, places_at_start, until_jump, places_at_jump}
@@ -48,7 +48,7 @@ places_after n = places_of (state_after image (loaded image) (take n steps)).tas
 
 -- what is computed: the verdict, the answers, where the tasks are afterwards and at two places before, and flag 1
 record Computed : Type 0 where
-  verdict : verdict_fast image marks_length ≡ Accepted
+  verdict : verdict_fast image marks_length ≡ Ok tt
   example_answers : answers_of (outs image (loaded image) steps) ≡ example_answers
   places : places_of (state_after image (loaded image) steps).tasks ≡ places
   at_start : places_after until_start ≡ places_at_start
@@ -79,7 +79,7 @@ unfolding
     outs state_after
 computed = record { verdict = refl; example_answers = refl; places = refl; at_start = refl; at_jump = refl; flag = refl }
 
-pub accepted : verdict_of image marks_length ≡ Accepted
+pub accepted : verdict_of image marks_length ≡ Ok tt
 accepted = sym (fast_is image marks_length) ∙ computed.verdict
 
 -- the theorem, of these steps

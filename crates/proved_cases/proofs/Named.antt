@@ -1,10 +1,11 @@
 -- The rows of the table by name and answer, in document 01's order: none is left out, and none answers what it should not.
+use Rattle.std.specs.Prelude.{Some, None}
 use mathlib.Core.Path.{◌≡◌, refl}
 use mathlib.Core.List.{[], ◌∷◌, map}
 use lib.ListN.{replicate}
 use lib.IntN.{negsuc}
 use Rattle.state.specs.State.{start_axis}
-use Rattle.machine.specs.declared.Request.TheVariants.{None, MoveTo}
+use Rattle.machine.specs.declared.Request.TheVariants.{MoveTo}
 use Rattle.proved_cases.specs.Images.{block, first_blocks, landing_bytes, assign}
 use Rattle.proved_cases.specs.Table.{Name, Reply, Entry, turn, start_at, stand, came, accepted, case_table}
 use Rattle.proved_cases.specs.Table.Name.{A, B, C, D, E, F, G, H, I, J, K, L, chain_of, marks_of, block_before_task, task_before_depth, on_drive, output_instead}
@@ -33,7 +34,7 @@ pub named : map (λ (r : Entry). told r.name r.answer) case_table
     ∷ told (on_drive 2 0 0 (block 99 0 101 0 ∷ [])) (refusal 23 0 0 0) ∷ told (on_drive 2 0 0 (block 114 101 1 0 ∷ [])) (refusal 6 0 0 0)
     ∷ told (on_drive 2 0 0 (block 114 217 2 0 ∷ [])) (refusal 23 0 0 0) ∷ told (on_drive 3 0 0 (block 110 0 0 0 ∷ [])) (refusal 6 0 0 0)
     ∷ told (output_instead 217) (refusal 17 0 0 0) ∷ told (output_instead 8) (refusal 17 0 0 0) ∷ told (output_instead 13) accepted
-    ∷ told held_start (motions (None ∷ None ∷ None ∷ MoveTo start_axis ∷ [])) ∷ told start_mark (motions (None ∷ MoveTo start_axis ∷ None ∷ None ∷ []))
+    ∷ told held_start (motions (None ∷ None ∷ None ∷ Some (MoveTo start_axis) ∷ [])) ∷ told start_mark (motions (None ∷ Some (MoveTo start_axis) ∷ None ∷ None ∷ []))
     ∷ told (in_steps (block 14 0 0 0 ∷ block 0 0 0 0 ∷ block 88 0 0 0 ∷ block 85 2 0 0 ∷ [])
     (turn 0 1 1 256 ∷ turn 0 1 1 256 ∷ turn 0 1 1 256 ∷ turn 0 1 1 256 ∷ []))
     (trail 0 (came 0 1 ∷ came 0 2 ∷ came 0 2 ∷ came 0 3 ∷ []))

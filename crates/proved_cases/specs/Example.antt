@@ -1,13 +1,13 @@
 -- A program in which much happens at once: three tasks, calls inside calls, a wait, jumps by variable and a BIAS that the PLC starts by variable (change
 -- request 1), a task that halts, and a return to start that starts the others again; and a list of steps of it. The theorem over lists of steps is not
 -- empty: it speaks of this (proofs/Example.antt).
-use Rattle.std.specs.Prelude.{ℕ, List, [], ◌∷◌, map, replicate}
+use Rattle.std.specs.Prelude.{ℕ, List, [], ◌∷◌, map, replicate, Ok, Err}
 use Rattle.walk_point.specs.PointFault.{point}
 use Rattle.state.specs.State.{runs, halted}
 use Rattle.machine.specs.Inputs.{Inputs}
 use Rattle.machine.specs.declared.Cause.TheVariants.{ZeroDivisor, NoLanding}
-use Rattle.machine.specs.declared.Answer.{Answer}
-use Rattle.machine.specs.declared.Answer.TheVariants.{Done, NoTask, NotRunning, Halted}
+use Rattle.machine.specs.Answers.{Answer}
+use Rattle.machine.specs.declared.NotDone.TheVariants.{NoTask, NotRunning, Halted}
 use Rattle.proved_cases.specs.Images.{block, plain, toward, landing_image}
 
 abbrev pub program : List ℕ
@@ -61,8 +61,8 @@ steps = map step_of order
 -- what is answered: mathematics halts by 22, then, started again, by 19; its step behind the 22 is refused by 18, that of task 3 by 15
 abbrev pub example_answers : List Answer
 example_answers =
-    Done ∷ Done ∷ Halted NoLanding (point 2 17 0) ∷ NotRunning ∷ Done ∷ Done ∷ Done ∷ Done ∷ Done ∷ Done ∷ Done ∷ Done ∷ Done ∷ Done ∷ Done ∷ Done ∷ Done ∷ Done
-    ∷ Done ∷ Halted ZeroDivisor (point 2 18 0) ∷ NoTask 3 ∷ replicate 16 Done
+    Ok tt ∷ Ok tt ∷ Err (Halted NoLanding (point 2 17 0)) ∷ Err NotRunning ∷ Ok tt ∷ Ok tt ∷ Ok tt ∷ Ok tt ∷ Ok tt ∷ Ok tt ∷ Ok tt ∷ Ok tt ∷ Ok tt ∷ Ok tt ∷ Ok tt ∷ Ok tt ∷ Ok tt ∷ Ok tt
+    ∷ Ok tt ∷ Err (Halted ZeroDivisor (point 2 18 0)) ∷ Err (NoTask 3) ∷ replicate 16 (Ok tt)
 
 -- what is left of a task
 pub record Place : Type 0 where

@@ -1,18 +1,18 @@
 -- Document 01's cases as one table of questions and answers ("Examples and faults to shut out"), and the change requests'. The questions are put to
 -- the definitions that stand in the contracts.
-use Rattle.std.specs.Prelude.{ℕ, List, [], ◌∷◌, ◌++◌, map, replicate, ℤ, pos, negsuc}
+use Rattle.std.specs.Prelude.{ℕ, List, [], ◌∷◌, ◌++◌, map, replicate, ℤ, pos, negsuc, Option, Some, None, Result, Ok, Err}
 use Rattle.image_number.specs.Number.{number_at}
 use Rattle.image_number.specs.declared.Number.{Number}
-use Rattle.image_number.specs.declared.Number.TheVariants.{Value, EndsEarly, NotShortest}
+use Rattle.image_number.specs.declared.NumberFault.{NumberFault}
+use Rattle.image_number.specs.declared.NumberFault.TheVariants.{EndsEarly, NotShortest}
 use Rattle.image_result.specs.ImageResult.{result_number, result_place}
-use Rattle.image_result.specs.declared.ImageResult.{ImageResult}
-use Rattle.image_result.specs.declared.ImageResult.TheVariants as result
+use Rattle.image_result.specs.ImageResult.{ImageResult}
+use Rattle.image_result.specs.declared.ImageFault.TheVariants as result
 use Rattle.image_writer.specs.Writer.{with_landings, written}
-use Rattle.image_writer.specs.declared.Written.{Written}
 use Rattle.command_operands.specs.Operands.{command}
 use Rattle.command_operands.specs.declared.Command.{Command}
 use Rattle.walk.specs.Verdict.{verdict_of, verdict_number, verdict_place, verdict_task, verdict_depth}
-use Rattle.walk.specs.declared.Verdict.{Verdict}
+use Rattle.walk.specs.Verdict.{Verdict}
 use Rattle.state.specs.State.{start_axis, fresh_values, with_variable, task_at}
 use Rattle.state.specs.declared.Task.{Task}
 use Rattle.state.specs.declared.State.{State}
@@ -21,12 +21,12 @@ use Rattle.machine.specs.declared.Context.{Context}
 use Rattle.machine.specs.Effect.{effect_of, variable}
 use Rattle.machine.specs.Engine.{step}
 use Rattle.machine.specs.declared.StepOut.{StepOut}
-use Rattle.machine.specs.declared.Answer as machine
+use Rattle.machine.specs.Answers.{Answer}
 use Rattle.machine.specs.Numbers.{answer_number, answer_place, answer_task, answer_depth}
 use Rattle.machine.specs.Run.{outs, state_after}
 use Rattle.machine.specs.Theorem.{loaded}
 use Rattle.machine.specs.declared.Request.{Request}
-use Rattle.machine.specs.declared.Request.TheVariants.{None, MoveTo}
+use Rattle.machine.specs.declared.Request.TheVariants.{MoveTo}
 use Rattle.proved_cases.specs.Images.{block, plain, toward, header, image, image_with, image_for, image_at, block_a, case_a, chain}
 use Rattle.proved_cases.specs.Images.{landing_header, landing_image, landing_image_at, first_blocks, landing_bytes, assign}
 
@@ -140,7 +140,7 @@ pub data Reply : Type 0 where
   no_number : ℕ → Reply
   standing : Stand → Stand → Reply
   whole : ℤ → Reply
-  motions : List Request → Reply
+  motions : List (Option Request) → Reply
   -- document 01's number of the load, and each step
   trail : ℕ → List Came → Reply
 
@@ -150,16 +150,16 @@ accepted = refusal 0 0 0 0
 abbrev pub answer_of : Verdict → Reply
 answer_of v = refusal (verdict_number v) (verdict_place v) (verdict_task v) (verdict_depth v)
 
-abbrev pub step_answer_of : machine.Answer → Reply
+abbrev pub step_answer_of : Answer → Reply
 step_answer_of a = refusal (answer_number a) (answer_place a) (answer_task a) (answer_depth a)
 
 abbrev pub result_reply : ImageResult → Reply
 result_reply r = refusal (result_number r) (result_place r) 0 0
 
-abbrev pub number_reply : Number → Reply
-number_reply (Value v next) = value v
-number_reply EndsEarly = no_number (result_number (result.EndsEarly 0))
-number_reply NotShortest = no_number (result_number (result.NotShortest 0))
+abbrev pub number_reply : Result Number NumberFault → Reply
+number_reply (Ok x) = value x.value
+number_reply (Err EndsEarly) = no_number (result_number (Err (result.EndsEarly 0)))
+number_reply (Err NotShortest) = no_number (result_number (Err (result.NotShortest 0)))
 
 -- what a command of BIAS may read on a 637 where all inputs are low and no wait is pending
 abbrev pub low : Context
@@ -179,7 +179,7 @@ stand_at task = stand task.block task.time task.turns
 unfoldable pub standings : List ℕ → State → Reply
 standings bytes s = standing (stand_at (task_at s 0)) (stand_at (task_at (step bytes s (bias_step 0)).state 0))
 
-abbrev pub motions_of : List StepOut → List Request
+abbrev pub motions_of : List StepOut → List (Option Request)
 motions_of = map (λ (o : StepOut). o.request)
 
 abbrev pub step_for : Turn → Inputs
@@ -380,9 +380,9 @@ case_table =
     -- at a block that neither refuses it is carried out
     instead_row 13 accepted ∷
     -- faults: a start input that is high at load is no slope; one that is low and then high is
-    entry held_start (requested mover (1 ∷ 1 ∷ 0 ∷ 1 ∷ [])) (motions (None ∷ None ∷ None ∷ MoveTo start_axis ∷ [])) ∷
+    entry held_start (requested mover (1 ∷ 1 ∷ 0 ∷ 1 ∷ [])) (motions (None ∷ None ∷ None ∷ Some (MoveTo start_axis) ∷ [])) ∷
     -- the start mark of 0E starts a move without a slope, which clears it
-    entry start_mark (requested marked (1 ∷ 1 ∷ 1 ∷ 1 ∷ [])) (motions (None ∷ MoveTo start_axis ∷ None ∷ None ∷ [])) ∷
+    entry start_mark (requested marked (1 ∷ 1 ∷ 1 ∷ 1 ∷ [])) (motions (None ∷ Some (MoveTo start_axis) ∷ None ∷ None ∷ [])) ∷
     -- change request 4, a move, then a 58 with both bits: the third step stays, the fourth passes; the same of 01, 03 and 04
     move_row 0x00 ∷
     move_row 0x01 ∷

@@ -1,5 +1,6 @@
 -- What `Demand` and `EveryStep` give when they are taken apart, in the numbers and buffers that C sees: one way more, or one thing less, in specs/Theorem.antt
 -- and specs/Every.antt is noticed here, or in Loads.antt and Every.antt, where theorems go both ways.
+use Rattle.std.specs.Prelude.{Ok, Err}
 use Prim.Native.Nat.{ℕ, ◌<◌, ◌≤◌}
 use native.Mathlib.Omega.{arith}
 use mathlib.Core.Path.{◌≡◌, refl, sym, ap, ◌∙◌}
@@ -12,12 +13,17 @@ use Rattle.num_le.specs.LittleEndian.{Bytes}
 use Rattle.logic.proofs.Choice.{clash}
 use Rattle.image_header.specs.Scan.{blocks_of}
 use Rattle.walk_point.specs.declared.Point.{Point}
+use Rattle.image_result.specs.ImageResult.{done}
+use Rattle.command_judge.specs.BlockFault.{block_fault_number}
+use Rattle.command_judge.proofs.Numbers.{refused_number}
+use Rattle.walk_fault.specs.declared.Fault.{Fault}
+use Rattle.walk.specs.Blocks.{fault_at}
 use Rattle.walk_flow.specs.Terms.{terms_of}
 use Rattle.walk.specs.Blocks.{fault_at}
 use Rattle.walk.specs.IsVerdict.{BadAt, NoForeign, IsWalksVerdict, IsVerdict}
 use Rattle.walk.specs.Verdict.{verdict_number}
-use Rattle.walk.specs.declared.Verdict.{Verdict}
-use Rattle.walk.specs.declared.Verdict.TheVariants as verdict
+use Rattle.walk.specs.Verdict.{Verdict}
+use Rattle.walk.specs.declared.Refusal.TheVariants as verdict
 use Rattle.walk.proofs.Points.Order.{block_first, then_task, then_depth}
 use Rattle.state.specs.State.{runs, task_at}
 use Rattle.state_layout.specs.Layout.{decoded, encoded}
@@ -31,8 +37,8 @@ use Rattle.machine.specs.Theorem.{loaded}
 use Rattle.machine.specs.StepRule.{Past, no_past, past_after, StepRule}
 use Rattle.machine.specs.declared.Cause.{Cause}
 use Rattle.machine.specs.declared.Cause.TheVariants.{ZeroDivisor, BadContent, NoLanding}
-use Rattle.machine.specs.declared.Answer.{Answer}
-use Rattle.machine.specs.declared.Answer.TheVariants.{Done, NoTask, Inputs as BadInputs, NotRunning, Differs, Halted}
+use Rattle.machine.specs.Answers.{Answer}
+use Rattle.machine.specs.declared.NotDone.TheVariants.{NoTask, Inputs as BadInputs, NotRunning, Differs, Halted}
 use Rattle.machine.proofs.Runs.Apart.{thread_for, both_run, alike_is, permitted_fits}
 use Rattle.bias_results.specs.Results.{verdict_for}
 use Rattle.bias_results.specs.declared.BiasAnswer.{BiasAnswer}
@@ -53,21 +59,21 @@ halt_number NoLanding = omega arith
 
 -- 16 is no answer of a state's step, and 17 is the one that says that the image differs
 not_17 : (a : Answer) → differs a ≡ false → 16 ≤ answer_number a → answer_number a ≤ 17 → ⊥
-not_17 Done d l h = omega arith
-not_17 (NoTask t) d l h = omega arith
-not_17 (BadInputs n) d l h = omega arith
-not_17 NotRunning d l h = omega arith
-not_17 (Differs p) d l h = clash d
-not_17 (Halted q p) d l h = let n = halt_number q in omega arith
+not_17 (Ok _) d l h = omega arith
+not_17 (Err (NoTask t)) d l h = omega arith
+not_17 (Err (BadInputs n)) d l h = omega arith
+not_17 (Err NotRunning) d l h = omega arith
+not_17 (Err (Differs p)) d l h = clash d
+not_17 (Err (Halted q p)) d l h = let n = halt_number q in omega arith
 
 -- 15 to 18 are refusals
 is_refused : (a : Answer) → 15 ≤ answer_number a → answer_number a ≤ 18 → refused a ≡ true
-is_refused Done l h = absurd (omega arith)
-is_refused (NoTask t) l h = refl
-is_refused (BadInputs n) l h = refl
-is_refused NotRunning l h = refl
-is_refused (Differs p) l h = refl
-is_refused (Halted q p) l h = let n = halt_number q in absurd (omega arith)
+is_refused (Ok _) l h = absurd (omega arith)
+is_refused (Err (NoTask t)) l h = refl
+is_refused (Err (BadInputs n)) l h = refl
+is_refused (Err NotRunning) l h = refl
+is_refused (Err (Differs p)) l h = refl
+is_refused (Err (Halted q p)) l h = let n = halt_number q in absurd (omega arith)
 
 module _ {image b : List ℕ} {past : Past} {x : Inputs} (e : StepOn image past b x) where
   number_is : (stepped image b x).answer.number ≡ answer_number (step image (decoded b) x).answer
@@ -132,7 +138,9 @@ Bad image = BadAt (terms_of image) (blocks_of image)
 pub record Topmost (image : List ℕ) (v : BiasVerdict) : Type 0 where
   pub place : Point
   pub bad : Bad image place
-  pub named : v ≡ verdict_for (verdict.Bad (fault_at (terms_of image) (blocks_of image) place) place)
+  pub fault : Fault
+  pub broken : fault_at (terms_of image) (blocks_of image) place ≡ Err fault
+  pub named : v ≡ verdict_for (Err (verdict.Bad fault place))
   -- no bad place is in a block above it; in its block none is of an earlier task, and of its task none is less deep
   pub none_above : (q : Point) → Bad image q → place.block ≤ q.block
   pub none_earlier : (q : Point) → Bad image q → place.block ≡ q.block → place.task ≤ q.task
@@ -191,14 +199,16 @@ module _ (d : Demand) (image : List ℕ) (n : ℕ) (b : List ℕ) where
   module _ (w : WellFormed image n b) (own : NoForeign (terms_of image) (blocks_of image)) where
     judged_topmost : {v : Verdict} → IsVerdict image n v → (verdict_number v ≡ 0 → ⊥) → Topmost image (verdict_for v)
     judged_topmost (IsVerdict.marks short) r = absurd (let m = w.marks in omega arith)
-    judged_topmost (IsVerdict.header room f) r = clash (sym w.header ∙ f)
-    judged_topmost (IsVerdict.block room f c l all bad) r = absurd (bad (w.blocks c l))
+    judged_topmost (IsVerdict.header room f e) r = clash (sym w.header ∙ ap done e)
+    judged_topmost (IsVerdict.block room f c l all g e) r = absurd (refused_number g (sym (ap block_fault_number e) ∙ w.blocks c l))
     judged_topmost (IsVerdict.walks room f all v (IsWalksVerdict.accepted g h)) r = absurd (r refl)
     judged_topmost (IsVerdict.walks room f all v (IsWalksVerdict.foreign p g h)) r = absurd (own p g)
-    judged_topmost (IsVerdict.walks room f all v (IsWalksVerdict.bad g p q least)) r =
+    judged_topmost (IsVerdict.walks room f all v (IsWalksVerdict.bad g p q least k e)) r =
         record {
           place = p;
           bad = q;
+          fault = k;
+          broken = e;
           named = refl;
           none_above = λ o k. block_first p o (least o k);
           none_earlier = λ o k. then_task p o (least o k);

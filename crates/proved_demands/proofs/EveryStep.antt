@@ -1,5 +1,6 @@
 -- Every step of bytes goes one of the ways of specs/Every.antt, by the tests that lead there, and what it answers and leaves is that way's: a command halts
 -- exactly for its reason, and where it halts no wait was pending.
+use Rattle.std.specs.Prelude.{None, Ok, Err}
 use Prim.Native.Nat.{ℕ}
 use native.Mathlib.Omega.{arith}
 use mathlib.Core.Path.{◌≡◌, refl, sym, ap, ◌∙◌, subst}
@@ -30,9 +31,8 @@ use Rattle.machine.specs.Engine.{performed, carried_out, task_step, step, terms_
 use Rattle.machine.specs.Engine as engine
 use Rattle.machine.specs.StepRule.{command_of, Reason}
 use Rattle.machine.specs.declared.Cause.{Cause}
-use Rattle.machine.specs.declared.Request.TheVariants.{None}
-use Rattle.machine.specs.declared.Answer.{Answer}
-use Rattle.machine.specs.declared.Answer.TheVariants.{Done, NotRunning, Differs, Halted}
+use Rattle.machine.specs.Answers.{Answer}
+use Rattle.machine.specs.declared.NotDone.TheVariants.{NotRunning, Differs, Halted}
 use Rattle.machine.specs.declared.Effect.{Effect}
 use Rattle.machine.specs.declared.Outcome.{Outcome}
 use Rattle.machine.specs.declared.Outcome.TheVariants as outcome
@@ -77,7 +77,7 @@ status_alone task e f = λ ι. task_with halted task.block task.start task.depth
 
 -- ---- an outcome is a halt, or is answered 0
 
-halt_or_done : (o : Outcome) (p : Point) → ((q : Cause) × (o ≡ outcome.Halt q)) ⊎ ((answer_to o p ≡ Done) × (is_halt o ≡ false))
+halt_or_done : (o : Outcome) (p : Point) → ((q : Cause) × (o ≡ outcome.Halt q)) ⊎ ((answer_to o p ≡ Ok tt) × (is_halt o ≡ false))
 halt_or_done outcome.GoOn p = inr (refl, refl)
 halt_or_done (outcome.Stay time turns) p = inr (refl, refl)
 halt_or_done (outcome.Jump a) p = inr (refl, refl)
@@ -131,8 +131,8 @@ module _ (image b : List ℕ) (x : Inputs) where
       performs = to_task r.runs.held ∙ ap handed (rw (eq-eqb task.status runs r.runs.running, r.fits))
 
       -- the command's number is 0 where it does not halt its task
-      carried : answer_to e.outcome (point_of x.task task) ≡ Done
-          → Gives (answer_for (carried_out (blocks_of image) s x task).request Done) (encoded (carried_out (blocks_of image) s x task).state)
+      carried : answer_to e.outcome (point_of x.task task) ≡ Ok tt
+          → Gives (answer_for (carried_out (blocks_of image) s x task).request (Ok tt)) (encoded (carried_out (blocks_of image) s x task).state)
       unfolding handed performed
       carried z = given_by _ _ (performs
           ∙ (λ ι. record { answer = answer_for e.request (z ι); buffer = encoded (carried_out (blocks_of image) s x task).state }))
@@ -157,7 +157,7 @@ module _ (image b : List ℕ) (x : Inputs) where
           let waiting = (both (block_fits (terms_held s) (blocks_of image) x.task task) (wait_fits (blocks_of image) task) here.1).1 in
           sym (ap (λ (u : Bool). not u || is_wait (command_of image s x).code) t) ∙ waiting
 
-      halting : (q : Cause) → e.outcome ≡ outcome.Halt q → Gives (answer_for None (Halted q (point_of x.task task))) (encoded (halted_state s x))
+      halting : (q : Cause) → e.outcome ≡ outcome.Halt q → Gives (answer_for None (Err (Halted q (point_of x.task task)))) (encoded (halted_state s x))
       unfolding handed performed
       halting q i =
           let still = rule.still (ap is_halt i) in
@@ -175,7 +175,7 @@ module _ (image b : List ℕ) (x : Inputs) where
             });
           })
           ∙ (λ ι. record {
-            answer = answer_for None (Halted q (point_of x.task task));
+            answer = answer_for None (Err (Halted q (point_of x.task task)));
             buffer = encoded (record {
               values = level_noted_lem x.task x.start q None s.values ι;
               header = s.header;
@@ -187,7 +187,7 @@ module _ (image b : List ℕ) (x : Inputs) where
 
       -- a command without a reason does not halt
       going : ((q : Cause) → ReasonHere image b x q → ⊥)
-          → Gives (answer_for (carried_out (blocks_of image) s x task).request Done) (encoded (carried_out (blocks_of image) s x task).state)
+          → Gives (answer_for (carried_out (blocks_of image) s x task).request (Ok tt)) (encoded (carried_out (blocks_of image) s x task).state)
       going n = ⊎_elim (λ h. absurd (n h.0 (reason_of h.0 h.1))) (λ h. carried h.0) (halt_or_done e.outcome (point_of x.task task))
 
     -- ---- what a way says is what the step gives
@@ -197,8 +197,8 @@ module _ (image b : List ℕ) (x : Inputs) where
     gives _ _ (Way.no_task l) = given_by _ _ (no_task_lem image b x l)
     gives _ _ (Way.bad_inputs l n) = given_by _ _ (bad_inputs_lem image b x l n)
     gives _ _ (Way.no_state q is) = given_by _ _ (of_buffer image b x q.task q.levels ∙ no_state_lem image b x is)
-    gives _ _ (Way.not_running h n) = put_back h NotRunning (rw (ne_eqb task.status runs n))
-    gives _ _ (Way.differs h f) = put_back h.held (Differs (point_of x.task task)) (rw (eq-eqb task.status runs h.running, f))
+    gives _ _ (Way.not_running h n) = put_back h (Err NotRunning) (rw (ne_eqb task.status runs n))
+    gives _ _ (Way.differs h f) = put_back h.held (Err (Differs (point_of x.task task))) (rw (eq-eqb task.status runs h.running, f))
     gives _ _ (Way.done r n) = going r n
     gives _ _ (Way.halts r q h) = halting r q (halts_for x.levels (terms_held s).landings (context_of s task x) (command_of image s x) s.values h)
 
@@ -208,29 +208,29 @@ module _ (image b : List ℕ) (x : Inputs) where
     goes {a} {after} w = let g = gives a after w in
         subst (λ (l : List ℕ). Way image b x (stepped image b x).answer l) g.buffer (subst (λ (r : BiasAnswer). Way image b x r after) g.answer w)
 
-    abbrev Some : Type 0
-    Some = Way image b x (stepped image b x).answer (stepped image b x).buffer
+    abbrev SomeWay : Type 0
+    SomeWay = Way image b x (stepped image b x).answer (stepped image b x).buffer
 
     -- a command that does not halt its task has no reason to
-    executed_way : Ready image b x → Some
+    executed_way : Ready image b x → SomeWay
     executed_way r =
         ⊎_elim (λ h. goes (Way.halts r h.0 (reason_of r h.0 h.1)))
         (λ h. goes (Way.done r (λ q w. clash (ap is_halt (sym (halts_for x.levels (terms_held s).landings (context_of s task x) (command_of image s x) s.values w)) ∙ h.1))))
         (halt_or_done (e r).outcome (point_of x.task task))
 
-    running_way : Running b x → (t : Bool) → fits image (terms_held s) x.task task ≡ t → Some
+    running_way : Running b x → (t : Bool) → fits image (terms_held s) x.task task ≡ t → SomeWay
     running_way h true f = executed_way (record { runs = h; fits = f })
     running_way h false f = goes (Way.differs h f)
 
-    held_way : Held b x → (t : Bool) → eqb task.status runs ≡ t → Some
+    held_way : Held b x → (t : Bool) → eqb task.status runs ≡ t → SomeWay
     held_way h true f = running_way (record { held = h; running = eqb-true _ _ f }) (fits image (terms_held s) x.task task) refl
     held_way h false f = goes (Way.not_running h (eqb-false _ _ f))
 
-    asked_way : Asked x → (t : Bool) → is_state b ≡ t → Some
+    asked_way : Asked x → (t : Bool) → is_state b ≡ t → SomeWay
     asked_way q true is = held_way (record { asked = q; state = is }) (eqb task.status runs) refl
     asked_way q false is = goes (Way.no_state q is)
 
-    some_way : Some
+    some_way : SomeWay
     some_way =
         asked image b x
         (λ l. goes (Way.no_task l))

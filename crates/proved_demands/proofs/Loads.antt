@@ -1,5 +1,6 @@
 -- What a load answers is what part 7 of demand 3 asks for, and nothing else; it answers 0 only where the image is accepted, and then the buffer holds
 -- the fresh state.
+use Rattle.std.specs.Prelude.{Ok, Err}
 use Prim.Native.Nat.{ℕ, ◌<◌, ◌≤◌}
 use native.Mathlib.Omega.{arith}
 use mathlib.Core.Path.{◌≡◌, refl, sym, ap, ◌∙◌, subst}
@@ -11,21 +12,21 @@ use lib.ListN.{length}
 use borrow.Author.Tests.{eqb-true, eqb-false}
 use Rattle.limits.specs.Limits.{marks_length, state_length}
 use Rattle.image_result.specs.ImageResult.{result_number, done}
-use Rattle.image_result.specs.declared.ImageResult.{ImageResult}
-use Rattle.image_result.specs.declared.ImageResult.TheVariants.{Done, EndsEarly, NotShortest, OutOfRange, LeftOver, NoRoom, BadLanding}
-use Rattle.image_header.specs.Scan.{header_of, blocks_of}
+use Rattle.image_result.specs.declared.ImageFault.{ImageFault}
+use Rattle.command_judge.specs.BlockFault.{block_fault_number}
+use Rattle.command_judge.proofs.Numbers.{refused_number}
+use Rattle.image_result.specs.declared.ImageFault.TheVariants.{EndsEarly, NotShortest, OutOfRange, LeftOver, NoRoom, BadLanding}
+use Rattle.image_header.specs.Scan.{blocks_of}
 use Rattle.image_header.specs.Longest.{longest_image}
 use Rattle.image_header.proofs.Longest.{longest_image_lem}
 use Rattle.logic.proofs.Choice.{clash, by}
 use Rattle.walk_fault.specs.Fault.{is_bad, fault_number}
-use Rattle.walk_fault.specs.declared.Fault.{Fault}
+use Rattle.walk_fault.specs.Fault.{FaultResult}
 use Rattle.walk_fault.specs.declared.Fault.TheVariants as fault
 use Rattle.walk_flow.specs.Terms.{terms_of}
-use Rattle.walk.specs.Blocks.{fault_at}
 use Rattle.walk.specs.IsVerdict.{NoForeign, IsWalksVerdict, IsVerdict}
 use Rattle.walk.specs.Verdict.{verdict_number, verdict_of, is_accepted}
-use Rattle.walk.specs.declared.Verdict.{Verdict}
-use Rattle.walk.specs.declared.Verdict.TheVariants as verdict
+use Rattle.walk.specs.Verdict.{Verdict}
 use Rattle.walk.proofs.Verdicts.OfImage.{verdict_judges, exactly}
 use Rattle.state_layout.specs.Layout.{encoded}
 use Rattle.machine.specs.Theorem.{loaded}
@@ -65,38 +66,33 @@ module _ (image : List ℕ) (n : ℕ) (b : List ℕ) where
 
   -- ---- a load that answers 0
 
-  not_zero : (o : ImageResult) → done o ≡ false → result_number o ≡ 0 → ⊥
-  not_zero Done d e = clash d
-  not_zero (EndsEarly p) d e = omega arith
-  not_zero (NotShortest p) d e = omega arith
-  not_zero (OutOfRange p) d e = omega arith
-  not_zero (LeftOver p) d e = omega arith
-  not_zero (NoRoom p) d e = omega arith
-  not_zero (BadLanding p) d e = omega arith
+  not_zero : (o : ImageFault) → result_number (Err o) ≡ 0 → ⊥
+  not_zero (EndsEarly p) e = omega arith
+  not_zero (NotShortest p) e = omega arith
+  not_zero (OutOfRange p) e = omega arith
+  not_zero (LeftOver p) e = omega arith
+  not_zero (NoRoom p) e = omega arith
+  not_zero (BadLanding p) e = omega arith
 
-  bad_number : (f : Fault) → is_bad f ≡ true → fault_number f ≡ 0 → ⊥
-  bad_number fault.Fine d e = clash (sym d)
-  bad_number fault.Foreign d e = clash (sym d)
-  bad_number fault.Forbidden d e = omega arith
-  bad_number fault.TooDeep d e = omega arith
-  bad_number fault.NoCall d e = omega arith
-  bad_number fault.PastEnd d e = omega arith
+  bad_number : (f : FaultResult) → is_bad f ≡ true → fault_number f ≡ 0 → ⊥
+  bad_number (Ok _) d e = clash (sym d)
+  bad_number (Err fault.Foreign) d e = clash (sym d)
+  bad_number (Err fault.Forbidden) d e = omega arith
+  bad_number (Err fault.TooDeep) d e = omega arith
+  bad_number (Err fault.NoCall) d e = omega arith
+  bad_number (Err fault.PastEnd) d e = omega arith
 
   not_accepted : (v : Verdict) → (verdict_number v ≡ 0 → ⊥) → is_accepted v ≡ false
-  not_accepted verdict.Accepted d = absurd (d refl)
-  not_accepted (verdict.MarksShort m) d = refl
-  not_accepted (verdict.Image o) d = refl
-  not_accepted (verdict.Block f k) d = refl
-  not_accepted (verdict.Foreign k) d = refl
-  not_accepted (verdict.Bad f p) d = refl
+  not_accepted (Ok _) d = absurd (d refl)
+  not_accepted (Err r) d = refl
 
-  accepted_says : {v : Verdict} → IsVerdict image n v → verdict_number v ≡ 0 → v ≡ verdict.Accepted
+  accepted_says : {v : Verdict} → IsVerdict image n v → verdict_number v ≡ 0 → v ≡ Ok tt
   accepted_says (IsVerdict.marks short) e = absurd (omega arith)
-  accepted_says (IsVerdict.header room d) e = absurd (not_zero (header_of image).result d e)
-  accepted_says (IsVerdict.block room d c l all bad) e = absurd (bad e)
+  accepted_says (IsVerdict.header room f d) e = absurd (not_zero f e)
+  accepted_says (IsVerdict.block room d c l all f w) e = absurd (refused_number f e)
   accepted_says (IsVerdict.walks room d all v (IsWalksVerdict.accepted f g)) e = refl
   accepted_says (IsVerdict.walks room d all v (IsWalksVerdict.foreign p f g)) e = absurd (omega arith)
-  accepted_says (IsVerdict.walks room d all v (IsWalksVerdict.bad f p q g)) e = absurd (bad_number (fault_at (terms_of image) (blocks_of image) p) q.1 e)
+  accepted_says (IsVerdict.walks room d all v (IsWalksVerdict.bad f p q g w k)) e = absurd (bad_number (Err w) (sym (ap is_bad k) ∙ q.1) e)
 
   -- the number of a load that comes to the image is that of its verdict
   number_is : marks_length ≤ n → length b ≡ state_length → (load image n b).verdict.number ≡ verdict_number (verdict_of image n)
@@ -110,7 +106,7 @@ module _ (image : List ℕ) (n : ℕ) (b : List ℕ) where
       (λ room wrong. let e = ap (λ (v : BiasVerdict). v.number) (answered _ (no_buffer image n b room wrong)) in absurd (omega arith))
       f
 
-  pub accepted_load : (load image n b).verdict.number ≡ 0 → verdict_of image n ≡ verdict.Accepted
+  pub accepted_load : (load image n b).verdict.number ≡ 0 → verdict_of image n ≡ Ok tt
   accepted_load z = zero_way z (λ room right. accepted_says (verdict_judges image n) (sym (number_is room right) ∙ z))
 
   pub fresh_load : (load image n b).verdict.number ≡ 0 → (load image n b).buffer ≡ encoded (loaded image)
@@ -134,11 +130,11 @@ module _ (image : List ℕ) (n : ℕ) (b : List ℕ) where
   fits_well : marks_length ≤ n → length b ≡ state_length → {v : Verdict} → IsVerdict image n v → verdict_number v ≡ 0
       → WellFormed image n b × NoForeign (terms_of image) (blocks_of image)
   fits_well room right (IsVerdict.marks short) e = absurd (omega arith)
-  fits_well room right (IsVerdict.header m d) e = absurd (not_zero (header_of image).result d e)
-  fits_well room right (IsVerdict.block m d c l all bad) e = absurd (bad e)
+  fits_well room right (IsVerdict.header m f d) e = absurd (not_zero f e)
+  fits_well room right (IsVerdict.block m d c l all f w) e = absurd (refused_number f e)
   fits_well room right (IsVerdict.walks m d all v (IsWalksVerdict.accepted f g)) e = (record { marks = room; buffer = right; header = d; blocks = all }, f)
   fits_well room right (IsVerdict.walks m d all v (IsWalksVerdict.foreign p f g)) e = absurd (omega arith)
-  fits_well room right (IsVerdict.walks m d all v (IsWalksVerdict.bad f p q g)) e = absurd (bad_number (fault_at (terms_of image) (blocks_of image) p) q.1 e)
+  fits_well room right (IsVerdict.walks m d all v (IsWalksVerdict.bad f p q g w k)) e = absurd (bad_number (Err w) (sym (ap is_bad k) ∙ q.1) e)
 
   pub well_formed : (load image n b).verdict.number ≡ 0 → WellFormed image n b × NoForeign (terms_of image) (blocks_of image)
   well_formed z = zero_way z (λ room right. fits_well room right (verdict_judges image n) (sym (number_is room right) ∙ z))
@@ -152,13 +148,13 @@ module _ (image : List ℕ) (n : ℕ) (b : List ℕ) where
   module _ (w : WellFormed image n b) where
     both_ways : {v : Verdict} → IsVerdict image n v → (verdict_number v ≡ 0 → ⊥) ↔ (SomeBad image ⊎ SomeForeign image)
     both_ways (IsVerdict.marks short) = absurd (let m = w.marks in omega arith)
-    both_ways (IsVerdict.header room d) = clash (sym w.header ∙ d)
-    both_ways (IsVerdict.block room d c l all bad) = absurd (bad (w.blocks c l))
+    both_ways (IsVerdict.header room f d) = clash (sym w.header ∙ ap done d)
+    both_ways (IsVerdict.block room d c l all f bad) = absurd (refused_number f (sym (ap block_fault_number bad) ∙ w.blocks c l))
     both_ways (IsVerdict.walks room d all v (IsWalksVerdict.accepted f g)) =
         (λ r. absurd (r refl), λ s. absurd (⊎_elim (λ (a : SomeBad image). g a.place a.bad) (λ (a : SomeForeign image). f a.place a.foreign) s))
     both_ways (IsVerdict.walks room d all v (IsWalksVerdict.foreign p f g)) = (λ r. inr (record { place = p; foreign = f }), λ s e. omega arith)
-    both_ways (IsVerdict.walks room d all v (IsWalksVerdict.bad f p q g)) =
-        (λ r. inl (record { place = p; bad = q }), λ s e. bad_number (fault_at (terms_of image) (blocks_of image) p) q.1 e)
+    both_ways (IsVerdict.walks room d all v (IsWalksVerdict.bad f p q g h k)) =
+        (λ r. inl (record { place = p; bad = q }), λ s e. bad_number (Err h) (sym (ap is_bad k) ∙ q.1) e)
 
     refused_by_form : ((load image n b).verdict.number ≡ 0 → ⊥) ↔ (SomeBad image ⊎ SomeForeign image)
     refused_by_form =

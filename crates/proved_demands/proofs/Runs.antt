@@ -1,5 +1,6 @@
 -- The theorem over every list of steps, of the functions that C calls: along a run the buffer is the bytes of the state that the engine's run on values
 -- has come to (machine/proofs/Runs/EveryRun.antt), since a good state is read back from its bytes and a step keeps good states.
+use Rattle.std.specs.Prelude.{Ok}
 use Prim.Native.Nat.{ℕ, ◌<◌}
 use mathlib.Core.Path.{◌≡◌, refl, sym, ap, ◌∙◌, subst}
 use mathlib.Core.Bool.{true, false}
@@ -14,7 +15,6 @@ use Rattle.command_table.specs.Rows.{row_of}
 use Rattle.walk_point.specs.declared.Point.{Point}
 use Rattle.walk.specs.Blocks.{command_at}
 use Rattle.walk.specs.Verdict.{verdict_of}
-use Rattle.walk.specs.declared.Verdict.TheVariants as verdict
 use Rattle.state.specs.State.{runs, task_at}
 use Rattle.state.specs.GoodState.{GoodState}
 use Rattle.state.specs.declared.State.{State}
@@ -189,7 +189,7 @@ module _ (image : List ℕ) (bytes : Bytes image) where
 
 -- ---- from a load that answers 0
 
-module _ (image : List ℕ) (n : ℕ) (bytes : Bytes image) (ok : verdict_of image n ≡ verdict.Accepted) where
+module _ (image : List ℕ) (n : ℕ) (bytes : Bytes image) (ok : verdict_of image n ≡ Ok tt) where
   -- the theorem on values
   of_values : (xs : List Inputs) → values.ValueRun image xs
   of_values xs = machine.every_value_run image n ok xs

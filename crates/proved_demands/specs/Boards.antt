@@ -4,12 +4,12 @@ use Rattle.std.specs.Prelude.{ℕ, ◌<◌, ◌≤◌, ◌≡◌, true, List, le
 use Rattle.limits.specs.Limits.{marks_length, state_length}
 use Rattle.image_result.specs.ImageResult.{done}
 use Rattle.image_header.specs.Scan.{header_of, blocks_of}
-use Rattle.command_judge.specs.declared.BlockFault.{BlockFault}
+use Rattle.command_judge.specs.BlockFault.{BlockResult}
 use Rattle.walk_flow.specs.Terms.{terms_of}
 use Rattle.walk.specs.Blocks.{block_fault_at}
 use Rattle.walk.specs.IsVerdict.{BlockPasses}
 
-pub record FirstFault (image : List ℕ) (n : ℕ) (b : List ℕ) (k : ℕ) (f : BlockFault) : Type 0 where
+pub record FirstFault (image : List ℕ) (n : ℕ) (b : List ℕ) (k : ℕ) (f : BlockResult) : Type 0 where
   -- 13, 16, 1 to 4 and 21 let the load pass
   pub marks : marks_length ≤ n
   pub buffer : length b ≡ state_length

@@ -1,6 +1,6 @@
 -- Every step, of whatever bytes, in a run or not (demand 1): which way it goes, and of each way the condition, the whole answer and the whole buffer. Proved
 -- as `every_step` in proofs/EveryStep.antt.
-use Rattle.std.specs.Prelude.{ℕ, ◌<◌, ◌≤◌, ◌≡◌, true, false, ◌↔◌, List, length, set}
+use Rattle.std.specs.Prelude.{ℕ, ◌<◌, ◌≤◌, ◌≡◌, true, false, ◌↔◌, List, length, set, None, Ok, Err}
 use Rattle.limits.specs.Limits.{task_count, inputs_length}
 use Rattle.num_le.specs.LittleEndian.{Bytes}
 use Rattle.state.specs.State.{runs, halted, task_with, task_at}
@@ -13,8 +13,7 @@ use Rattle.image_header.specs.Scan.{blocks_of}
 use Rattle.machine.specs.Engine.{point_of, fits, carried_out, terms_held}
 use Rattle.machine.specs.StepRule.{command_of, level_noted, Reason}
 use Rattle.machine.specs.declared.Cause.{Cause}
-use Rattle.machine.specs.declared.Request.TheVariants.{None}
-use Rattle.machine.specs.declared.Answer.TheVariants.{Done, NoTask, Inputs as BadInputs, NotRunning, Differs, Halted}
+use Rattle.machine.specs.declared.NotDone.TheVariants.{NoTask, Inputs as BadInputs, NotRunning, Differs, Halted}
 use Rattle.bias_results.specs.Results.{no_state_answer, answer_for}
 use Rattle.bias_results.specs.declared.BiasAnswer.{BiasAnswer}
 use Rattle.bias.specs.Step.{stepped}
@@ -64,23 +63,23 @@ ReasonHere image b x = Reason (terms_held (decoded b)).landings (command_of imag
 
 pub data Way (image b : List ℕ) (x : Inputs) : BiasAnswer → List ℕ → Type 0 where
   -- 15: there is no such task
-  no_task : task_count ≤ x.task → Way image b x (answer_for None (NoTask x.task)) b
+  no_task : task_count ≤ x.task → Way image b x (answer_for None (Err (NoTask x.task))) b
   -- 15: the input levels have another length
-  bad_inputs : x.task < task_count → (length x.levels ≡ inputs_length → ⊥) → Way image b x (answer_for None (BadInputs (length x.levels))) b
+  bad_inputs : x.task < task_count → (length x.levels ≡ inputs_length → ⊥) → Way image b x (answer_for None (Err (BadInputs (length x.levels)))) b
   -- 16
   no_state : Asked x → is_state b ≡ false → Way image b x no_state_answer b
   -- 18
-  not_running : Held b x → ((task_at (decoded b) x.task).status ≡ runs → ⊥) → Way image b x (answer_for None NotRunning) b
+  not_running : Held b x → ((task_at (decoded b) x.task).status ≡ runs → ⊥) → Way image b x (answer_for None (Err NotRunning)) b
   -- 17, at the task's point
   differs : Running b x → fits image (terms_held (decoded b)) x.task (task_at (decoded b) x.task) ≡ false
-      → Way image b x (answer_for None (Differs (point_of x.task (task_at (decoded b) x.task)))) b
+      → Way image b x (answer_for None (Err (Differs (point_of x.task (task_at (decoded b) x.task))))) b
   -- carried out: the motion and the state are those of the command
   done : Ready image b x → ((q : Cause) → ReasonHere image b x q → ⊥)
-      → Way image b x (answer_for (carried_out (blocks_of image) (decoded b) x (task_at (decoded b) x.task)).request Done)
+      → Way image b x (answer_for (carried_out (blocks_of image) (decoded b) x (task_at (decoded b) x.task)).request (Ok tt))
       (encoded (carried_out (blocks_of image) (decoded b) x (task_at (decoded b) x.task)).state)
   -- 19, 20 or 22, at the task's point, with no motion
   halts : Ready image b x → (q : Cause) → ReasonHere image b x q
-      → Way image b x (answer_for None (Halted q (point_of x.task (task_at (decoded b) x.task)))) (encoded (halted_state (decoded b) x))
+      → Way image b x (answer_for None (Err (Halted q (point_of x.task (task_at (decoded b) x.task))))) (encoded (halted_state (decoded b) x))
 
 pub record StepOf (image b : List ℕ) (x : Inputs) : Type 0 where
   -- a step goes one of these ways, and what it answers and leaves is nothing else

@@ -1,6 +1,6 @@
 -- Demand 3, of the functions that C calls (docs/PROMISES.md numbers its parts), as one claim, `Demand`: parts 1 to 6, 8 and 9 are `EveryRun`, part 7 is
 -- `EveryLoad`, with the user's own sentence beside it. Proved as `demand` in proofs/Demand.antt.
-use Rattle.std.specs.Prelude.{ℕ, ◌<◌, ◌≤◌, ◌≡◌, Bool, true, false, ◌↔◌, ◌⊎◌, List, [], ◌∷◌, length}
+use Rattle.std.specs.Prelude.{ℕ, ◌<◌, ◌≤◌, ◌≡◌, Bool, true, false, ◌↔◌, ◌⊎◌, List, [], ◌∷◌, length, Ok, Err}
 use Rattle.limits.specs.Limits.{task_count, marks_length, state_length}
 use Rattle.num_le.specs.LittleEndian.{Bytes}
 use Rattle.image_result.specs.ImageResult.{done}
@@ -8,8 +8,8 @@ use Rattle.image_header.specs.Scan.{header_of, blocks_of}
 use Rattle.walk_point.specs.declared.Point.{Point}
 use Rattle.walk_flow.specs.Terms.{terms_of}
 use Rattle.walk.specs.IsVerdict.{BadAt, ForeignAt, NoForeign, BlockPasses, IsVerdict}
-use Rattle.walk.specs.declared.Verdict.{Verdict}
-use Rattle.walk.specs.declared.Verdict.TheVariants.{MarksShort}
+use Rattle.walk.specs.Verdict.{Verdict}
+use Rattle.walk.specs.declared.Refusal.TheVariants.{MarksShort}
 use Rattle.state.specs.State.{runs, task_at}
 use Rattle.state_layout.specs.Layout.{decoded, encoded}
 use Rattle.state_layout.specs.IsState.{is_state}
@@ -20,8 +20,8 @@ use Rattle.machine.specs.Alike.{Alike}
 use Rattle.machine.specs.Run.{machine_after, Permitted}
 use Rattle.machine.specs.Theorem.{loaded}
 use Rattle.machine.specs.StepRule.{Past, no_past, past_after, StepRule}
-use Rattle.machine.specs.declared.Answer.{Answer}
-use Rattle.machine.specs.declared.Answer.TheVariants.{Done, NoTask, Inputs as BadInputs, NotRunning, Differs, Halted}
+use Rattle.machine.specs.Answers.{Answer}
+use Rattle.machine.specs.declared.NotDone.TheVariants.{NoTask, Inputs as BadInputs, NotRunning, Differs, Halted}
 use Rattle.bias_results.specs.Results.{no_state, numbered, verdict_for, answer_for}
 use Rattle.bias_results.specs.declared.BiasVerdict.{BiasVerdict}
 use Rattle.bias.specs.Load.{load}
@@ -32,21 +32,21 @@ use Rattle.proved_demands.specs.Run.{answers, buffer_after, reference_answers}
 
 -- a step that is refused, and so neither carried out nor halting
 abbrev pub refused : Answer → Bool
-refused Done = false
-refused (NoTask t) = true
-refused (BadInputs n) = true
-refused NotRunning = true
-refused (Differs p) = true
-refused (Halted q p) = false
+refused (Ok _) = false
+refused (Err (NoTask t)) = true
+refused (Err (BadInputs n)) = true
+refused (Err NotRunning) = true
+refused (Err (Differs p)) = true
+refused (Err (Halted q p)) = false
 
 -- 17: the lent image differs from the loaded one
 abbrev pub differs : Answer → Bool
-differs Done = false
-differs (NoTask t) = false
-differs (BadInputs n) = false
-differs NotRunning = false
-differs (Differs p) = true
-differs (Halted q p) = false
+differs (Ok _) = false
+differs (Err (NoTask t)) = false
+differs (Err (BadInputs n)) = false
+differs (Err NotRunning) = false
+differs (Err (Differs p)) = true
+differs (Err (Halted q p)) = false
 
 pub record StepOn (image : List ℕ) (past : Past) (b : List ℕ) (x : Inputs) : Type 0 where
   -- the buffer is a state
@@ -92,7 +92,7 @@ EveryRun = (image : List ℕ) (n : ℕ) (b : List ℕ) → Bytes image → (load
 
 -- 13, then 16, then what the image comes to (walk/specs/IsVerdict.antt): the header, the first block that 5 to 8 or 23 refuse, and else what walks say
 pub data Loads (image : List ℕ) (n : ℕ) (b : List ℕ) : BiasVerdict → Type 0 where
-  marks : n < marks_length → Loads image n b (verdict_for (MarksShort n))
+  marks : n < marks_length → Loads image n b (verdict_for (Err (MarksShort n)))
   buffer : marks_length ≤ n → (length b ≡ state_length → ⊥) → Loads image n b (numbered no_state 0)
   judged : marks_length ≤ n → length b ≡ state_length → (v : Verdict) → IsVerdict image n v → Loads image n b (verdict_for v)
 

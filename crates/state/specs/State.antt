@@ -1,5 +1,5 @@
 -- The state by value: document 01, "Running", and what load leaves. antt has no record update, so each setter is written once.
-use Rattle.std.specs.Prelude.{ℕ, List, [], ◌∷◌, replicate, get_or, ℤ, pos}
+use Rattle.std.specs.Prelude.{ℕ, List, [], ◌∷◌, replicate, get_or, ℤ, pos, Some}
 use Rattle.limits.specs.Limits.{most_depth, cells}
 use Rattle.image_header.specs.declared.Header.{Header}
 use Rattle.state.specs.Change.{values_of, changed}
@@ -70,16 +70,16 @@ fresh h landings = record { values = fresh_values; header = h; landings = landin
 -- ---- setters of the values: each but that of the notes makes one change
 
 abbrev pub with_variable : ℕ → ℤ → Values → Values
-with_variable i z v = changed (Variable i z) v
+with_variable i z v = changed (Some (Variable i z)) v
 
 abbrev pub with_flag : ℕ → ℕ → Values → Values
-with_flag i x v = changed (Flag i x) v
+with_flag i x v = changed (Some (Flag i x)) v
 
 abbrev pub with_output : ℕ → ℕ → Values → Values
-with_output i x v = changed (Output i x) v
+with_output i x v = changed (Some (Output i x)) v
 
 abbrev pub with_mark : ℕ → Values → Values
-with_mark m v = changed (Mark m) v
+with_mark m v = changed (Some (Mark m)) v
 
 abbrev pub with_notes : Notes → Values → Values
 with_notes n v = values_of v.cells v.motion n
@@ -93,7 +93,7 @@ abbrev pub axis_of : ℕ → Values → Axis
 axis_of n v = v.motion.axis
 
 abbrev pub with_axis : ℕ → Axis → Values → Values
-with_axis n a v = changed (Parameters n a) v
+with_axis n a v = changed (Some (Parameters n a)) v
 
 -- ---- setters of the axis
 

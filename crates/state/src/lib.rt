@@ -76,10 +76,9 @@ pub struct Values {
     pub notes: Notes,
 }
 
-// What one command changes of them: nothing, the content of one cell, the stored parameters of an axis, or the start mark.
+// What one command changes of them, if it changes any: the content of one cell, the stored parameters of an axis, or the start mark.
 #[derive(Clone, Copy)]
 pub enum Change {
-    Nothing,
     Variable(u8, i32),
     Flag(u8, u8),
     Output(u8, u8),
@@ -101,13 +100,12 @@ impl Task {
     pub fn never_started() -> Task
         ensures { result ≡ never_started }
     {
-        let stack = [0; STACK_LENGTH];
         Task {
             status: NEVER_STARTED,
             block: 0,
             start: 0,
             depth: 0,
-            stack: stack,
+            stack: [0; STACK_LENGTH],
             time: 0,
             turns: 0,
         }
@@ -117,50 +115,48 @@ impl Task {
     pub fn running(start: u16) -> Task
         ensures { result ≡ running start }
     {
-        let stack = [0; STACK_LENGTH];
         Task {
             status: RUNNING,
             block: start,
-            start: start,
-            depth: 0,
-            stack: stack,
-            time: 0,
-            turns: 0,
+            start,
+            ..Task::never_started()
         }
     }
 }
 
 impl Axis {
     // Another stored position.
-    pub fn with_position(mut self, position: i32) -> Axis
+    pub fn with_position(self, position: i32) -> Axis
         ensures { result ≡ with_position position self }
     {
-        self.position = position;
-        self
+        Axis { position, ..self }
     }
 
     // Another stored speed.
-    pub fn with_speed(mut self, speed: u16) -> Axis
+    pub fn with_speed(self, speed: u16) -> Axis
         ensures { result ≡ with_speed speed self }
     {
-        self.speed = speed;
-        self
+        Axis { speed, ..self }
     }
 
     // Another stored acceleration.
-    pub fn with_acceleration(mut self, acceleration: u16) -> Axis
+    pub fn with_acceleration(self, acceleration: u16) -> Axis
         ensures { result ≡ with_acceleration acceleration self }
     {
-        self.acceleration = acceleration;
-        self
+        Axis {
+            acceleration,
+            ..self
+        }
     }
 
     // Another stored deceleration.
-    pub fn with_deceleration(mut self, deceleration: u16) -> Axis
+    pub fn with_deceleration(self, deceleration: u16) -> Axis
         ensures { result ≡ with_deceleration deceleration self }
     {
-        self.deceleration = deceleration;
-        self
+        Axis {
+            deceleration,
+            ..self
+        }
     }
 }
 
@@ -169,9 +165,6 @@ impl Values {
     pub fn fresh() -> Values
         ensures { result ≡ fresh_values }
     {
-        let variables = [0i32; CELLS];
-        let flags = [0u8; CELLS];
-        let outputs = [0u8; CELLS];
         let axis = Axis {
             position: 0,
             speed: 1,
@@ -180,14 +173,11 @@ impl Values {
         };
         Values {
             cells: Cells {
-                variables: variables,
-                flags: flags,
-                outputs: outputs,
+                variables: [0; CELLS],
+                flags: [0; CELLS],
+                outputs: [0; CELLS],
             },
-            motion: Motion {
-                axis: axis,
-                mark: 0,
-            },
+            motion: Motion { axis, mark: 0 },
             notes: Notes { level: 1, moved: 0 },
         }
     }
@@ -195,7 +185,7 @@ impl Values {
 
 // Makes a change where the cells stand; what motion keeps is handed back.
 pub fn make_change<'a>(
-    change: Change,
+    change: Option<Change>,
     variables: &'a mut [i32; CELLS],
     flags: &'a mut [u8; CELLS],
     outputs: &'a mut [u8; CELLS],
@@ -205,33 +195,24 @@ pub fn make_change<'a>(
         ≡ cells_after change (cells_of variables.old flags.old outputs.old) }
     ensures value { result ≡ motion_after change motion }
 {
-    let stored = motion.axis;
+    let Some(change) = change else {
+        return motion;
+    };
     match change {
-        Change::Nothing => motion,
         Change::Variable(index, value) => {
-            variables[index as usize] = value;
+            variables[usize::from(index)] = value;
             motion
         }
         Change::Flag(index, level) => {
-            flags[index as usize] = level;
+            flags[usize::from(index)] = level;
             motion
         }
         Change::Output(index, level) => {
-            outputs[index as usize] = level;
+            outputs[usize::from(index)] = level;
             motion
         }
-        Change::Parameters(number, axis) => {
-            Motion {
-                axis: axis,
-                mark: motion.mark,
-            }
-        }
-        Change::Mark(mark) => {
-            Motion {
-                axis: stored,
-                mark: mark,
-            }
-        }
+        Change::Parameters(_, axis) => Motion { axis, ..motion },
+        Change::Mark(mark) => Motion { mark, ..motion },
     }
 }
 
@@ -240,15 +221,13 @@ impl State {
     pub fn fresh(header: Header, landings: [u16; MOST_LANDINGS]) -> State
         ensures { result ≡ fresh header landings }
     {
-        let values = Values::fresh();
         let bias = Task::running(header.start);
         let idle = Task::never_started();
-        let tasks = [bias, idle, idle];
         State {
-            values: values,
-            header: header,
-            landings: landings,
-            tasks: tasks,
+            values: Values::fresh(),
+            header,
+            landings,
+            tasks: [bias, idle, idle],
         }
     }
 }
@@ -257,11 +236,5 @@ impl State {
 pub fn is_due(drive: Drive, time: u32, turns: u32) -> bool
     ensures { result ≡ due drive.model time turns }
 {
-    1000 * wide(time) <= wide(turns) * wide(drive.cycle())
-}
-
-fn wide(n: u32) -> u64
-    ensures { result ≡ n }
-{
-    n as u64
+    1000 * u64::from(time) <= u64::from(turns) * u64::from(drive.cycle())
 }

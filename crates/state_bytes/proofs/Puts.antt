@@ -4,9 +4,10 @@ use Prim.Native.Nat.{ℕ, zero, suc, ◌+◌, ◌*◌, ◌<◌, ◌≤◌}
 use native.Mathlib.Omega.{arith}
 use native.Mathlib.Nat.{add-zero, mul-suc}
 use native.Mathlib.Numerals.{add-one}
-use mathlib.Core.List.{List, [], ◌∷◌, ◌++◌, append-nil}
+use mathlib.Core.List.{List, [], ◌∷◌, ◌++◌, append-nil, append_assoc}
 use lib.ListN.{length, get_or, set, take, drop, length-append, length-set}
-use lib.Seq.{get_or-set_same, get_or-set_other, drop-length, sets, length-sets, sets-eq, take-suc, take_all, length-take-le}
+use lib.Seq.{get_or-set_same, get_or-set_other, drop-length, sets, length-sets, sets-eq, drop-drop}
+use borrow.Rule.Slice.PartMut.{put_mid}
 use Rattle.logic.proofs.Has.{Has, head, tail, nil, cons}
 use Rattle.num_le.specs.LittleEndian.{le_bytes}
 use Rattle.state_bytes.specs.Bytes.{puts, concatenated}
@@ -56,19 +57,11 @@ over l vs h =
     let z : 0 + length vs ≡ length l = omega arith in
     puts_sets l 0 vs ∙ sets-eq vs l 0 (omega arith) ∙ ap (λ (j : ℕ). vs ++ drop j l) z ∙ ap (λ (r : List ℕ). vs ++ r) (drop-length l) ∙ append-nil vs
 
-pub puts_none : (s : List ℕ) (at : ℕ) (l : List ℕ) → s ≡ puts s at (take 0 l)
-unfolding puts
-puts_none s at l = refl
-
-pub puts_more : (s : List ℕ) (at i : ℕ) (l x : List ℕ) → i < length l → x ≡ puts s at (take i l) → set x (at + i) (get_or l i 0) ≡ puts s at (take (i + 1) l)
-unfolding puts
-puts_more s at i l x h e =
-    ap (λ (y : List ℕ). puts y (at + i) (get_or l i 0 ∷ [])) e
-    ∙ behind s at i (take i l) (get_or l i 0 ∷ []) (length-take-le i l (omega arith))
-    ∙ ap (puts s at) (sym (take-suc l i 0 h) ∙ ap (λ (k : ℕ). take k l) (sym (add-one i)))
-
-pub puts_all : (s : List ℕ) (at i n : ℕ) (l x : List ℕ) → i ≤ n → n ≤ i → length l ≡ n → x ≡ puts s at (take i l) → x ≡ puts s at l
-puts_all s at i n l x a b h e = e ∙ ap (puts s at) (take_all i l (omega arith))
+-- a part of a list that is written over
+pub puts_part : (l : List ℕ) (at n : ℕ) (vs : List ℕ) → n ≡ length vs → at + length vs ≤ length l → put_mid at n l vs ≡ puts l at vs
+puts_part l at n vs e h =
+    ap (λ (r : List ℕ). take at l ++ (vs ++ r)) (drop-drop n at l ∙ ap (λ (k : ℕ). drop (at + k) l) e)
+    ∙ sym (puts_sets l at vs ∙ sets-eq vs l at h ∙ append_assoc (take at l) vs (drop (at + length vs) l))
 
 -- ---- runs
 

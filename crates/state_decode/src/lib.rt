@@ -2,105 +2,70 @@
 #![tactic(auto)]
 
 ghost use Rattle.std.specs.Prelude.{◌≡◌, ℕ, ◌+◌, ◌*◌, ◌<◌, ◌≤◌, length, get_or};
-ghost use Rattle.limits.specs.Limits.{task_count, most_depth, most_landings, state_length};
+ghost use Rattle.limits.specs.Limits.{task_count, most_depth, most_landings};
 ghost use Rattle.state.specs.State.{task_at};
 ghost use Rattle.state_layout.specs.Codecs.{levels_length, levels_in, header_in, landings_in, motion_in, notes_in, stack_in, task_length, task_in};
 ghost use Rattle.state_layout.specs.Layout.{header_at, landings_at, motion_at, notes_at, cells_in, bias_in, plc_in, mathematics_in, tasks_in, decoded};
 
 use drive::Drive;
 use image_header::Header;
-use limits::{CELLS, MOST_LANDINGS, STACK_LENGTH, TASKS};
+use limits::{CELLS, MOST_LANDINGS, STACK_LENGTH, STATE_LENGTH, TASKS};
 use state::{Axis, Motion, Notes, Task};
 
 // The three tasks.
-pub fn tasks_in(b: &[u8]) -> [Task; TASKS]
-    requires { length b.now ≡ state_length }
+pub fn tasks_in(b: &[u8; STATE_LENGTH]) -> [Task; TASKS]
     ensures { result ≡ tasks_in b.now }
 {
-    [bias_in(b), plc_in(b), mathematics_in(b)]
+    [task_at(b, 0), task_at(b, 1), task_at(b, 2)]
 }
 
 // One of them.
-pub fn task_at(b: &[u8], t: u8) -> Task
-    requires b_len { length b.now ≡ state_length }
-    requires task_in_range { t < task_count }
+pub fn task_at(b: &[u8; STATE_LENGTH], t: u8) -> Task
+    requires { t < task_count }
     ensures { result ≡ task_at (decoded b.now) t }
 {
+    let at = state_layout::TASKS_AT + usize::from(t) * state_layout::TASK_LENGTH;
+    task_in(b, at, start_of(b, t))
+}
+
+// The block that a task starts at: BIAS starts at the program start, which the header has.
+fn start_of(b: &[u8; STATE_LENGTH], t: u8) -> u16
+    requires { t < task_count }
+    ensures { result ≡ (task_at (decoded b.now) t).start }
+{
     if t == limits::BIAS {
-        return bias_in(b);
+        return state_bytes::word(b, state_layout::START_AT);
     }
-    if t == limits::PLC {
-        return plc_in(b);
-    }
-    mathematics_in(b)
-}
-
-pub fn bias_in(b: &[u8]) -> Task
-    requires { length b.now ≡ state_length }
-    ensures { result ≡ bias_in b.now }
-{
-    task_in(
-        b,
-        state_layout::TASKS_AT,
-        state_bytes::word(b, state_layout::START_AT),
-    )
-}
-
-pub fn plc_in(b: &[u8]) -> Task
-    requires { length b.now ≡ state_length }
-    ensures { result ≡ plc_in b.now }
-{
-    task_in(
-        b,
-        state_layout::TASKS_AT + state_layout::TASK_LENGTH,
-        state_bytes::word(b, state_layout::STARTS_AT),
-    )
-}
-
-pub fn mathematics_in(b: &[u8]) -> Task
-    requires { length b.now ≡ state_length }
-    ensures { result ≡ mathematics_in b.now }
-{
-    task_in(
-        b,
-        state_layout::TASKS_AT + 2 * state_layout::TASK_LENGTH,
-        state_bytes::word(b, state_layout::STARTS_AT + 2),
-    )
+    state_bytes::word(b, state_layout::STARTS_AT + 2 * usize::from(t - 1))
 }
 
 // The variables.
-pub fn variables_in(b: &[u8]) -> [i32; CELLS]
-    requires { length b.now ≡ state_length }
+pub fn variables_in(b: &[u8; STATE_LENGTH]) -> [i32; CELLS]
     ensures { result ≡ (cells_in b.now).variables }
 {
-    let mut r = [0i32; CELLS];
-    let mut k: usize = 0;
-    while k < CELLS {
+    let mut r = [0; CELLS];
+    for k in 0..CELLS {
         r[k] = state_bytes::signed(b, state_layout::VARIABLES_AT + 4 * k);
-        k += 1;
     }
     r
 }
 
 // The flags.
-pub fn flags_in(b: &[u8]) -> [u8; CELLS]
-    requires { length b.now ≡ state_length }
+pub fn flags_in(b: &[u8; STATE_LENGTH]) -> [u8; CELLS]
     ensures { result ≡ (cells_in b.now).flags }
 {
     levels_in(b, state_layout::FLAGS_AT)
 }
 
 // The outputs.
-pub fn outputs_in(b: &[u8]) -> [u8; CELLS]
-    requires { length b.now ≡ state_length }
+pub fn outputs_in(b: &[u8; STATE_LENGTH]) -> [u8; CELLS]
     ensures { result ≡ (cells_in b.now).outputs }
 {
     levels_in(b, state_layout::OUTPUTS_AT)
 }
 
 // The notes of BIAS.
-pub fn notes_in(b: &[u8]) -> Notes
-    requires { length b.now ≡ state_length }
+pub fn notes_in(b: &[u8; STATE_LENGTH]) -> Notes
     ensures { result ≡ notes_in b.now notes_at }
 {
     Notes {
@@ -114,17 +79,12 @@ fn levels_in(b: &[u8], at: usize) -> [u8; CELLS]
     requires { at + levels_length ≤ length b.now }
     ensures { result ≡ levels_in b.now at }
 {
-    let mut r = [0u8; CELLS];
-    let mut k: usize = 0;
-    while k < CELLS {
-        r[k] = b[at + k];
-        k += 1;
-    }
+    let mut r = [0; CELLS];
+    r.copy_from_slice(&b[at..at + CELLS]);
     r
 }
 
-pub fn header_in(b: &[u8]) -> Header
-    requires { length b.now ≡ state_length }
+pub fn header_in(b: &[u8; STATE_LENGTH]) -> Header
     ensures { result ≡ header_in b.now header_at }
 {
     let drive = Drive {
@@ -134,7 +94,7 @@ pub fn header_in(b: &[u8]) -> Header
     };
     Header {
         format: state_bytes::byte(b, state_layout::HEADER_AT),
-        drive: drive,
+        drive,
         start: state_bytes::word(b, state_layout::START_AT),
         count: state_bytes::word(b, state_layout::HEADER_AT + 6),
         landings: state_bytes::byte(b, state_layout::HEADER_AT + 8),
@@ -142,25 +102,20 @@ pub fn header_in(b: &[u8]) -> Header
 }
 
 // The landing list, of which the first `count` are landing blocks: no others are read, as 16 has found them 0.
-pub fn landings_in(b: &[u8], count: u8) -> [u16; MOST_LANDINGS]
-    requires b_len { length b.now ≡ state_length }
+pub fn landings_in(b: &[u8; STATE_LENGTH], count: u8) -> [u16; MOST_LANDINGS]
     requires count_in_range { count ≤ most_landings }
     requires zeros_behind { (k : ℕ) → count ≤ k → get_or (landings_in b.now landings_at) k 0 ≡ 0 }
     ensures { result ≡ landings_in b.now landings_at }
 {
-    let n = count as usize;
-    let mut r = [0u16; MOST_LANDINGS];
-    let mut k: usize = 0;
-    while k < n {
+    let mut r = [0; MOST_LANDINGS];
+    for k in 0..usize::from(count) {
         r[k] = state_bytes::word(b, state_layout::LANDINGS_AT + 2 * k);
-        k += 1;
     }
     r
 }
 
 // The axis and the start mark.
-pub fn motion_in(b: &[u8]) -> Motion
-    requires { length b.now ≡ state_length }
+pub fn motion_in(b: &[u8; STATE_LENGTH]) -> Motion
     ensures { result ≡ motion_in b.now motion_at }
 {
     let axis = Axis {
@@ -170,7 +125,7 @@ pub fn motion_in(b: &[u8]) -> Motion
         deceleration: state_bytes::word(b, state_layout::MOTION_AT + 8),
     };
     Motion {
-        axis: axis,
+        axis,
         mark: state_bytes::byte(b, state_layout::MOTION_AT + 10),
     }
 }
@@ -180,13 +135,12 @@ fn task_in(b: &[u8], at: usize, start: u16) -> Task
     requires { at + task_length ≤ length b.now }
     ensures { result ≡ task_in b.now at start }
 {
-    let stack = stack_in(b, at + state_layout::STACK_AT);
     Task {
         status: state_bytes::byte(b, at),
         block: state_bytes::word(b, at + 2),
-        start: start,
+        start,
         depth: state_bytes::byte(b, at + 1),
-        stack: stack,
+        stack: stack_in(b, at + state_layout::STACK_AT),
         time: state_bytes::long(b, at + state_layout::TIME_AT),
         turns: state_bytes::long(b, at + state_layout::TURNS_AT),
     }
@@ -196,11 +150,9 @@ fn stack_in(b: &[u8], at: usize) -> [u16; STACK_LENGTH]
     requires { at + 2 * most_depth ≤ length b.now }
     ensures { result ≡ stack_in b.now at }
 {
-    let mut r = [0u16; STACK_LENGTH];
-    let mut i: usize = 0;
-    while i < STACK_LENGTH {
+    let mut r = [0; STACK_LENGTH];
+    for i in 0..STACK_LENGTH {
         r[i] = state_bytes::word(b, at + 2 * i);
-        i += 1;
     }
     r
 }

@@ -2,7 +2,6 @@
 #![tactic(auto)]
 
 ghost use Rattle.std.specs.Prelude.{◌≡◌, [], ◌∷◌, ℕ, ◌+◌, ◌*◌, ◌<◌, ◌≤◌, length, get_or, replicate};
-ghost use Rattle.limits.specs.Limits.{state_length};
 ghost use Rattle.state_bytes.specs.Bytes.{puts};
 ghost use Rattle.state_sections.specs.Records.{record_bytes};
 ghost use Rattle.state_layout.specs.Codecs.{variables_length, variable_bytes, layout_bytes, header_bytes, landings_in, motion_bytes, notes_bytes, start_widths, word_bytes};
@@ -13,36 +12,29 @@ use image_header::Header;
 use limits::{CELLS, STATE_LENGTH, TASKS};
 use state::{Motion, Notes, State, Task};
 
-const UNUSED_AT: usize = state_layout::UNUSED_AT;
-
-const UNUSED_LENGTH: usize = STATE_LENGTH - UNUSED_AT;
-
 // The bytes of a state into the buffer.
-pub fn encode(b: &mut [u8], s: State)
-    requires { length b.old ≡ state_length }
+pub fn encode(b: &mut [u8; STATE_LENGTH], s: State)
     ensures { b.new ≡ encoded s }
 {
     let values = s.values;
-    let header = s.header;
-    let landings = s.landings;
-    let tasks = s.tasks;
-    put_words(b, state_layout::LANDINGS_AT, &landings);
+    put_words(b, state_layout::LANDINGS_AT, &s.landings);
     encode_parts(
         b,
         &values.cells.variables,
         &values.cells.flags,
         &values.cells.outputs,
-        header,
+        s.header,
         values.motion,
         values.notes,
-        tasks,
+        s.tasks,
     );
 }
 
 // The same of a state whose parts these are; the cells are lent, so that they are copied once. The landing list that stands in the buffer stays: no step
 // changes it.
+#[inline]
 pub fn encode_parts<'a>(
-    b: &mut [u8],
+    b: &mut [u8; STATE_LENGTH],
     variables: &'a [i32; CELLS],
     flags: &'a [u8; CELLS],
     outputs: &'a [u8; CELLS],
@@ -51,14 +43,10 @@ pub fn encode_parts<'a>(
     notes: Notes,
     tasks: [Task; TASKS],
 )
-    requires { length b.old ≡ state_length }
     ensures { b.new
         ≡ encoded (state_of variables.now flags.now outputs.now header (landings_in b.old landings_at) motion
         notes tasks) }
 {
-    let bias = tasks[0];
-    let plc = tasks[1];
-    let mathematics = tasks[2];
     put_variables(b, state_layout::VARIABLES_AT, variables);
     put_levels(b, state_layout::FLAGS_AT, flags);
     put_levels(b, state_layout::OUTPUTS_AT, outputs);
@@ -66,14 +54,14 @@ pub fn encode_parts<'a>(
     put_header(b, header);
     put_motion(b, motion);
     put_notes(b, notes);
-    put_starts(b, plc.start, mathematics.start);
-    put_task(b, state_layout::TASKS_AT, bias);
-    put_task(b, state_layout::TASKS_AT + state_layout::TASK_LENGTH, plc);
-    put_task(
-        b,
-        state_layout::TASKS_AT + 2 * state_layout::TASK_LENGTH,
-        mathematics,
-    );
+    put_starts(b, tasks[1].start, tasks[2].start);
+    for (t, task) in tasks.iter().enumerate() {
+        put_task(
+            b,
+            state_layout::TASKS_AT + t * state_layout::TASK_LENGTH,
+            *task,
+        );
+    }
     put_unused(b);
 }
 
@@ -81,35 +69,27 @@ fn put_variables(b: &mut [u8], at: usize, variables: &[i32; CELLS])
     requires { at + variables_length ≤ length b.old }
     ensures { b.new ≡ puts b.old at (variable_bytes variables.now) }
 {
-    let mut k: usize = 0;
-    while k < CELLS {
-        state_bytes::put_signed(b, at + 4 * k, variables[k]);
-        k += 1;
+    for (k, z) in variables.iter().enumerate() {
+        state_bytes::put_signed(b, at + 4 * k, *z);
     }
 }
 
-// Flags, outputs, or zeros.
+// Flags, or outputs.
 fn put_levels(b: &mut [u8], at: usize, levels: &[u8])
     requires { at + length levels.now ≤ length b.old }
     ensures { b.new ≡ puts b.old at levels.now }
 {
-    let mut k: usize = 0;
-    while k < levels.len() {
-        b[at + k] = levels[k];
-        k += 1;
-    }
+    b[at..at + levels.len()].copy_from_slice(levels);
 }
 
 // The number of this release's layout.
-fn put_layout(b: &mut [u8])
-    requires { length b.old ≡ state_length }
+fn put_layout(b: &mut [u8; STATE_LENGTH])
     ensures { b.new ≡ puts b.old layout_at layout_bytes }
 {
     state_bytes::put_byte(b, state_layout::LAYOUT_AT, state_layout::LAYOUT_NUMBER);
 }
 
-fn put_header(b: &mut [u8], h: Header)
-    requires { length b.old ≡ state_length }
+fn put_header(b: &mut [u8; STATE_LENGTH], h: Header)
     ensures { b.new ≡ puts b.old header_at (header_bytes h) }
 {
     state_bytes::put_byte(b, state_layout::HEADER_AT, h.format);
@@ -122,8 +102,7 @@ fn put_header(b: &mut [u8], h: Header)
 }
 
 // The axis and the start mark.
-fn put_motion(b: &mut [u8], motion: Motion)
-    requires { length b.old ≡ state_length }
+fn put_motion(b: &mut [u8; STATE_LENGTH], motion: Motion)
     ensures { b.new ≡ puts b.old motion_at (motion_bytes motion) }
 {
     state_bytes::put_signed(b, state_layout::MOTION_AT, motion.axis.position);
@@ -133,8 +112,7 @@ fn put_motion(b: &mut [u8], motion: Motion)
     state_bytes::put_byte(b, state_layout::MOTION_AT + 10, motion.mark);
 }
 
-fn put_notes(b: &mut [u8], notes: Notes)
-    requires { length b.old ≡ state_length }
+fn put_notes(b: &mut [u8; STATE_LENGTH], notes: Notes)
     ensures { b.new ≡ puts b.old notes_at (notes_bytes notes) }
 {
     state_bytes::put_byte(b, state_layout::NOTES_AT, notes.level);
@@ -142,8 +120,7 @@ fn put_notes(b: &mut [u8], notes: Notes)
 }
 
 // The start blocks of the PLC and of mathematics.
-fn put_starts(b: &mut [u8], plc: u16, mathematics: u16)
-    requires { length b.old ≡ state_length }
+fn put_starts(b: &mut [u8; STATE_LENGTH], plc: u16, mathematics: u16)
     ensures { b.new ≡ puts b.old starts_at (record_bytes start_widths (plc ∷ mathematics ∷ [])) }
 {
     state_bytes::put_word(b, state_layout::STARTS_AT, plc);
@@ -169,18 +146,14 @@ fn put_words(b: &mut [u8], at: usize, words: &[u16])
     ensures b_after { b.new ≡ puts b.old at (word_bytes (length words.now) words.now) }
     ensures words_fit { (k : ℕ) → get_or words.now k 0 < 65536 }
 {
-    let mut i: usize = 0;
-    while i < words.len() {
-        state_bytes::put_word(b, at + 2 * i, words[i]);
-        i += 1;
+    for (i, word) in words.iter().enumerate() {
+        state_bytes::put_word(b, at + 2 * i, *word);
     }
 }
 
 // The unused bytes, which are 0.
-fn put_unused(b: &mut [u8])
-    requires { length b.old ≡ state_length }
+fn put_unused(b: &mut [u8; STATE_LENGTH])
     ensures { b.new ≡ puts b.old unused_at (replicate unused_length 0) }
 {
-    let zeros = [0u8; UNUSED_LENGTH];
-    put_levels(b, UNUSED_AT, &zeros);
+    b[state_layout::UNUSED_AT..].fill(0);
 }

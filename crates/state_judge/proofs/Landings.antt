@@ -5,7 +5,7 @@ use mathlib.Core.Bool.{Bool, true, false, ◌&&◌, ◌||◌, cond}
 use mathlib.Core.List.{List}
 use native.Mathlib.Omega.{arith}
 use native.Mathlib.Numerals.{add-one}
-use native.Mathlib.Nat.{add-zero, add-suc, mul-suc}
+use native.Mathlib.Nat.{add-zero, add-suc}
 use lib.Dec.{eqb, ltb}
 use lib.ListN.{get_or}
 use borrow.Author.Tests.{eq-eqb, ne_eqb, eqb-true, eqb-false, lt-ltb, le-ltb}
@@ -18,7 +18,8 @@ use Rattle.state_bytes.proofs.Tables.{get_or_table}
 use Rattle.state_layout.specs.Codecs.{words_in}
 use Rattle.state_layout.specs.Layout.{landings_at}
 use Rattle.state_judge.specs.Together.{together}
-use Rattle.state_judge.proofs.Union.{each_of, zero_when, same_tests}
+use Rattle.logic.proofs.Choice.{by}
+use Rattle.state_judge.proofs.Union.{none_together, each_of, zero_when, same_tests}
 
 -- ---- tests of the first n: those below i, then the others
 
@@ -26,7 +27,7 @@ and_assoc : (a b c : Bool) → ((a && b) && c) ≡ (a && (b && c))
 and_assoc true b c = refl
 and_assoc false b c = refl
 
-and_true : (a : Bool) → a ≡ (a && true)
+pub and_true : (a : Bool) → a ≡ (a && true)
 and_true true = refl
 and_true false = refl
 
@@ -121,3 +122,13 @@ module _ (b : List ℕ) (h : Header) where
   pub judged_all : (pass : Bool) (before i : ℕ) → Judged pass before i → most_landings ≤ i → pass ≡ accepts_landings h list
   unfolding accepts_landings
   judged_all pass before i j u = let l = j.few in let q : i ≡ most_landings = omega arith in j.tests ∙ ap (each_below (entry_fits h list)) q
+
+  -- as many as are judged one by one, and the rest
+  pub judged : (pass : Bool) (before n rest : ℕ) → Judged pass before n → (n < most_landings → h.landings ≤ n)
+      → rest ≡ together b (landings_at + 2 * n) (2 * (most_landings - n)) → (pass && eqb rest 0) ≡ accepts_landings h list
+  judged pass before n rest j u e = by n most_landings (λ l. judged_rest pass before n rest j (u l) e) full
+    where
+      full : most_landings ≤ n → (pass && eqb rest 0) ≡ accepts_landings h list
+      full l =
+          let m : 2 * (most_landings - n) ≡ 0 = omega arith in
+          ap (λ (x : ℕ). pass && eqb x 0) (e ∙ ap (together b (landings_at + 2 * n)) m ∙ none_together b (landings_at + 2 * n)) ∙ sym (and_true pass) ∙ judged_all pass before n j l

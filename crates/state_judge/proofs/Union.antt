@@ -7,7 +7,9 @@ use native.Mathlib.Omega.{arith}
 use lib.Bits.{bit_or, or_lt, or_add_and, and_le_l, and_le_r}
 use lib.Pow.{pow_pos}
 use lib.Dec.{eqb, leb}
-use lib.ListN.{get_or}
+use lib.ListN.{length, get_or, take, drop}
+use lib.Seq.{length-take-le}
+use Rattle.std.proofs.lemmas.List.{get_or-take, get_or-drop, length-drop}
 use borrow.Author.Tests.{le-leb, lt-leb, leb-true, leb-false, eq-eqb, ne_eqb, eqb-true, eqb-false}
 use Rattle.limits.specs.Limits.{most_level, cells}
 use Rattle.logic.specs.Each.{each_below}
@@ -16,6 +18,10 @@ use Rattle.state_layout.specs.Codecs.{levels_in}
 use Rattle.state_layout.specs.Layout.{unused_at}
 use Rattle.state_layout.specs.IsState.{all_of, level_is, unused_bytes_zero}
 use Rattle.state_judge.specs.Together.{together}
+
+pub none_together : (b : List ℕ) (at : ℕ) → together b at 0 ≡ 0
+unfolding together
+none_together b at = refl
 
 pub each_of : (P : ℕ → Bool) → P 0 ≡ true → ((x y : ℕ) → P (bit_or x y) ≡ (P x && P y)) → (b : List ℕ) (at n : ℕ)
     → P (together b at n) ≡ each_below (λ (k : ℕ). P (get_or b (at + k) 0)) n
@@ -64,6 +70,20 @@ pub same_tests : (f g : ℕ → Bool) (n : ℕ) → ((k : ℕ) → k < n → f k
 unfolding each_below
 same_tests f g zero e = refl
 same_tests f g (suc n) e = ap₂ ◌&&◌ (same_tests f g n (λ k h. e k (omega arith))) (e n (omega arith))
+
+-- a part of a list taken together is what is taken together there
+part_below : (b : List ℕ) (at k n : ℕ) → n ≤ k → together (take k (drop at b)) 0 n ≡ together b at n
+unfolding together
+part_below b at k zero h = refl
+part_below b at k (suc n) h =
+    let z : 0 + n ≡ n = omega arith in
+    ap₂ bit_or (part_below b at k n (omega arith))
+    (ap (λ (j : ℕ). get_or (take k (drop at b)) j 0) z ∙ get_or-take k (drop at b) n 0 (omega arith) ∙ get_or-drop at b n 0)
+
+pub part_together : (b : List ℕ) (at k n : ℕ) → k ≡ n → at + n ≤ length b → together (take k (drop at b)) 0 (length (take k (drop at b))) ≡ together b at n
+part_together b at k n e h =
+    let long : length (take k (drop at b)) ≡ n = length-take-le k (drop at b) (omega (arith, length-drop at b)) ∙ e in
+    ap (together (take k (drop at b)) 0) long ∙ part_below b at k n (omega arith)
 
 -- flags or outputs are levels, and the unused bytes are 0
 pub levels_together : (b : List ℕ) (at : ℕ) → leb (together b at cells) most_level ≡ all_of level_is (levels_in b at) cells

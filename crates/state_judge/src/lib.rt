@@ -2,7 +2,8 @@
 #![tactic(auto)]
 
 ghost use Rattle.std.specs.Prelude.{◌≡◌, ◌+◌, ◌≤◌, length};
-ghost use Rattle.limits.specs.Limits.{most_depth, cells, state_length};
+ghost use Rattle.std.specs.List.{list_all};
+ghost use Rattle.limits.specs.Limits.{most_depth, cells};
 ghost use Rattle.image_header.specs.Rows.{accepts_landings};
 ghost use Rattle.state_layout.specs.Codecs.{levels_length, levels_in, landings_in};
 ghost use Rattle.state_layout.specs.Layout.{landings_at, unused_length, values_in, decoded};
@@ -12,96 +13,73 @@ ghost use Rattle.state_judge.specs.Together.{together};
 
 use drive::Drive;
 use image_header::{Header, reader};
-use limits::{CELLS, MOST_LANDINGS, STACK_LENGTH, STATE_LENGTH};
+use limits::{CELLS, MOST_LANDINGS, STACK_LENGTH, STATE_LENGTH, TASKS};
 use state::{Motion, Notes, Task};
-
-const UNUSED_AT: usize = state_layout::UNUSED_AT;
-
-const UNUSED_LENGTH: usize = STATE_LENGTH - UNUSED_AT;
 
 // Whether a buffer is a state. It is judged where it is lent: nothing is decoded but the header, the axis, the notes and the tasks, and of the landing list
 // what stands below its count.
 pub fn is_state(b: &[u8]) -> bool
     ensures { result ≡ is_state b.now }
 {
-    if b.len() != STATE_LENGTH {
-        return false;
+    match b.as_array() {
+        Some(b) => frame_is(b) & state_is(b),
+        None => false,
     }
-    frame_is(b) & state_is(b)
 }
 
 // What is the buffer's own: this release's layout number, and unused bytes 0.
-fn frame_is(b: &[u8]) -> bool
-    requires { length b.now ≡ state_length }
+fn frame_is(b: &[u8; STATE_LENGTH]) -> bool
     ensures { result ≡ frame_is b.now }
 {
     (state_bytes::byte(b, state_layout::LAYOUT_AT) == state_layout::LAYOUT_NUMBER) & unused_zero(b)
 }
 
 // Whether the unused bytes are 0.
-fn unused_zero(b: &[u8]) -> bool
-    requires { length b.now ≡ state_length }
+fn unused_zero(b: &[u8; STATE_LENGTH]) -> bool
     ensures { result ≡ unused_bytes_zero b.now unused_length }
 {
-    together(b, UNUSED_AT, UNUSED_LENGTH) == 0
+    together(&b[state_layout::UNUSED_AT..]) == 0
 }
 
-// Bytes from a place on, with each binary digit that one of them has.
-fn together(b: &[u8], at: usize, n: usize) -> u8
-    requires { at + n ≤ length b.now }
-    ensures { result ≡ together b.now at n }
+// Bytes with each binary digit that one of them has.
+fn together(bytes: &[u8]) -> u8
+    ensures { result ≡ together bytes.now 0 (length bytes.now) }
 {
     let mut all = 0;
-    let mut k: usize = 0;
-    while k < n {
-        all = all | b[at + k];
-        k += 1;
+    for x in bytes {
+        all |= *x;
     }
     all
 }
 
 // Whether what a buffer is read as is a state.
-fn state_is(b: &[u8]) -> bool
-    requires { length b.now ≡ state_length }
+fn state_is(b: &[u8; STATE_LENGTH]) -> bool
     ensures { result ≡ state_is (decoded b.now) }
 {
     let header = state_decode::header_in(b);
     reader::accepts(header)
         & (landings_are(b, header)
-            & (values_are(b)
-                & (task_is(header, state_decode::bias_in(b))
-                    & (task_is(header, state_decode::plc_in(b))
-                        & task_is(header, state_decode::mathematics_in(b))))))
+            & (values_are(b) & tasks_are(header, &state_decode::tasks_in(b))))
 }
 
 // Whether the landing list is one that load accepts with this header: as many blocks as it says, each judged beside the one before it, and zeros.
-fn landings_are(b: &[u8], header: Header) -> bool
-    requires { length b.now ≡ state_length }
+fn landings_are(b: &[u8; STATE_LENGTH], header: Header) -> bool
     ensures { result ≡ accepts_landings header (landings_in b.now landings_at) }
 {
+    let n = usize::from(header.landings).min(MOST_LANDINGS);
     let mut pass = true;
-    let mut before: u16 = 0;
-    let mut i: usize = 0;
-    while i < MOST_LANDINGS {
-        if i >= header.landings as usize {
-            return pass
-                & (together(
-                    b,
-                    state_layout::LANDINGS_AT + 2 * i,
-                    2 * (MOST_LANDINGS - i),
-                ) == 0);
-        }
+    let mut before = 0;
+    for i in 0..n {
         let block = state_bytes::word(b, state_layout::LANDINGS_AT + 2 * i);
-        pass = pass & reader::landing_fits(header.count as u32, i, before, block);
+        pass &= reader::landing_fits(u32::from(header.count), i, before, block);
         before = block;
-        i += 1;
     }
-    pass
+    let rest = &b[state_layout::LANDINGS_AT + 2 * n..state_layout::MOTION_AT];
+    pass & (together(rest) == 0)
 }
 
 // Cells, motion and notes: flags and outputs 0 or 1, and so both notes.
-fn values_are(b: &[u8]) -> bool
-    requires { length b.now ≡ state_length }
+fn values_are(b: &[u8; STATE_LENGTH]) -> bool
     ensures { result ≡ values_are (values_in b.now) }
 {
     (levels_are(b, state_layout::FLAGS_AT) & levels_are(b, state_layout::OUTPUTS_AT))
@@ -130,7 +108,14 @@ fn levels_are(b: &[u8], at: usize) -> bool
     requires { at + levels_length ≤ length b.now }
     ensures { result ≡ all_of level_is (levels_in b.now at) cells }
 {
-    together(b, at, CELLS) <= limits::MOST_LEVEL
+    together(&b[at..at + CELLS]) <= limits::MOST_LEVEL
+}
+
+// Whether each task is one that a state has.
+fn tasks_are(h: Header, tasks: &[Task; TASKS]) -> bool
+    ensures { result ≡ list_all (task_is h) tasks.now }
+{
+    tasks.iter().all(|task| task_is(h, *task))
 }
 
 // Status, block and start, depth, call stack and wait of a task.
@@ -141,7 +126,7 @@ fn task_is(h: Header, task: Task) -> bool
         & ((task.block < h.count)
             & ((task.start < h.count)
                 & ((task.depth <= limits::MOST_DEPTH)
-                    & (stack_is(h.count, task.depth as usize, &task.stack)
+                    & (stack_is(h.count, usize::from(task.depth), &task.stack)
                         & wait_is(h.drive, task.time, task.turns)))))
 }
 
@@ -149,10 +134,8 @@ fn stack_is(count: u16, depth: usize, stack: &[u16; STACK_LENGTH]) -> bool
     ensures { result ≡ all_of (entry_is count depth) stack.now most_depth }
 {
     let mut pass = true;
-    let mut i: usize = 0;
-    while i < STACK_LENGTH {
-        pass = pass & entry_is(count, depth, i, stack[i]);
-        i += 1;
+    for (i, block) in stack.iter().enumerate() {
+        pass &= entry_is(count, depth, i, *block);
     }
     pass
 }

@@ -133,20 +133,16 @@ kept d s a n h q l =
     ∙ ap (λ (x : List ℕ). take (length d) (take a d ++ x)) (sym (append_assoc (take n s) (drop n s) _)
     ∙ ap (λ (x : List ℕ). x ++ drop (a + length s) d) (take-append-drop n s))
 
-pub copied_whole : (d s x : List ℕ) (a k : ℕ) → a + length s ≤ length d → k ≡ length s → x ≡ s → Put d a s (a + length s) (put_mid a k d x)
+-- so much of a word as there is room for, copied into its place
+pub copied_front : (d s x : List ℕ) (a n : ℕ) → a ≤ length d → n ≡ min (length s) (length d - a) → x ≡ take n s → Put d a s (a + n) (put_mid a n d x)
 unfolding end_after
-copied_whole d s x a k h q e =
-    let is = copied d s x a k h q e in
-    let n : a + length s ≡ end_after (length d) a s = omega arith in
-    record { ends = n; counts = rw (is, n) (counts d a s); holds = is }
-
--- the same of the beginning of a word that fills the buffer
-pub copied_cut : (d s x : List ℕ) (a : ℕ) → a ≤ length d → length d - a ≤ length s → x ≡ take (length d - a) s
-    → Put d a s (length (put_mid a (length d - a) d x)) (put_mid a (length d - a) d x)
-unfolding end_after
-copied_cut d s x a h l e =
-    let m = length-take-le (length d - a) s l in
-    let is = copied d (take (length d - a) s) x a (length d - a) (omega arith) (sym m) e ∙ kept d s a (length d - a) h refl l in
-    let n : length (put_at d a s) ≡ end_after (length d) a s = omega (arith, put_length d a s) in
-    let c = counts d a s in
-    record { ends = ap length is ∙ n; counts = rw is (rw (← n) at c); holds = is }
+copied_front d s x a n h q e =
+    let is : put_mid a n d x ≡ put_at d a s =
+    by (length d - a) (length s)
+    (λ l.
+    let m : n ≡ length d - a = omega arith in
+    let k = length-take-le n s (omega arith) in
+    copied d (take n s) x a n (omega arith) (sym k) e ∙ kept d s a n h m (omega arith))
+    (λ l. let m : n ≡ length s = omega arith in copied d s x a n (omega arith) m (e ∙ take_all n s (omega arith))) in
+    let ends : a + n ≡ end_after (length d) a s = omega arith in
+    record { ends = ends; counts = rw (is, ends) (counts d a s); holds = is }

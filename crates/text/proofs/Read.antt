@@ -1,5 +1,7 @@
 -- What the digits of a number say: its decimal digits are digits, the first is no 0, and read back they give the number; so do a signed number's text
 -- and two hexadecimal digits.
+use Rattle.std.specs.Prelude.{◌≤ℤ◌, ◌<ℤ◌, unsigned_abs}
+use Rattle.std.proofs.lemmas.Int.{ints}
 use mathlib.Core.Path.{◌≡◌, refl, sym, ap, ◌∙◌}
 use mathlib.Core.List.{List, [], ◌∷◌, ◌++◌}
 use Prim.Native.Nat.{ℕ, zero, suc, ◌+◌, ◌*◌, ◌-◌, ◌/◌, ◌%◌, ◌^◌, ◌<◌, ◌≤◌}
@@ -8,13 +10,8 @@ use native.Mathlib.Omega.{arith}
 use lib.IntN.{ℤ, pos, negsuc}
 use lib.ListN.{length, get_or, take, length-append, get_or-append}
 use lib.Seq.{get_or-append-add, take-suc, take-length}
-use mir.Syntax.{Width}
-use mir.Val.{SFits, bits, hbits}
-use mir.ValLaws.{pow-bits}
 use borrow.Author.Tests.{lt-ltb, le-ltb, ne_eqb}
 use Rattle.logic.proofs.Choice.{by}
-use Rattle.num_arith.specs.Wrap.{word}
-use Rattle.num_arith.proofs.Cut.{word_same}
 use Rattle.text_hex.specs.Hex.{digit_of, hex_byte, hex_bytes, all_bytes}
 use Rattle.text.specs.Text.{digit, digits_of, decimal_of, minus, signed_of, hex_digit, hex_of, hex_first, hex_all, value_from, decimal_value, below, signed_value_of}
 use Rattle.text.specs.Text.{Digits}
@@ -179,28 +176,14 @@ module _ (bs : List ℕ) (bytes : (k : ℕ) → k < length bs → get_or bs k 0 
       let half : length (hex_all bs) / 2 ≡ length bs = omega arith in
       rw half (first_back (length bs) (omega arith) ∙ take-length bs)
 
--- ---- signed numbers
+-- ---- signed numbers, by their distance from 0
 
--- a pattern of a width, and the number that it stands for
-module _ (w : Width) where
-  pub signed_high : (z : ℤ) → SFits w z → word w z < 2 ^ hbits w → signed_of z ≡ decimal_of (word w z)
-  unfolding signed_of
-  signed_high (pos n) f h = rw (word_same w (pos n) f)
-  signed_high (negsuc n) f h =
-      let e = word_same w (negsuc n) f in
-      let p = pow-bits w in
-      let g = f.sfits in
-      absurd (omega arith)
+pub signed_high : (z : ℤ) → pos 0 ≤ℤ z → signed_of z ≡ decimal_of (unsigned_abs z)
+unfolding signed_of
+signed_high (pos n) h = refl
+signed_high (negsuc n) h = absurd (omega (arith, ints))
 
-  pub signed_low : (z : ℤ) → SFits w z → 2 ^ hbits w ≤ word w z → signed_of z ≡ minus ∷ decimal_of (2 ^ bits w - word w z)
-  unfolding signed_of
-  signed_low (pos n) f h =
-      let e = word_same w (pos n) f in
-      let g = f.sfits in
-      absurd (omega arith)
-  signed_low (negsuc n) f h =
-      let e = word_same w (negsuc n) f in
-      let p = pow-bits w in
-      let g = f.sfits in
-      let q : suc n ≡ 2 ^ bits w - word w (negsuc n) = omega arith in
-      ap (λ (k : ℕ). minus ∷ decimal_of k) q
+pub signed_low : (z : ℤ) → z <ℤ pos 0 → signed_of z ≡ minus ∷ decimal_of (unsigned_abs z)
+unfolding signed_of
+signed_low (pos n) h = absurd (omega (arith, ints))
+signed_low (negsuc n) h = refl

@@ -13,13 +13,9 @@ pub fn put(out: &mut [u8], at: usize, word: &[u8]) -> usize
     if out.len() <= at {
         return out.len();
     }
-    let room = out.len() - at;
-    if room < word.len() {
-        out[at..].copy_from_slice(&word[..room]);
-        return out.len();
-    }
-    let end = at + word.len();
-    out[at..end].copy_from_slice(word);
+    let n = word.len().min(out.len() - at);
+    let end = at + n;
+    out[at..end].copy_from_slice(&word[..n]);
     end
 }
 
@@ -64,12 +60,12 @@ pub fn put_labelled(out: &mut [u8], at: usize, word: &[u8], v: u64) -> usize
 pub fn put_signed(out: &mut [u8], at: usize, v: i32) -> usize
     ensures { Put out.old at (signed_of v) result out.new }
 {
-    let p = num_arith::pattern(v) as u64;
-    if p < 2_147_483_648 {
-        return put_decimal(out, at, p);
+    let size = u64::from(v.unsigned_abs());
+    if v < 0 {
+        let behind = put(out, at, b"-");
+        return put_decimal(out, behind, size);
     }
-    let behind = put(out, at, b"-");
-    put_decimal(out, behind, 4_294_967_296 - p)
+    put_decimal(out, at, size)
 }
 
 // Puts a byte in two capital hexadecimal digits.
@@ -85,10 +81,8 @@ pub fn put_hex_bytes(out: &mut [u8], at: usize, bytes: &[u8]) -> usize
     ensures { Put out.old at (hex_all bytes.now) result out.new }
 {
     let mut end = put(out, at, b"");
-    let mut i = 0;
-    while i < bytes.len() {
-        end = put_hex(out, end, bytes[i]);
-        i += 1;
+    for byte in bytes {
+        end = put_hex(out, end, *byte);
     }
     end
 }

@@ -11,19 +11,11 @@ pub fn decode(line: &[u8], out: &mut [u8]) -> usize
     ensures prefix_len { IsPrefixLen result out.new }
     ensures out_after { out.new ≡ hex_bytes line.now result ++ drop result out.old }
 {
-    let n = least(line.len() / 2, out.len());
-    let mut i = 0;
-    while i < n {
+    let n = (line.len() / 2).min(out.len());
+    for i in 0..n {
         out[i] = byte(line[2 * i], line[2 * i + 1]);
-        i += 1;
     }
     n
-}
-
-fn least(a: usize, b: usize) -> usize
-    ensures { result ≡ min a b }
-{
-    if a < b { a } else { b }
 }
 
 // The byte of two digits.

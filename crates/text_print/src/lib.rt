@@ -3,6 +3,7 @@
 #![tactic(auto)]
 
 ghost use Rattle.std.specs.Prelude.{◌≡◌, IfOk};
+ghost use Rattle.std.specs.Counts.{IsPrefixLen};
 
 use std::io;
 
@@ -12,9 +13,7 @@ const ROOM: usize = 128;
 pub fn show<P: Print>(rt: &P, word: &[u8], v: u64) -> io::Result<u64>
     ensures { IfOk result (λ shown. shown ≡ v) }
 {
-    let mut line = [0u8; ROOM];
-    let n = text::put_labelled(&mut line, 0, word, v);
-    rt.write_all(&line[..n])?;
+    show_behind(rt, word, |line, at| text::put_decimal(line, at, v))?;
     Ok(v)
 }
 
@@ -22,10 +21,7 @@ pub fn show<P: Print>(rt: &P, word: &[u8], v: u64) -> io::Result<u64>
 pub fn show_signed<P: Print>(rt: &P, word: &[u8], v: i32) -> io::Result<i32>
     ensures { IfOk result (λ shown. shown ≡ v) }
 {
-    let mut line = [0u8; ROOM];
-    let at = text::put(&mut line, 0, word);
-    let n = text::put_signed(&mut line, at, v);
-    rt.write_all(&line[..n])?;
+    show_behind(rt, word, |line, at| text::put_signed(line, at, v))?;
     Ok(v)
 }
 
@@ -33,9 +29,21 @@ pub fn show_signed<P: Print>(rt: &P, word: &[u8], v: i32) -> io::Result<i32>
 pub fn show_hex<P: Print>(rt: &P, word: &[u8], v: u8) -> io::Result<u8>
     ensures { IfOk result (λ shown. shown ≡ v) }
 {
+    show_behind(rt, word, |line, at| text::put_hex(line, at, v))?;
+    Ok(v)
+}
+
+// Prints a word, and behind it what `put` puts into the line; `put` gives where the line ends.
+fn show_behind<P: Print, F: FnOnce(&mut [u8], usize) -> usize>(
+    rt: &P,
+    word: &[u8],
+    put: F,
+) -> io::Result<()>
+    requires callable { F.IsAlwaysCallable put }
+    requires counts { (line : _) (at : _) (end : _) (left : _) → F.post put line at end left → IsPrefixLen end left.now }
+{
     let mut line = [0u8; ROOM];
     let at = text::put(&mut line, 0, word);
-    let n = text::put_hex(&mut line, at, v);
-    rt.write_all(&line[..n])?;
-    Ok(v)
+    let end = put(&mut line, at);
+    rt.write_all(&line[..end])
 }

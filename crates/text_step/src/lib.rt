@@ -2,7 +2,8 @@
 // to the stored output of the program manual; the contracts say which things are shown as changed. An error is the printing's.
 #![tactic(auto)]
 
-ghost use Rattle.std.specs.Prelude.{◌≡◌, ◌&&◌, ◌+◌, ◌*◌, ◌<◌, ◌≤◌, eqb, ltb, length, IfOk};
+ghost use Rattle.std.specs.Prelude.{◌≡◌, ◌&&◌, ◌+◌, ◌*◌, ◌<◌, ◌≤◌, eqb, ltb, IfOk};
+ghost use Rattle.std.specs.Int.{w32, cast_unsigned};
 ghost use Rattle.limits.specs.Limits.{task_count, cells, state_length};
 ghost use Rattle.image_header.specs.Scan.{blocks_of};
 ghost use Rattle.walk.specs.Blocks.{block_at};
@@ -15,6 +16,11 @@ ghost use Rattle.text_step.specs.Changes.{same, same_cells, same_axis, same_star
 use bias_results::{BiasAnswer, BiasVerdict};
 use image_header::reader;
 use limits::{BLOCK_LENGTH, CELLS, STATE_LENGTH, TASK_COUNT};
+use state_layout::{
+    FLAGS_AT, MOTION_AT, NOTES_AT, OUTPUTS_AT, STARTS_AT, TASK_LENGTH, TASKS_AT, TIME_AT, TURNS_AT,
+    VARIABLES_AT,
+};
+use std::fmt::Display;
 use std::io;
 
 // The line of a step; a is the state buffer before it, b the one behind it. Gives whether nothing changed.
@@ -28,15 +34,22 @@ pub fn show_step<P: Print>(
 ) -> io::Result<bool>
     ensures { IfOk result (λ given. given ≡ unchanged a.now b.now) }
 {
-    text_print::show(rt, b"task ", task as u64)?;
+    print!(rt; "task {task}")?;
     show_place(rt, image, a, task)?;
-    rt.write_all(b" : ")?;
-    let nothing = show_changes(rt, a, b)?;
-    rt.write_all(b" : ")?;
+    print!(rt; " : ")?;
+    let buffers = Buffers {
+        before: a,
+        after: b,
+    };
+    let nothing = buffers.show_changes(rt)?;
+    if nothing {
+        print!(rt; "nothing")?;
+    }
+    print!(rt; " : ")?;
     show_motion(rt, r)?;
-    rt.write_all(b" : ")?;
+    print!(rt; " : ")?;
     show_answer(rt, r)?;
-    rt.write_all(b"\n")?;
+    println!(rt; "")?;
     Ok(nothing)
 }
 
@@ -45,13 +58,11 @@ pub fn show_load<P: Print>(rt: &P, v: BiasVerdict) -> io::Result<u32>
     ensures { IfOk result (λ given. given ≡ v.number) }
 {
     let number = v.number;
-    text_print::show(rt, b"load ", number as u64)?;
+    print!(rt; "load {number}")?;
     if number != 0 {
-        text_print::show(rt, b" place ", v.place)?;
-        text_print::show(rt, b" task ", v.task as u64)?;
-        text_print::show(rt, b" depth ", v.depth as u64)?;
+        print!(rt; " place {} task {} depth {}", v.place, v.task, v.depth)?;
     }
-    rt.write_all(b"\n")?;
+    println!(rt; "")?;
     Ok(number)
 }
 
@@ -74,7 +85,7 @@ fn show_place<P: Print>(rt: &P, image: &[u8], a: &[u8; STATE_LENGTH], task: u32)
 fn task_at(t: u8) -> usize
     ensures { result ≡ task_place t }
 {
-    state_layout::TASKS_AT + state_layout::TASK_LENGTH * (t as usize)
+    TASKS_AT + TASK_LENGTH * usize::from(t)
 }
 
 // A block's number and bytes; gives the bytes.
@@ -82,269 +93,167 @@ fn show_block<P: Print>(rt: &P, image: &[u8], block: u16) -> io::Result<[u8; BLO
     ensures { IfOk result (λ given. given ≡ block_at (blocks_of image.now) block) }
 {
     let bytes = walk_blocks::block_at(reader::block_part(image), block);
-    text_print::show(rt, b" block ", block as u64)?;
-    rt.write_all(b" code")?;
-    show_bytes(rt, &bytes)?;
+    print!(rt; " block {block} code")?;
+    for byte in &bytes {
+        print!(rt; " {byte:02X}")?;
+    }
     Ok(bytes)
 }
 
-fn show_bytes<P: Print>(rt: &P, bytes: &[u8]) -> io::Result<usize>
-    ensures { IfOk result (λ given. given ≡ length bytes.now) }
-{
-    let mut i = 0;
-    while i < bytes.len() {
-        text_print::show_hex(rt, b" ", bytes[i])?;
-        i += 1;
+// The state buffer before a step and the one behind it.
+#[derive(Clone, Copy)]
+struct Buffers<'a> {
+    before: &'a [u8; STATE_LENGTH],
+    after: &'a [u8; STATE_LENGTH],
+}
+
+impl Buffers<'_> {
+    // What changed; gives whether nothing is shown.
+    fn show_changes<P: Print>(&self, rt: &P) -> io::Result<bool>
+        ensures { IfOk result (λ given. given ≡ unchanged self.now.before.now self.now.after.now) }
+    {
+        let variables = self.show_cells(rt, VARIABLES_AT, 4, "variable", true)?;
+        let flags = self.show_cells(rt, FLAGS_AT, 1, "flag", variables)?;
+        let outputs = self.show_cells(rt, OUTPUTS_AT, 1, "output", flags)?;
+        let axis = self.show_axis(rt, outputs)?;
+        let starts = self.show_starts(rt, axis)?;
+        let bias = self.show_task(rt, limits::BIAS, starts)?;
+        let plc = self.show_task(rt, limits::PLC, bias)?;
+        self.show_task(rt, limits::MATHEMATICS, plc)
     }
-    Ok(i)
-}
 
-// What changed from a to b; gives whether nothing did.
-fn show_changes<P: Print>(
-    rt: &P,
-    a: &[u8; STATE_LENGTH],
-    b: &[u8; STATE_LENGTH],
-) -> io::Result<bool>
-    ensures { IfOk result (λ given. given ≡ unchanged a.now b.now) }
-{
-    let variables = show_cells(rt, a, b, state_layout::VARIABLES_AT, 4, b"variable ", true)?;
-    let flags = show_cells(rt, a, b, state_layout::FLAGS_AT, 1, b"flag ", variables)?;
-    let outputs = show_cells(rt, a, b, state_layout::OUTPUTS_AT, 1, b"output ", flags)?;
-    let axis = show_axis(rt, a, b, outputs)?;
-    let starts = show_starts(rt, a, b, axis)?;
-    let bias = show_task(rt, a, b, limits::BIAS, starts)?;
-    let plc = show_task(rt, a, b, limits::PLC, bias)?;
-    let nothing = show_task(rt, a, b, limits::MATHEMATICS, plc)?;
-    show_nothing(rt, nothing)
-}
-
-fn show_nothing<P: Print>(rt: &P, nothing: bool) -> io::Result<bool>
-    ensures { IfOk result (λ given. given ≡ nothing) }
-{
-    if nothing {
-        rt.write_all(b"nothing")?;
+    // The cells from a place on that changed, each of so many bytes; `nothing` says whether nothing was shown before. Gives whether nothing is shown yet.
+    fn show_cells<P: Print>(
+        &self,
+        rt: &P,
+        at: usize,
+        width: usize,
+        name: &str,
+        nothing: bool,
+    ) -> io::Result<bool>
+        requires width_nonzero { 0 < width }
+        requires cells_bound { at + width * cells ≤ state_length }
+        ensures { IfOk result (λ given. given ≡ nothing && same_cells self.now.before.now self.now.after.now at width cells) }
+    {
+        let mut left = nothing;
+        for k in 0..CELLS {
+            left = self.show_number(rt, at + width * k, width, format_args!("{name} {k}"), left)?;
+        }
+        Ok(left)
     }
-    Ok(nothing)
-}
 
-// The cells from a place on that changed, each of so many bytes; `nothing` says whether nothing was shown before. Gives whether nothing is shown yet.
-fn show_cells<P: Print>(
-    rt: &P,
-    a: &[u8; STATE_LENGTH],
-    b: &[u8; STATE_LENGTH],
-    at: usize,
-    width: usize,
-    text: &[u8],
-    nothing: bool,
-) -> io::Result<bool>
-    requires width_nonzero { 0 < width }
-    requires cells_bound { at + width * cells ≤ state_length }
-    ensures { IfOk result (λ given. given ≡ nothing && same_cells a.now b.now at width cells) }
-{
-    let mut left = nothing;
-    let mut k: usize = 0;
-    while k < CELLS {
-        left = show_cell(rt, a, b, at + width * k, width, text, k, left)?;
-        k += 1;
+    // The parameters of the axis, the start mark and the notes of BIAS, as far as they changed.
+    fn show_axis<P: Print>(&self, rt: &P, nothing: bool) -> io::Result<bool>
+        ensures { IfOk result (λ given. given ≡ nothing && same_axis self.now.before.now self.now.after.now) }
+    {
+        let position = self.show_number(rt, MOTION_AT, 4, "position", nothing)?;
+        let speed = self.show_number(rt, MOTION_AT + 4, 2, "speed", position)?;
+        let acceleration = self.show_number(rt, MOTION_AT + 6, 2, "acceleration", speed)?;
+        let deceleration = self.show_number(rt, MOTION_AT + 8, 2, "deceleration", acceleration)?;
+        let mark = self.show_number(rt, MOTION_AT + 10, 1, "mark", deceleration)?;
+        let level = self.show_number(rt, NOTES_AT, 1, "level", mark)?;
+        self.show_number(rt, NOTES_AT + 1, 1, "moved", level)
     }
-    Ok(left)
-}
 
-// A cell, if it changed.
-fn show_cell<P: Print>(
-    rt: &P,
-    a: &[u8; STATE_LENGTH],
-    b: &[u8; STATE_LENGTH],
-    at: usize,
-    width: usize,
-    text: &[u8],
-    index: usize,
-    nothing: bool,
-) -> io::Result<bool>
-    requires width_nonzero { 0 < width }
-    requires width_bound { at + width ≤ state_length }
-    ensures { IfOk result (λ given. given ≡ nothing && same a.now b.now at width) }
-{
-    if same(a, b, at, width) {
-        return Ok(nothing);
+    // The start blocks of the PLC and of mathematics, as far as they changed.
+    fn show_starts<P: Print>(&self, rt: &P, nothing: bool) -> io::Result<bool>
+        ensures { IfOk result (λ given. given ≡ nothing && same_starts self.now.before.now self.now.after.now) }
+    {
+        let plc = self.show_number(
+            rt,
+            STARTS_AT,
+            2,
+            format_args!("start of task {}", limits::PLC),
+            nothing,
+        )?;
+        self.show_number(
+            rt,
+            STARTS_AT + 2,
+            2,
+            format_args!("start of task {}", limits::MATHEMATICS),
+            plc,
+        )
     }
-    show_comma(rt, nothing)?;
-    text_print::show(rt, text, index as u64)?;
-    show_value(rt, b, at, width)?;
-    Ok(false)
+
+    // A number and its name, if it changed.
+    fn show_number<P: Print, D: Display + Drop>(
+        &self,
+        rt: &P,
+        at: usize,
+        width: usize,
+        name: D,
+        nothing: bool,
+    ) -> io::Result<bool>
+        requires width_nonzero { 0 < width }
+        requires width_bound { at + width ≤ state_length }
+        ensures { IfOk result (λ given. given ≡ nothing && same self.now.before.now self.now.after.now at width) }
+    {
+        let value = value_at(self.after, at, width);
+        self.show_changed(rt, at, width, format_args!("{name} = {value}"), nothing)
+    }
+
+    // A task's record, if it changed.
+    fn show_task<P: Print>(&self, rt: &P, t: u8, nothing: bool) -> io::Result<bool>
+        requires { t < task_count }
+        ensures { IfOk result (λ given. given ≡ nothing && same self.now.before.now self.now.after.now (task_place t) task_length) }
+    {
+        let at = task_at(t);
+        let after = self.after;
+        let block = state_bytes::word(after, at + 2);
+        let depth = state_bytes::byte(after, at + 1);
+        let status = state_bytes::byte(after, at);
+        let time = state_bytes::long(after, at + TIME_AT);
+        let turns = state_bytes::long(after, at + TURNS_AT);
+        let text = format_args!(
+            "task {t} at {block} depth {depth} status {status} wait {time} {turns}"
+        );
+        self.show_changed(rt, at, TASK_LENGTH, text, nothing)
+    }
+
+    // A text, if the bytes from a place on changed; a comma before it, unless nothing was shown before.
+    fn show_changed<P: Print, D: Display + Drop>(
+        &self,
+        rt: &P,
+        at: usize,
+        width: usize,
+        text: D,
+        nothing: bool,
+    ) -> io::Result<bool>
+        requires { at + width ≤ state_length }
+        ensures { IfOk result (λ given. given ≡ nothing && same self.now.before.now self.now.after.now at width) }
+    {
+        if self.same(at, width) {
+            return Ok(nothing);
+        }
+        if !nothing {
+            print!(rt; ", ")?;
+        }
+        print!(rt; "{text}")?;
+        Ok(false)
+    }
+
+    // Whether the bytes from a place on are the same in both buffers.
+    fn same(&self, at: usize, width: usize) -> bool
+        requires { at + width ≤ state_length }
+        ensures { result ≡ same self.now.before.now self.now.after.now at width }
+    {
+        let before = self.before;
+        let after = self.after;
+        before[at..at + width] == after[at..at + width]
+    }
 }
 
-// The parameters of the axis, the start mark and the notes of BIAS, as far as they changed.
-fn show_axis<P: Print>(
-    rt: &P,
-    a: &[u8; STATE_LENGTH],
-    b: &[u8; STATE_LENGTH],
-    nothing: bool,
-) -> io::Result<bool>
-    ensures { IfOk result (λ given. given ≡ nothing && same_axis a.now b.now) }
-{
-    let position = show_part(rt, a, b, state_layout::MOTION_AT, 4, b"position", nothing)?;
-    let speed = show_part(rt, a, b, state_layout::MOTION_AT + 4, 2, b"speed", position)?;
-    let acceleration = show_part(
-        rt,
-        a,
-        b,
-        state_layout::MOTION_AT + 6,
-        2,
-        b"acceleration",
-        speed,
-    )?;
-    let deceleration = show_part(
-        rt,
-        a,
-        b,
-        state_layout::MOTION_AT + 8,
-        2,
-        b"deceleration",
-        acceleration,
-    )?;
-    let mark = show_part(
-        rt,
-        a,
-        b,
-        state_layout::MOTION_AT + 10,
-        1,
-        b"mark",
-        deceleration,
-    )?;
-    let level = show_part(rt, a, b, state_layout::NOTES_AT, 1, b"level", mark)?;
-    show_part(rt, a, b, state_layout::NOTES_AT + 1, 1, b"moved", level)
-}
-
-// The start blocks of the PLC and of mathematics, as far as they changed.
-fn show_starts<P: Print>(
-    rt: &P,
-    a: &[u8; STATE_LENGTH],
-    b: &[u8; STATE_LENGTH],
-    nothing: bool,
-) -> io::Result<bool>
-    ensures { IfOk result (λ given. given ≡ nothing && same_starts a.now b.now) }
-{
-    let plc = show_cell(
-        rt,
-        a,
-        b,
-        state_layout::STARTS_AT,
-        2,
-        b"start of task ",
-        limits::PLC as usize,
-        nothing,
-    )?;
-    show_cell(
-        rt,
-        a,
-        b,
-        state_layout::STARTS_AT + 2,
-        2,
-        b"start of task ",
-        limits::MATHEMATICS as usize,
-        plc,
-    )
-}
-
-// A number with a name of its own, if it changed.
-fn show_part<P: Print>(
-    rt: &P,
-    a: &[u8; STATE_LENGTH],
-    b: &[u8; STATE_LENGTH],
-    at: usize,
-    width: usize,
-    text: &[u8],
-    nothing: bool,
-) -> io::Result<bool>
+// The number of so many bytes: of four bytes a signed one.
+fn value_at(b: &[u8; STATE_LENGTH], at: usize, width: usize) -> i32
     requires width_nonzero { 0 < width }
     requires width_bound { at + width ≤ state_length }
-    ensures { IfOk result (λ given. given ≡ nothing && same a.now b.now at width) }
+    ensures { cast_unsigned w32 result ≡ shown_at b.now at width }
 {
-    if same(a, b, at, width) {
-        return Ok(nothing);
+    match width {
+        4 => state_bytes::signed(b, at),
+        2 => i32::from(state_bytes::word(b, at)),
+        _ => i32::from(state_bytes::byte(b, at)),
     }
-    show_comma(rt, nothing)?;
-    rt.write_all(text)?;
-    show_value(rt, b, at, width)?;
-    Ok(false)
-}
-
-// A task's record, if it changed.
-fn show_task<P: Print>(
-    rt: &P,
-    a: &[u8; STATE_LENGTH],
-    b: &[u8; STATE_LENGTH],
-    t: u8,
-    nothing: bool,
-) -> io::Result<bool>
-    requires { t < task_count }
-    ensures { IfOk result (λ given. given ≡ nothing && same a.now b.now (task_place t) task_length) }
-{
-    let at = task_at(t);
-    if same(a, b, at, state_layout::TASK_LENGTH) {
-        return Ok(nothing);
-    }
-    show_comma(rt, nothing)?;
-    text_print::show(rt, b"task ", t as u64)?;
-    text_print::show(rt, b" at ", state_bytes::word(b, at + 2) as u64)?;
-    text_print::show(rt, b" depth ", state_bytes::byte(b, at + 1) as u64)?;
-    text_print::show(rt, b" status ", state_bytes::byte(b, at) as u64)?;
-    text_print::show(
-        rt,
-        b" wait ",
-        state_bytes::long(b, at + state_layout::TIME_AT) as u64,
-    )?;
-    text_print::show(
-        rt,
-        b" ",
-        state_bytes::long(b, at + state_layout::TURNS_AT) as u64,
-    )?;
-    Ok(false)
-}
-
-// Between two changes.
-fn show_comma<P: Print>(rt: &P, nothing: bool) -> io::Result<bool>
-    ensures { IfOk result (λ given. given ≡ nothing) }
-{
-    if !nothing {
-        rt.write_all(b", ")?;
-    }
-    Ok(nothing)
-}
-
-// A number of so many bytes: of four bytes a signed one. Gives the bytes as a number.
-fn show_value<P: Print>(rt: &P, b: &[u8; STATE_LENGTH], at: usize, width: usize) -> io::Result<u32>
-    requires width_nonzero { 0 < width }
-    requires width_bound { at + width ≤ state_length }
-    ensures { IfOk result (λ given. given ≡ shown_at b.now at width) }
-{
-    if width == 4 {
-        text_print::show_signed(rt, b" = ", state_bytes::signed(b, at))?;
-        return Ok(state_bytes::long(b, at));
-    }
-    if width == 2 {
-        let v = state_bytes::word(b, at) as u32;
-        text_print::show(rt, b" = ", v as u64)?;
-        return Ok(v);
-    }
-    let v = state_bytes::byte(b, at) as u32;
-    text_print::show(rt, b" = ", v as u64)?;
-    Ok(v)
-}
-
-// Whether the bytes from a place on are the same in both buffers.
-fn same(a: &[u8; STATE_LENGTH], b: &[u8; STATE_LENGTH], at: usize, width: usize) -> bool
-    requires { at + width ≤ state_length }
-    ensures { result ≡ same a.now b.now at width }
-{
-    let mut pass = true;
-    let mut k: usize = 0;
-    while k < width {
-        pass = pass & (state_bytes::byte(a, at + k) == state_bytes::byte(b, at + k));
-        k += 1;
-    }
-    pass
 }
 
 // The motion request; gives its number.
@@ -353,37 +262,29 @@ fn show_motion<P: Print>(rt: &P, r: BiasAnswer) -> io::Result<u32>
 {
     let motion = r.motion;
     match motion {
-        1 => show_move(rt, b"move to ", r),
-        2 => show_move(rt, b"move by ", r),
-        3 => show_move(rt, b"forward ", r),
-        4 => show_move(rt, b"backward ", r),
-        5 => show_stop(rt, r),
-        _ => show_none(rt, r),
+        1 => show_move(rt, "move to", r),
+        2 => show_move(rt, "move by", r),
+        3 => show_move(rt, "forward", r),
+        4 => show_move(rt, "backward", r),
+        5 => {
+            print!(rt; "stop mode {} ramp {}", r.mode, r.deceleration)?;
+            Ok(motion)
+        }
+        _ => {
+            print!(rt; "none")?;
+            Ok(motion)
+        }
     }
 }
 
-fn show_move<P: Print>(rt: &P, text: &[u8], r: BiasAnswer) -> io::Result<u32>
+// A move and its parameters; gives the request's number.
+fn show_move<P: Print>(rt: &P, name: &str, r: BiasAnswer) -> io::Result<u32>
     ensures { IfOk result (λ given. given ≡ r.motion) }
 {
-    text_print::show_signed(rt, text, r.position)?;
-    text_print::show(rt, b" ", r.speed as u64)?;
-    text_print::show(rt, b" ", r.acceleration as u64)?;
-    text_print::show(rt, b" ", r.deceleration as u64)?;
-    Ok(r.motion)
-}
-
-fn show_stop<P: Print>(rt: &P, r: BiasAnswer) -> io::Result<u32>
-    ensures { IfOk result (λ given. given ≡ r.motion) }
-{
-    text_print::show(rt, b"stop mode ", r.mode as u64)?;
-    text_print::show(rt, b" ramp ", r.deceleration as u64)?;
-    Ok(r.motion)
-}
-
-fn show_none<P: Print>(rt: &P, r: BiasAnswer) -> io::Result<u32>
-    ensures { IfOk result (λ given. given ≡ r.motion) }
-{
-    rt.write_all(b"none")?;
+    print!(rt;
+        "{name} {} {} {} {}",
+        r.position, r.speed, r.acceleration, r.deceleration
+    )?;
     Ok(r.motion)
 }
 
@@ -392,28 +293,11 @@ fn show_answer<P: Print>(rt: &P, r: BiasAnswer) -> io::Result<u32>
     ensures { IfOk result (λ given. given ≡ r.number) }
 {
     let number = r.number;
-    text_print::show(rt, b"", number as u64)?;
+    print!(rt; "{number}")?;
     match number {
-        0 => Ok(number),
-        15 => show_given(rt, r),
-        16 => Ok(number),
-        18 => Ok(number),
-        _ => show_point(rt, r),
+        0 | 16 | 18 => {}
+        15 => print!(rt; " place {}", r.place)?,
+        _ => print!(rt; " block {} task {} depth {}", r.place, r.task, r.depth)?,
     }
-}
-
-fn show_given<P: Print>(rt: &P, r: BiasAnswer) -> io::Result<u32>
-    ensures { IfOk result (λ given. given ≡ r.number) }
-{
-    text_print::show(rt, b" place ", r.place)?;
-    Ok(r.number)
-}
-
-fn show_point<P: Print>(rt: &P, r: BiasAnswer) -> io::Result<u32>
-    ensures { IfOk result (λ given. given ≡ r.number) }
-{
-    text_print::show(rt, b" block ", r.place)?;
-    text_print::show(rt, b" task ", r.task as u64)?;
-    text_print::show(rt, b" depth ", r.depth as u64)?;
-    Ok(r.number)
+    Ok(number)
 }

@@ -1,5 +1,6 @@
 -- The verdict on an image, and its blocks where it is accepted, are those of its first bytes, however many, if they are more than the longest image has: the
 -- numbers before its blocks stand in the first `most_header_bytes`, and a longer image is refused by one of their numbers, or by 4 at a place that they fix.
+use Rattle.std.specs.Prelude.{Err}
 use mathlib.Core.Path.{◌≡◌, refl, sym, ap, ◌∙◌}
 use mathlib.Core.Bool.{Bool, true, false, ◌&&◌, cond}
 use mathlib.Core.List.{List}
@@ -11,13 +12,14 @@ use lib.Dec.{eqb, ltb}
 use borrow.Author.Tests.{lt-ltb, le-ltb}
 use Rattle.limits.specs.Limits.{block_length}
 use Rattle.image_result.specs.ImageResult.{done}
-use Rattle.image_number.specs.Number.{number_at, first_byte, second_byte}
+use Rattle.std.specs.Prelude.{Result}
+use Rattle.image_number.specs.Number.{number_at, read_as, first_byte, second_byte}
 use Rattle.image_header.specs.Rows.{row_count, landings_from, stands}
 use Rattle.image_header.specs.Scan.{Scanned, from_image, taken, more, scan, most_header_bytes, first_refusal, length_result, scanned_header, read_with, closed}
 use Rattle.image_header.specs.Scan.{header_of, landings_of, blocks_of}
-use Rattle.image_result.specs.declared.ImageResult.TheVariants.{LeftOver}
+use Rattle.image_result.specs.declared.ImageFault.TheVariants.{LeftOver}
 use Rattle.image_number.specs.declared.Number.{Number}
-use Rattle.image_number.specs.declared.Number.TheVariants.{Value}
+use Rattle.image_number.specs.declared.NumberFault.{NumberFault}
 use Rattle.logic.proofs.Choice.{by, either}
 use Rattle.image_header.proofs.Accepted.{accepted_header}
 use Rattle.image_header.proofs.Scanning.{at_most, image_near}
@@ -28,8 +30,8 @@ use Rattle.image_header.proofs.Longest.{image_sized, image_end}
 use Rattle.text_verdict.specs.Input.{input_length}
 
 -- what a number comes to where two bytes are there, b and c
-unfoldable two_bytes : ℕ → ℕ → ℕ → Number
-two_bytes at b c = cond (ltb b 128) (Value b (at + 1)) (second_byte at b c)
+unfoldable two_bytes : ℕ → ℕ → ℕ → Result Number NumberFault
+two_bytes at b c = cond (ltb b 128) (read_as b (at + 1)) (second_byte at b c)
 
 inside : (s : List ℕ) (at : ℕ) → at + 1 < length s → number_at s at ≡ two_bytes at (get_or s at 0) (get_or s (at + 1) 0)
 unfolding number_at first_byte two_bytes
@@ -41,7 +43,7 @@ unfolding taken two_bytes second_byte
 length_free n m row s at b c =
     either P (ltb b 128) refl (either P (eqb c 0) refl (either P (ltb c 128) refl refl))
   where
-    P : Number → Type 0
+    P : Result Number NumberFault → Type 0
     P x = taken n row s x ≡ taken m row s x
 
 -- two images that are longer than any image let pass, with the same bytes where the header stands
@@ -69,7 +71,7 @@ module _ (a b : List ℕ) (long-a : longest_image < length a) (long-b : longest_
       → (scan (length a) (from_image a) row_count).at + block_length * (scanned_header (scan (length a) (from_image a) row_count)).count ≤ longest_image
   within h = image_end (length a) (from_image a) (image_sized a) (accepted_header (length a) (from_image a) h)
 
-  left_over : (at count n : ℕ) → at + block_length * count ≤ longest_image → longest_image < n → length_result at count n ≡ LeftOver (at + block_length * count)
+  left_over : (at count n : ℕ) → at + block_length * count ≤ longest_image → longest_image < n → length_result at count n ≡ Err (LeftOver (at + block_length * count))
   unfolding length_result
   left_over at count n h l = rw (le-ltb n (at + block_length * count) (omega arith), lt-ltb (at + block_length * count) n (omega arith))
 

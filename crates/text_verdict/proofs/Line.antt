@@ -25,7 +25,7 @@ use Rattle.walk.specs.Graph.{least}
 use Rattle.walk.specs.Verdict as verdict
 use Rattle.walk.proofs.Verdicts.Fast.{closure_fast, walks_fast, blocks_fast, read_fast, verdict_fast, fast_is}
 use Rattle.walk.specs.Verdict.{verdict_of, verdict_number, verdict_place, verdict_task, verdict_depth}
-use Rattle.walk.specs.declared.Verdict.{Verdict}
+use Rattle.walk.specs.Verdict.{Verdict}
 use Rattle.text_verdict.specs.Line.{line_room, line_of, Holds}
 use Rattle.text_verdict.specs.declared.LineBytes.{LineBytes}
 

@@ -3,7 +3,7 @@ use Rattle.std.specs.Prelude.{◌≡◌, ℕ, List, [], ◌∷◌, ◌++◌, tak
 use Rattle.std.specs.Counts.{IsPrefixLen}
 use Rattle.text.specs.Text.{labelled}
 use Rattle.walk.specs.Verdict.{verdict_number, verdict_place, verdict_task, verdict_depth}
-use Rattle.walk.specs.declared.Verdict.{Verdict}
+use Rattle.walk.specs.Verdict.{Verdict}
 use Rattle.text_verdict.specs.declared.LineBytes.{LineBytes}
 
 -- `refusal `

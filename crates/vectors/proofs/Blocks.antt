@@ -25,7 +25,7 @@ use Rattle.walk.specs.Graph.{least}
 use Rattle.walk.specs.Verdict as verdict
 use Rattle.walk.proofs.Verdicts.Fast.{closure_fast, walks_fast, blocks_fast, read_fast, verdict_fast, fast_is}
 use Rattle.walk.specs.Verdict.{accepted_blocks, is_accepted}
-use Rattle.walk.specs.declared.Verdict.{Verdict}
+use Rattle.walk.specs.Verdict.{Verdict}
 use Rattle.logic.proofs.Lists.{◌◂◌}
 
 abbrev images : List (List ℕ)

@@ -1,17 +1,18 @@
 -- A drive has at most n of the first n pins.
+use Rattle.std.specs.Prelude.{Ok, Err}
 use Prim.Native.Nat.{ℕ, zero, suc, ◌≤◌}
 use native.Mathlib.Omega.{arith}
 use Rattle.drive.specs.Pins.{pin_of}
 use Rattle.drive.specs.declared.Drive.{Drive}
 use Rattle.drive_pins.specs.declared.PinKind.{PinKind}
-use Rattle.drive.specs.declared.Presence.{Presence}
-use Rattle.drive.specs.declared.Presence.TheVariants.{Present, BoardMissing, Never}
+use Rattle.drive.specs.Types.{Presence}
+use Rattle.drive.specs.declared.Absence.TheVariants.{BoardMissing, Never}
 use Rattle.vectors.specs.Pins.{counted, shown_pin, present_pins}
 
 one : (p : Presence) → counted p ≤ 1
-one Present = omega arith
-one BoardMissing = omega arith
-one Never = omega arith
+one (Ok _) = omega arith
+one (Err BoardMissing) = omega arith
+one (Err Never) = omega arith
 
 module _ (d : Drive) (kind : PinKind) where
   pub at_most_one : (pin : ℕ) → shown_pin d kind pin ≤ 1

@@ -1,15 +1,15 @@
 -- How many of the first pins a drive has, used in one way.
-use Rattle.std.specs.Prelude.{ℕ, zero, suc, ◌+◌}
+use Rattle.std.specs.Prelude.{ℕ, zero, suc, ◌+◌, Ok, Err}
 use Rattle.drive.specs.Pins.{pin_of}
 use Rattle.drive.specs.declared.Drive.{Drive}
 use Rattle.drive_pins.specs.declared.PinKind.{PinKind}
-use Rattle.drive.specs.declared.Presence.{Presence}
-use Rattle.drive.specs.declared.Presence.TheVariants.{Present, BoardMissing, Never}
+use Rattle.drive.specs.Types.{Presence}
+use Rattle.drive.specs.declared.Absence.TheVariants.{BoardMissing, Never}
 
 abbrev pub counted : Presence → ℕ
-counted Present = 1
-counted BoardMissing = 0
-counted Never = 0
+counted (Ok _) = 1
+counted (Err BoardMissing) = 0
+counted (Err Never) = 0
 
 -- 1 where the drive has the pin
 unfoldable pub shown_pin : Drive → PinKind → ℕ → ℕ

@@ -3,72 +3,68 @@
 // printing's.
 #![tactic(auto)]
 
-ghost use Rattle.std.specs.Prelude.{◌≡◌, [], ◌∷◌, ◌+◌, ◌+ℤ◌, length, IfOk};
+ghost use Rattle.std.specs.Prelude.{◌≡◌, [], ◌∷◌, ◌+◌, ◌+ℤ◌, length, IfOk, Ok, Err};
 ghost use Rattle.std.specs.Int.{w32};
 ghost use Rattle.limits.specs.Limits.{marks_length};
 ghost use Rattle.num_arith.specs.Wrap.{word, wrap};
 ghost use Rattle.num_le.specs.LittleEndian.{le_bytes};
-ghost use Rattle.image_number.specs.Number.{number_at};
-ghost use Rattle.image_header.specs.Scan.{header_of};
+ghost use Rattle.image_number.specs.Number.{number_at, read_as};
+ghost use Rattle.image_header.specs.Scan.{read_result, header_of};
 ghost use Rattle.walk.specs.Verdict.{accepted_blocks};
 ghost use Rattle.image_writer.specs.Writer.{with_landings, written, out_after};
 ghost use Rattle.drive_pins.specs.declared.PinKind.TheVariants.{Input, OutputWritten, OutputRead};
-ghost use Rattle.image_result.specs.declared.ImageResult.TheVariants.{Done, EndsEarly, NotShortest, OutOfRange, LeftOver, NoRoom, BadLanding};
-ghost use Rattle.image_number.specs.declared.Number.{Number};
+ghost use Rattle.image_result.specs.declared.ImageFault.TheVariants.{EndsEarly, NotShortest, OutOfRange, LeftOver, NoRoom, BadLanding};
+ghost use Rattle.image_number.specs.declared.NumberFault.TheVariants as fault;
+ghost use Rattle.vectors.specs.Outcome.{outcome};
 ghost use Rattle.vectors.specs.Pins.{present_pins, shown_pin};
 
-use drive::{Drive, Presence};
+use drive::{Absence, Drive, Slot};
 use drive_pins::PinKind;
-use image_header::reader;
 use image_header::reader::HeaderRead;
-use image_number::Number;
-use image_result::ImageResult;
+use image_header::{Header, reader};
+use image_number::{Number, NumberFault};
+use image_result::{ImageFault, ImageResult};
 use image_writer::Written;
 use limits::MOST_LANDINGS;
-use num_arith::Quotient;
 use std::io;
 
 fn main(rt: HostRuntime) -> io::Result<()> {
     arith_rows(&rt)?;
     bytes_rows(&rt)?;
-    number_rows(&rt)?;
-    case_rows(&rt)?;
-    range_rows(&rt)?;
-    landing_rows(&rt)?;
+    let _ = number_rows(&rt)?;
+    let _ = case_rows(&rt)?;
+    let _ = range_rows(&rt)?;
+    let _ = landing_rows(&rt)?;
     block_rows(&rt)?;
-    write_rows(&rt)?;
-    landing_write_rows(&rt)?;
-    room_rows(&rt)?;
+    let _ = write_rows(&rt)?;
+    let _ = landing_write_rows(&rt)?;
+    let _ = room_rows(&rt)?;
     pin_rows(&rt)?;
     Ok(())
 }
 
 // Pairs of numbers: the ends of the range, quotients of each sign, a zero divisor.
-const FIRST: [i32; 10] = [
-    2147483647,
-    -2147483648,
-    -2147483648,
-    -2147483648,
-    -7,
-    7,
-    -7,
-    5,
-    0,
-    100000,
+const PAIRS: [(i32, i32); 10] = [
+    (2147483647, 1),
+    (-2147483648, 1),
+    (-2147483648, -2147483648),
+    (-2147483648, -1),
+    (-7, 2),
+    (7, -2),
+    (-7, -2),
+    (5, 0),
+    (0, 0),
+    (100000, 100000),
 ];
-
-const SECOND: [i32; 10] = [1, 1, -2147483648, -1, 2, -2, -2, 0, 0, 100000];
 
 // A row for each pair; gives how many.
 fn arith_rows<P: Print>(rt: &P) -> io::Result<usize>
     ensures { IfOk result (λ given. given ≡ 10) }
 {
-    let mut i = 0;
-    while i < 10 {
-        arith_row(rt, FIRST[i], SECOND[i])?;
-        i += 1;
+    for (a, b) in PAIRS {
+        arith_row(rt, a, b)?;
     }
-    Ok(i)
+    Ok(PAIRS.len())
 }
 
 // Numbers of one to four bytes, and the ends of the range.
@@ -78,19 +74,17 @@ const WHOLE: [i32; 8] = [0, 1, 255, 256, 16909060, -1, 2147483647, -2147483648];
 fn bytes_rows<P: Print>(rt: &P) -> io::Result<usize>
     ensures { IfOk result (λ given. given ≡ 8) }
 {
-    let mut i = 0;
-    while i < 8 {
-        bytes_row(rt, WHOLE[i])?;
-        i += 1;
+    for v in WHOLE {
+        bytes_row(rt, v)?;
     }
-    Ok(i)
+    Ok(WHOLE.len())
 }
 
 // Document 01's case K; the least and the greatest number of one byte and of two; then bytes that are none: a second byte 0, a third byte
 // asked for, and too few.
-fn number_rows<P: Print>(rt: &P) -> io::Result<[Number; 10]>
-    ensures { IfOk result (λ given. given ≡ Number.Value 1500 2 ∷ Number.NotShortest ∷ Number.Value 0 1 ∷ Number.Value 127 1 ∷ Number.Value 128 2
-        ∷ Number.Value 16383 2 ∷ Number.NotShortest ∷ Number.NotShortest ∷ Number.EndsEarly ∷ Number.EndsEarly ∷ []) }
+fn number_rows<P: Print>(rt: &P) -> io::Result<[Result<Number, NumberFault>; 10]>
+    ensures { IfOk result (λ given. given ≡ read_as 1500 2 ∷ Err fault.NotShortest ∷ read_as 0 1 ∷ read_as 127 1 ∷ read_as 128 2
+        ∷ read_as 16383 2 ∷ Err fault.NotShortest ∷ Err fault.NotShortest ∷ Err fault.EndsEarly ∷ Err fault.EndsEarly ∷ []) }
 {
     Ok([
         number_row(rt, b"\xdc\x0b")?,
@@ -108,7 +102,7 @@ fn number_rows<P: Print>(rt: &P) -> io::Result<[Number; 10]>
 
 // Document 01's cases A and C and the accepted image of I; then A cut by a byte, A with a byte more, and no byte.
 fn case_rows<P: Print>(rt: &P) -> io::Result<[ImageResult; 6]>
-    ensures { IfOk result (λ given. given ≡ Done ∷ OutOfRange 4 ∷ Done ∷ EndsEarly 13 ∷ LeftOver 14 ∷ EndsEarly 0 ∷ []) }
+    ensures { IfOk result (λ given. given ≡ Ok tt ∷ Err (OutOfRange 4) ∷ Ok tt ∷ Err (EndsEarly 13) ∷ Err (LeftOver 14) ∷ Err (EndsEarly 0) ∷ []) }
 {
     Ok([
         header_result(
@@ -134,8 +128,8 @@ fn case_rows<P: Print>(rt: &P) -> io::Result<[ImageResult; 6]>
 
 // Headers that are refused by 2 or 3, one that is accepted, and one that ends early. Behind all but the last stands A's block.
 fn range_rows<P: Print>(rt: &P) -> io::Result<[ImageResult; 11]>
-    ensures { IfOk result (λ given. given ≡ NotShortest 1 ∷ OutOfRange 0 ∷ OutOfRange 1 ∷ OutOfRange 2 ∷ OutOfRange 2 ∷ OutOfRange 3 ∷ Done
-        ∷ OutOfRange 5 ∷ OutOfRange 5 ∷ OutOfRange 4 ∷ EndsEarly 8 ∷ []) }
+    ensures { IfOk result (λ given. given ≡ Err (NotShortest 1) ∷ Err (OutOfRange 0) ∷ Err (OutOfRange 1) ∷ Err (OutOfRange 2) ∷ Err (OutOfRange 2) ∷ Err (OutOfRange 3) ∷ Ok tt
+        ∷ Err (OutOfRange 5) ∷ Err (OutOfRange 5) ∷ Err (OutOfRange 4) ∷ Err (EndsEarly 8) ∷ []) }
 {
     Ok([
         // Type 2 in two bytes.
@@ -188,7 +182,7 @@ fn range_rows<P: Print>(rt: &P) -> io::Result<[ImageResult; 11]>
 
 // Headers of format 2 (change request 1): one that is accepted, then landing counts and landing blocks that are refused. Behind the others stands no block.
 fn landing_rows<P: Print>(rt: &P) -> io::Result<[ImageResult; 9]>
-    ensures { IfOk result (λ given. given ≡ Done ∷ BadLanding 6 ∷ NotShortest 6 ∷ EndsEarly 6 ∷ BadLanding 8 ∷ BadLanding 8 ∷ BadLanding 7 ∷ OutOfRange 4 ∷ BadLanding 9 ∷ []) }
+    ensures { IfOk result (λ given. given ≡ Ok tt ∷ Err (BadLanding 6) ∷ Err (NotShortest 6) ∷ Err (EndsEarly 6) ∷ Err (BadLanding 8) ∷ Err (BadLanding 8) ∷ Err (BadLanding 7) ∷ Err (OutOfRange 4) ∷ Err (BadLanding 9) ∷ []) }
 {
     Ok([
         // A landing block, and two blocks.
@@ -242,7 +236,7 @@ fn block_rows<P: Print>(rt: &P) -> io::Result<[usize; 6]>
 
 // Case A, then headers and lengths of blocks that the writer of format 1 refuses.
 fn write_rows<P: Print>(rt: &P) -> io::Result<[ImageResult; 8]>
-    ensures { IfOk result (λ given. given ≡ Done ∷ OutOfRange 0 ∷ OutOfRange 2 ∷ OutOfRange 6 ∷ OutOfRange 5 ∷ OutOfRange 4 ∷ EndsEarly 7 ∷ LeftOver 16 ∷ []) }
+    ensures { IfOk result (λ given. given ≡ Ok tt ∷ Err (OutOfRange 0) ∷ Err (OutOfRange 2) ∷ Err (OutOfRange 6) ∷ Err (OutOfRange 5) ∷ Err (OutOfRange 4) ∷ Err (EndsEarly 7) ∷ Err (LeftOver 16) ∷ []) }
 {
     let a = b"\x55\x00\x00\x00\x00\x00\x00\x00";
     Ok([
@@ -275,7 +269,7 @@ fn write_rows<P: Print>(rt: &P) -> io::Result<[ImageResult; 8]>
 // The writer of format 2 (change request 1): a landing block of case A's program; format 1; then, of 200 blocks, landing blocks 127, 128 and 128, 65 landing
 // blocks, an odd length, and blocks that are a byte short.
 fn landing_write_rows<P: Print>(rt: &P) -> io::Result<[ImageResult; 6]>
-    ensures { IfOk result (λ given. given ≡ Done ∷ OutOfRange 0 ∷ BadLanding 11 ∷ BadLanding 7 ∷ BadLanding 7 ∷ EndsEarly 1599 ∷ []) }
+    ensures { IfOk result (λ given. given ≡ Ok tt ∷ Err (OutOfRange 0) ∷ Err (BadLanding 11) ∷ Err (BadLanding 7) ∷ Err (BadLanding 7) ∷ Err (EndsEarly 1599) ∷ []) }
 {
     let a = b"\x55\x00\x00\x00\x00\x00\x00\x00";
     let most = [0u8; 2 * MOST_LANDINGS + 2];
@@ -299,7 +293,7 @@ fn landing_write_rows<P: Print>(rt: &P) -> io::Result<[ImageResult; 6]>
 
 // Case A into 13 bytes and into 14.
 fn room_rows<P: Print>(rt: &P) -> io::Result<[ImageResult; 2]>
-    ensures { IfOk result (λ given. given ≡ NoRoom 14 ∷ Done ∷ []) }
+    ensures { IfOk result (λ given. given ≡ Err (NoRoom 14) ∷ Ok tt ∷ []) }
 {
     let mut short = [0xaau8; 13];
     let mut exact = [0xaau8; 14];
@@ -315,45 +309,49 @@ fn room_rows<P: Print>(rt: &P) -> io::Result<[ImageResult; 2]>
 fn pin_rows<P: Print>(rt: &P) -> io::Result<u8>
     ensures { IfOk result (λ given. given ≡ 45) }
 {
-    let mut k: u8 = 0;
-    while k < 45 {
-        let model = k / 9;
-        let b = k / 3 % 3;
-        let c = k % 3;
-        if Drive::takes_b(model as u32, b as u32) && Drive::takes_c(model as u32, c as u32) {
-            drive_rows(rt, Drive { model, b, c })?;
+    let mut n: u8 = 0;
+    for model in 0..5u8 {
+        for b in 0..3u8 {
+            for c in 0..3u8 {
+                if Drive::takes(Slot::B, u32::from(model), u32::from(b))
+                    && Drive::takes(Slot::C, u32::from(model), u32::from(c))
+                {
+                    drive_rows(rt, Drive { model, b, c })?;
+                }
+                n += 1;
+            }
         }
-        k += 1;
     }
-    Ok(k)
+    Ok(n)
 }
 
 // Sum, difference, product, negation, quotient, the conditions, and bits of the first number; gives the sum.
 fn arith_row<P: Print>(rt: &P, a: i32, b: i32) -> io::Result<i32>
     ensures { IfOk result (λ given. given ≡ wrap w32 (a +ℤ b)) }
 {
-    text_print::show_signed(rt, b"arith ", a)?;
-    text_print::show_signed(rt, b" ", b)?;
-    text_print::show_signed(rt, b": sum ", num_arith::add(a, b))?;
-    text_print::show_signed(rt, b" difference ", num_arith::sub(a, b))?;
-    text_print::show_signed(rt, b" product ", num_arith::mul(a, b))?;
-    text_print::show_signed(rt, b" negation ", num_arith::neg(a))?;
+    let sum = num_arith::add(a, b);
+    let difference = num_arith::sub(a, b);
+    let product = num_arith::mul(a, b);
+    let negation = num_arith::neg(a);
+    print!(rt;
+        "arith {a} {b}: sum {sum} difference {difference} product {product} negation {negation}"
+    )?;
     show_quotient(rt, num_arith::div(a, b))?;
     show_conditions(rt, a, b)?;
     show_bits(rt, a)?;
-    rt.write_all(b"\n")?;
-    Ok(num_arith::add(a, b))
+    println!(rt; "")?;
+    Ok(sum)
 }
 
-fn show_quotient<P: Print>(rt: &P, q: Quotient) -> io::Result<Quotient>
+fn show_quotient<P: Print>(rt: &P, q: Option<i32>) -> io::Result<Option<i32>>
     ensures { IfOk result (λ given. given ≡ q) }
 {
     match q {
-        Quotient::Value(v) => {
+        Some(v) => {
             text_print::show_signed(rt, b" quotient ", v)?;
             Ok(q)
         }
-        Quotient::ByZero => {
+        None => {
             rt.write_all(b" quotient by zero")?;
             Ok(q)
         }
@@ -364,22 +362,21 @@ fn show_quotient<P: Print>(rt: &P, q: Quotient) -> io::Result<Quotient>
 fn show_conditions<P: Print>(rt: &P, a: i32, b: i32) -> io::Result<u8>
     ensures { IfOk result (λ given. given ≡ 9) }
 {
-    rt.write_all(b" conditions ")?;
-    let mut condition: u8 = 0;
-    while condition < 9 {
-        text_print::show(rt, b"", num_arith::compare(condition, a, b) as u64)?;
-        condition += 1;
+    print!(rt; " conditions ")?;
+    for condition in 0..9 {
+        print!(rt; "{}", num_arith::compare(condition, a, b) as u8)?;
     }
-    Ok(condition)
+    Ok(9)
 }
 
 // Bits 0 and 31, and 32, which there is not.
 fn show_bits<P: Print>(rt: &P, a: i32) -> io::Result<i32>
     ensures { IfOk result (λ given. given ≡ a) }
 {
-    text_print::show(rt, b" bits ", num_arith::bit(a, 0) as u64)?;
-    text_print::show(rt, b"", num_arith::bit(a, 31) as u64)?;
-    text_print::show(rt, b"", num_arith::bit(a, 32) as u64)?;
+    let first = num_arith::bit(a, 0) as u8;
+    let last = num_arith::bit(a, 31) as u8;
+    let none = num_arith::bit(a, 32) as u8;
+    print!(rt; " bits {first}{last}{none}")?;
     Ok(a)
 }
 
@@ -387,63 +384,65 @@ fn show_bits<P: Print>(rt: &P, a: i32) -> io::Result<i32>
 fn bytes_row<P: Print>(rt: &P, v: i32) -> io::Result<[u8; 4]>
     ensures { IfOk result (λ given. given ≡ le_bytes 4 (word w32 v)) }
 {
-    text_print::show_signed(rt, b"bytes ", v)?;
+    print!(rt; "bytes {v}")?;
     show_bytes(rt, num_le::put_i32(v))
 }
 
 fn show_bytes<P: Print>(rt: &P, b: [u8; 4]) -> io::Result<[u8; 4]>
     ensures { IfOk result (λ given. given ≡ b) }
 {
-    rt.write_all(b":")?;
+    print!(rt; ":")?;
     show_buffer(rt, &b)?;
-    text_print::show(rt, b" read ", num_le::read_u8([b[0]]) as u64)?;
-    text_print::show(rt, b" ", num_le::read_u16([b[0], b[1]]) as u64)?;
-    text_print::show(rt, b" ", num_le::read_u32(b) as u64)?;
-    text_print::show_signed(rt, b" ", num_le::read_i32(b))?;
-    rt.write_all(b"\n")?;
+    let byte = num_le::read_u8([b[0]]);
+    let word = num_le::read_u16([b[0], b[1]]);
+    let long = num_le::read_u32(b);
+    let signed = num_le::read_i32(b);
+    println!(rt; " read {byte} {word} {long} {signed}")?;
     Ok(b)
 }
 
 // What stands at the front of these bytes, read as a number.
-fn number_row<P: Print>(rt: &P, bytes: &[u8]) -> io::Result<Number>
+fn number_row<P: Print>(rt: &P, bytes: &[u8]) -> io::Result<Result<Number, NumberFault>>
     ensures { IfOk result (λ given. given ≡ number_at bytes.now 0) }
 {
     let n = image_number::read(bytes, 0);
     match n {
-        Number::Value(v, next) => {
-            text_print::show(rt, b"number ", v as u64)?;
-            text_print::show(rt, b" next ", next as u64)?;
+        Ok(number) => {
+            text_print::show(rt, b"number ", u64::from(number.value))?;
+            text_print::show(rt, b" next ", number.next as u64)?;
             rt.write_all(b"\n")?;
-            Ok(n)
         }
-        Number::EndsEarly => {
-            rt.write_all(b"number ends early\n")?;
-            Ok(n)
-        }
-        Number::NotShortest => {
-            rt.write_all(b"number not shortest\n")?;
-            Ok(n)
-        }
+        Err(NumberFault::EndsEarly) => rt.write_all(b"number ends early\n")?,
+        Err(NumberFault::NotShortest) => rt.write_all(b"number not shortest\n")?,
     }
+    Ok(n)
 }
 
 // What comes of an image's header.
 fn header_result<P: Print>(rt: &P, image: &[u8]) -> io::Result<ImageResult>
     ensures { IfOk result (λ given. given ≡ (header_of image.now).result) }
 {
-    let r = header_row(rt, image)?;
-    Ok(r.result)
+    Ok(outcome(header_row(rt, image)?))
+}
+
+// What comes of a header that was read.
+fn outcome(r: Result<HeaderRead, ImageFault>) -> ImageResult
+    ensures { result ≡ outcome r }
+{
+    match r {
+        Ok(_) => Ok(()),
+        Err(fault) => Err(fault),
+    }
 }
 
 // The header of an image, and how long its blocks are.
-fn header_row<P: Print>(rt: &P, image: &[u8]) -> io::Result<HeaderRead>
-    ensures { IfOk result (λ given. given ≡ header_of image.now) }
+fn header_row<P: Print>(rt: &P, image: &[u8]) -> io::Result<Result<HeaderRead, ImageFault>>
+    ensures { IfOk result (λ given. given ≡ read_result (header_of image.now)) }
 {
     let mut landings = [0; MOST_LANDINGS];
     let r = reader::read(image, &mut landings);
-    show_header(rt, r)?;
-    text_print::show(rt, b" blocks ", reader::block_part(image).len() as u64)?;
-    rt.write_all(b"\n")?;
+    let _ = show_header(rt, r)?;
+    println!(rt; " blocks {}", reader::block_part(image).len())?;
     Ok(r)
 }
 
@@ -459,37 +458,48 @@ fn block_row<P: Print>(rt: &P, image: &[u8]) -> io::Result<usize>
 fn show_blocks<P: Print>(rt: &P, blocks: &[u8]) -> io::Result<usize>
     ensures { IfOk result (λ given. given ≡ length blocks.now) }
 {
-    let mut line = [0u8; 64];
-    let end = text::put(&mut line, 0, b"blocks [");
-    let end = text::put_hex_bytes(&mut line, end, blocks);
-    let end = text::put(&mut line, end, b"]\n");
-    rt.write_all(&line[..end])?;
+    print!(rt; "blocks [")?;
+    for byte in blocks {
+        print!(rt; "{byte:02X}")?;
+    }
+    println!(rt; "]")?;
     Ok(blocks.len())
 }
 
-fn show_header<P: Print>(rt: &P, r: HeaderRead) -> io::Result<HeaderRead>
+// The header that was read; zeros where it is refused.
+fn show_header<P: Print>(
+    rt: &P,
+    r: Result<HeaderRead, ImageFault>,
+) -> io::Result<Result<HeaderRead, ImageFault>>
     ensures { IfOk result (λ given. given ≡ r) }
 {
-    let result = r.result;
-    let header = r.header;
-    let d = header.drive;
-    rt.write_all(b"header ")?;
-    show_result(rt, result)?;
-    text_print::show(rt, b": format ", header.format as u64)?;
-    rt.write_all(b" ")?;
-    show_drive(rt, d)?;
-    text_print::show(rt, b" start ", header.start as u64)?;
-    text_print::show(rt, b" count ", header.count as u64)?;
-    text_print::show(rt, b" at ", r.at as u64)?;
+    let read = match r {
+        Ok(read) => read,
+        Err(_) => HeaderRead {
+            header: Header::default(),
+            at: 0,
+        },
+    };
+    let header = read.header;
+    print!(rt; "header ")?;
+    let _ = show_result(rt, outcome(r))?;
+    print!(rt; ": format {} ", header.format)?;
+    show_drive(rt, header.drive)?;
+    print!(rt;
+        " start {} count {} at {}",
+        header.start, header.count, read.at
+    )?;
     Ok(r)
 }
 
-// A refusal's number and place.
+// A refusal's number and place, zeros where there is none.
 fn show_result<P: Print>(rt: &P, res: ImageResult) -> io::Result<ImageResult>
     ensures { IfOk result (λ given. given ≡ res) }
 {
-    text_print::show(rt, b"refusal ", res.number() as u64)?;
-    text_print::show(rt, b" place ", res.place() as u64)?;
+    match res {
+        Ok(()) => print!(rt; "refusal 0 place 0")?,
+        Err(fault) => print!(rt; "refusal {} place {}", fault.number(), fault.place())?,
+    }
     Ok(res)
 }
 
@@ -497,9 +507,7 @@ fn show_result<P: Print>(rt: &P, res: ImageResult) -> io::Result<ImageResult>
 fn show_drive<P: Print>(rt: &P, d: Drive) -> io::Result<Drive>
     ensures { IfOk result (λ given. given ≡ d) }
 {
-    text_print::show(rt, b"type ", d.model as u64)?;
-    text_print::show(rt, b" B ", d.b as u64)?;
-    text_print::show(rt, b" C ", d.c as u64)?;
+    print!(rt; "type {} B {} C {}", d.model, d.b, d.c)?;
     Ok(d)
 }
 
@@ -533,7 +541,7 @@ fn write_row<P: Print>(
     let w = image_writer::write(format, numbers, landings, blocks, out);
     show_written(rt, w)?;
     show_buffer(rt, out)?;
-    rt.write_all(b"\n")?;
+    println!(rt; "")?;
     Ok(w)
 }
 
@@ -541,10 +549,9 @@ fn show_written<P: Print>(rt: &P, w: Written) -> io::Result<Written>
     ensures { IfOk result (λ given. given ≡ w) }
 {
     let result = w.result;
-    rt.write_all(b"write ")?;
-    show_result(rt, result)?;
-    text_print::show(rt, b" length ", w.length as u64)?;
-    rt.write_all(b" out")?;
+    print!(rt; "write ")?;
+    let _ = show_result(rt, result)?;
+    print!(rt; " length {} out", w.length)?;
     Ok(w)
 }
 
@@ -552,19 +559,10 @@ fn show_written<P: Print>(rt: &P, w: Written) -> io::Result<Written>
 fn show_buffer<P: Print>(rt: &P, out: &[u8]) -> io::Result<usize>
     ensures { IfOk result (λ given. given ≡ length out.now) }
 {
-    let mut i = 0;
-    while i < out.len() {
-        show_next(rt, out[i])?;
-        i += 1;
+    for byte in out {
+        print!(rt; " {byte}")?;
     }
-    Ok(i)
-}
-
-// One more byte of a row.
-fn show_next<P: Print>(rt: &P, v: u8) -> io::Result<u64>
-    ensures { IfOk result (λ given. given ≡ v) }
-{
-    text_print::show(rt, b" ", v as u64)
+    Ok(out.len())
 }
 
 // The three kinds of pins of a drive; gives how many it has of all kinds.
@@ -584,38 +582,28 @@ fn pin_row<P: Print>(rt: &P, d: Drive, kind: PinKind) -> io::Result<u32>
     show_drive(rt, d)?;
     show_kind(rt, kind)?;
     let n = show_pins(rt, d, kind)?;
-    text_print::show(rt, b": ", n as u64)?;
-    rt.write_all(b"\n")?;
+    println!(rt; ": {n}")?;
     Ok(n)
 }
 
 fn show_kind<P: Print>(rt: &P, kind: PinKind) -> io::Result<PinKind>
     ensures { IfOk result (λ given. given ≡ kind) }
 {
-    match kind {
-        PinKind::Input => {
-            rt.write_all(b" inputs")?;
-            Ok(kind)
-        }
-        PinKind::OutputWritten => {
-            rt.write_all(b" written")?;
-            Ok(kind)
-        }
-        PinKind::OutputRead => {
-            rt.write_all(b" read")?;
-            Ok(kind)
-        }
-    }
+    let name = match kind {
+        PinKind::Input => "inputs",
+        PinKind::OutputWritten => "written",
+        PinKind::OutputRead => "read",
+    };
+    print!(rt; " {name}")?;
+    Ok(kind)
 }
 
 fn show_pins<P: Print>(rt: &P, d: Drive, kind: PinKind) -> io::Result<u32>
     ensures { IfOk result (λ given. given ≡ present_pins d kind 256) }
 {
     let mut n: u32 = 0;
-    let mut pin: u16 = 0;
-    while pin < 256 {
+    for pin in 0..256u16 {
         n += show_pin(rt, d, kind, pin as u8)?;
-        pin += 1;
     }
     Ok(n)
 }
@@ -625,15 +613,14 @@ fn show_pin<P: Print>(rt: &P, d: Drive, kind: PinKind, pin: u8) -> io::Result<u3
     ensures { IfOk result (λ given. given ≡ shown_pin d kind pin) }
 {
     match d.pin(kind, pin) {
-        Presence::Present => {
-            show_next(rt, pin)?;
+        Ok(()) => {
+            print!(rt; " {pin}")?;
             Ok(1)
         }
-        Presence::BoardMissing => {
-            show_next(rt, pin)?;
-            rt.write_all(b"?")?;
+        Err(Absence::BoardMissing) => {
+            print!(rt; " {pin}?")?;
             Ok(0)
         }
-        Presence::Never => Ok(0),
+        Err(Absence::Never) => Ok(0),
     }
 }

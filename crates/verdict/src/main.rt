@@ -19,13 +19,9 @@ pub enum Purpose {
 // What an input has past the room for an image is left unread: the verdict is the same without it (crates/text_verdict/proofs/Beginning.antt).
 fn main(rt: HostRuntime) -> io::Result<()> {
     // the program's own name among them; none of them is kept
-    let mut arguments = 0;
-    for i in 0..usize::MAX {
-        if let Err(FillError::NotPresent) = rt.arg(i, &mut []) {
-            break;
-        }
-        arguments = i + 1;
-    }
+    let arguments = (0..usize::MAX)
+        .take_while(|i| !matches!(rt.arg(*i, &mut []), Err(FillError::NotPresent)))
+        .count();
     match purpose_of(arguments) {
         Purpose::Judge => {
             let mut image = text_verdict::input();
@@ -46,7 +42,8 @@ fn purpose_of(arguments: usize) -> Purpose
     ensures { result ≡ purpose_of arguments }
 {
     if 1 < arguments {
-        return Purpose::Usage;
+        Purpose::Usage
+    } else {
+        Purpose::Judge
     }
-    Purpose::Judge
 }

@@ -4,11 +4,11 @@ use Rattle.limits.specs.Limits.{block_length}
 use Rattle.walk_flow.specs.Terms.{Terms}
 use Rattle.command_operands.specs.Operands.{operands}
 use Rattle.command_judge.specs.BlockFault.{block_fault, block_fault_number}
-use Rattle.command_judge.specs.declared.BlockFault.{BlockFault}
+use Rattle.command_judge.specs.BlockFault.{BlockResult}
 use Rattle.command_operands.specs.declared.Command.{Command}
 use Rattle.walk_point.specs.PointFault.{fault_of}
 use Rattle.walk_point.specs.declared.Point.{Point}
-use Rattle.walk_fault.specs.declared.Fault.{Fault}
+use Rattle.walk_fault.specs.Fault.{FaultResult}
 
 -- the eight bytes from `at` on; 0 past the end
 abbrev pub bytes_from : List ℕ → ℕ → List ℕ
@@ -24,7 +24,7 @@ unfoldable pub command_at : List ℕ → ℕ → Command
 command_at bs b = operands (block_at bs b)
 
 -- what is wrong with block b by itself
-abbrev pub block_fault_at : Terms → List ℕ → ℕ → BlockFault
+abbrev pub block_fault_at : Terms → List ℕ → ℕ → BlockResult
 block_fault_at terms bs b = block_fault terms.header (block_at bs b)
 
 -- its number: 5 to 8 or 23, 0 for none
@@ -32,5 +32,5 @@ abbrev pub block_number : Terms → List ℕ → ℕ → ℕ
 block_number terms bs b = block_fault_number (block_fault_at terms bs b)
 
 -- what the command at a point breaks there
-unfoldable pub fault_at : Terms → List ℕ → Point → Fault
+unfoldable pub fault_at : Terms → List ℕ → Point → FaultResult
 fault_at terms bs p = fault_of terms (command_at bs p.block) p

@@ -1,6 +1,6 @@
 -- The points that follow a point, as the loader computes them from the flow of its command. Stays and returns to a start are left out, as they add
 -- no point: a start follows already the command that named it, or is the first point (proofs/Steps/History.antt).
-use Rattle.std.specs.Prelude.{ℕ, ◌+◌, ◌<◌, ◌≤◌, cond, List, [], ◌∷◌, eqb, length}
+use Rattle.std.specs.Prelude.{ℕ, ◌+◌, ◌<◌, ◌≤◌, cond, List, [], ◌∷◌, eqb, length, Ok, Err}
 use Rattle.limits.specs.Limits.{most_blocks, most_landings}
 use Rattle.walk_flow.specs.Terms.{Terms}
 use Rattle.walk_flow.specs.Flow.{flow_of}
@@ -8,8 +8,8 @@ use Rattle.walk_point.specs.PointFault.{point}
 use Rattle.walk_point.specs.declared.Point.{Point}
 use Rattle.walk_flow.specs.declared.Flow.{Flow}
 use Rattle.walk_flow.specs.declared.Flow.TheVariants.{Next, Wait, Jump, Branch, Call, Return, Start, Restart, End, ComputedJump, ComputedStart}
-use Rattle.walk_fault.specs.declared.Fault.{Fault}
-use Rattle.walk_fault.specs.declared.Fault.TheVariants.{Fine, Foreign, Forbidden, TooDeep, NoCall, PastEnd}
+use Rattle.walk_fault.specs.Fault.{FaultResult}
+use Rattle.walk_fault.specs.declared.Fault.TheVariants.{Foreign, Forbidden, TooDeep, NoCall, PastEnd}
 use Rattle.walk.specs.Blocks.{command_at, fault_at}
 use Rattle.walk.specs.Index.{index_of, point_at}
 use Rattle.walk.specs.Graph.{In}
@@ -38,13 +38,13 @@ leads_to landings p ComputedJump = each_at p.task p.depth landings
 leads_to landings p (ComputedStart u) = cond (eqb u p.task) (each_at u 0 landings) (beyond p ∷ each_at u 0 landings)
 
 -- a command that breaks something continues with nothing
-abbrev pub unless : Fault → Flow → Flow
-unless Fine f = f
-unless Foreign f = End
-unless Forbidden f = End
-unless TooDeep f = End
-unless NoCall f = End
-unless PastEnd f = End
+abbrev pub unless : FaultResult → Flow → Flow
+unless (Ok _) f = f
+unless (Err Foreign) f = End
+unless (Err Forbidden) f = End
+unless (Err TooDeep) f = End
+unless (Err NoCall) f = End
+unless (Err PastEnd) f = End
 
 -- what the command at a point continues with there
 unfoldable pub flow_at : Terms → List ℕ → Point → Flow

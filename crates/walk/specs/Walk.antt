@@ -1,13 +1,12 @@
 -- Walks, as document 01 ("Walks") and change request 1 have them: one constructor for each way that their sentences name; 53, and 51 in the modes that end,
 -- have none. A walk is a path, the points passed so far with the latest first; its own history, the latest 54 and 90 among them, tells where a return to a
 -- start leads.
-use Rattle.std.specs.Prelude.{ℕ, ◌+◌, ◌≡◌, Bool, true, false, ◌&&◌, ◌||◌, not, cond, List, [], ◌∷◌, eqb}
+use Rattle.std.specs.Prelude.{ℕ, ◌+◌, ◌≡◌, Bool, true, false, ◌&&◌, ◌||◌, not, cond, List, [], ◌∷◌, eqb, Ok}
 use Rattle.limits.specs.Limits.{bias, plc, mathematics}
 use Rattle.walk_flow.specs.Terms.{Terms}
 use Rattle.command_operands.specs.declared.Command.{Command}
 use Rattle.walk_point.specs.PointFault.{point}
 use Rattle.walk_point.specs.declared.Point.{Point}
-use Rattle.walk_fault.specs.declared.Fault.TheVariants.{Fine}
 use Rattle.walk.specs.Blocks.{command_at, fault_at}
 use Rattle.walk.specs.Graph.{In}
 
@@ -81,7 +80,7 @@ pub data WalkStep (terms : Terms) (bs : List ℕ) (path : List Point) (p : Point
 -- neither from a bad point nor from a foreign 51
 pub data Walk (terms : Terms) (bs : List ℕ) : List Point → Point → Type 0 where
   begin : Walk terms bs [] (point bias terms.header.start 0)
-  onward : {path : List Point} {p : Point} (q : Point) → Walk terms bs path p → fault_at terms bs p ≡ Fine
+  onward : {path : List Point} {p : Point} (q : Point) → Walk terms bs path p → fault_at terms bs p ≡ Ok tt
       → WalkStep terms bs (p ∷ path) p (command_at bs p.block) q → Walk terms bs (p ∷ path) q
 
 -- some walk ends there

@@ -2,10 +2,9 @@
 // a byte past their end is read as 0.
 #![tactic(auto)]
 
-ghost use Rattle.std.specs.Prelude.{◌≡◌, ◌+◌, ◌≤◌, length, get_or};
-ghost use Rattle.limits.specs.Limits.{block_length};
+ghost use Rattle.std.specs.Prelude.{◌≡◌};
 ghost use Rattle.walk_flow.specs.Terms.{by_header};
-ghost use Rattle.walk.specs.Blocks.{bytes_from, block_at, block_fault_at, fault_at};
+ghost use Rattle.walk.specs.Blocks.{block_at, block_fault_at, fault_at};
 ghost use Rattle.walk_blocks.specs.Instructions.{instruction_of, instruction_at};
 
 use command_judge::BlockFault;
@@ -24,7 +23,8 @@ pub struct Instruction {
 }
 
 // What the command at a point breaks there.
-pub fn fault_at(header: Header, blocks: &[u8], p: Point) -> Fault
+#[tactic(auto, using(crate::proofs::RowOfCode::row_at, crate::proofs::RowOfCode::command_is), unfolding(walk::specs::Blocks::fault_at))]
+pub fn fault_at(header: Header, blocks: &[u8], p: Point) -> Result<(), Fault>
     ensures { result ≡ fault_at (by_header header) blocks.now p }
 {
     let i = instruction_at(blocks, p.block);
@@ -32,6 +32,7 @@ pub fn fault_at(header: Header, blocks: &[u8], p: Point) -> Fault
 }
 
 // The command at a block and its code's row, without judging it.
+#[tactic(auto, unfolding(crate::specs::Instructions::instruction_at))]
 pub fn instruction_at(blocks: &[u8], b: u16) -> Instruction
     ensures { result ≡ instruction_at blocks.now b }
 {
@@ -39,14 +40,14 @@ pub fn instruction_at(blocks: &[u8], b: u16) -> Instruction
 }
 
 // The command of a block and its code's row.
+#[tactic(auto, unfolding(command_operands::specs::Operands::operands))]
 pub fn decode(block: [u8; BLOCK_LENGTH]) -> Instruction
     ensures { result ≡ instruction_of block }
 {
     let row = command_table::find(block[0]);
-    let layout = row.layout;
     Instruction {
-        row: row,
-        command: command_operands::lay_out(layout, block),
+        row,
+        command: command_operands::lay_out(row.layout, block),
     }
 }
 
@@ -54,50 +55,30 @@ pub fn decode(block: [u8; BLOCK_LENGTH]) -> Instruction
 pub fn block_at(blocks: &[u8], b: u16) -> [u8; BLOCK_LENGTH]
     ensures { result ≡ block_at blocks.now b }
 {
-    let at = limits::BLOCK_LENGTH * (b as usize);
-    if at + limits::BLOCK_LENGTH <= blocks.len() {
-        return whole(blocks, at);
+    let at = BLOCK_LENGTH * usize::from(b);
+    if blocks.len() < at + BLOCK_LENGTH {
+        return padded(blocks, b);
     }
-    [
-        byte_at(blocks, at),
-        byte_at(blocks, at + 1),
-        byte_at(blocks, at + 2),
-        byte_at(blocks, at + 3),
-        byte_at(blocks, at + 4),
-        byte_at(blocks, at + 5),
-        byte_at(blocks, at + 6),
-        byte_at(blocks, at + 7),
-    ]
+    let mut block = [0; BLOCK_LENGTH];
+    block.copy_from_slice(&blocks[at..at + BLOCK_LENGTH]);
+    block
 }
 
-// Eight bytes that are all there.
-fn whole(bytes: &[u8], at: usize) -> [u8; BLOCK_LENGTH]
-    requires { at + block_length ≤ length bytes.now }
-    ensures { result ≡ bytes_from bytes.now at }
+// The same of a block that is not there as a whole, which no image of the right length has.
+#[cold]
+fn padded(blocks: &[u8], b: u16) -> [u8; BLOCK_LENGTH]
+    ensures { result ≡ block_at blocks.now b }
 {
-    [
-        bytes[at],
-        bytes[at + 1],
-        bytes[at + 2],
-        bytes[at + 3],
-        bytes[at + 4],
-        bytes[at + 5],
-        bytes[at + 6],
-        bytes[at + 7],
-    ]
-}
-
-fn byte_at(bytes: &[u8], at: usize) -> u8
-    ensures { result ≡ get_or bytes.now at 0 }
-{
-    if at < bytes.len() {
-        return bytes[at];
+    let at = BLOCK_LENGTH * usize::from(b);
+    let mut block = [0; BLOCK_LENGTH];
+    for (k, byte) in block.iter_mut().enumerate() {
+        *byte = blocks.get(at + k).copied().unwrap_or(0);
     }
-    0
+    block
 }
 
 // What is wrong with a block by itself, by 5 to 8 or 23.
-pub fn block_fault_at(header: Header, blocks: &[u8], b: u16) -> BlockFault
+pub fn block_fault_at(header: Header, blocks: &[u8], b: u16) -> Result<(), BlockFault>
     ensures { result ≡ block_fault_at (by_header header) blocks.now b }
 {
     command_judge::judge(header, block_at(blocks, b))

@@ -1,13 +1,12 @@
 // What a command may break at a point of a walk (document 01: 7 of a foreign 51, then 9, 10, 11, 12), with document 01's numbers.
 #![tactic(auto)]
 
-ghost use Rattle.std.specs.Prelude.{◌≡◌};
+ghost use Rattle.std.specs.Prelude.{◌≡◌, Err};
 ghost use Rattle.walk_fault.specs.Fault.{is_foreign, is_bad, fault_number};
 
 // What a command breaks at a point, the first in this order.
 #[derive(Clone, Copy)]
 pub enum Fault {
-    Fine,
     Foreign,
     Forbidden,
     TooDeep,
@@ -16,12 +15,11 @@ pub enum Fault {
 }
 
 impl Fault {
-    // Document 01's number, 0 for none.
+    // Document 01's number.
     pub fn number(self) -> u32
-        ensures { result ≡ fault_number self }
+        ensures { result ≡ fault_number (Err self) }
     {
         match self {
-            Fault::Fine => 0,
             Fault::Foreign => 7,
             Fault::Forbidden => 9,
             Fault::TooDeep => 10,
@@ -32,29 +30,15 @@ impl Fault {
 
     // Whether a 51 ends another task.
     pub fn is_foreign(self) -> bool
-        ensures { result ≡ is_foreign self }
+        ensures { result ≡ is_foreign (Err self) }
     {
-        match self {
-            Fault::Foreign => true,
-            Fault::Fine => false,
-            Fault::Forbidden => false,
-            Fault::TooDeep => false,
-            Fault::NoCall => false,
-            Fault::PastEnd => false,
-        }
+        matches!(self, Fault::Foreign)
     }
 
     // Whether the point is bad by 9 to 12.
     pub fn is_bad(self) -> bool
-        ensures { result ≡ is_bad self }
+        ensures { result ≡ is_bad (Err self) }
     {
-        match self {
-            Fault::Fine => false,
-            Fault::Foreign => false,
-            Fault::Forbidden => true,
-            Fault::TooDeep => true,
-            Fault::NoCall => true,
-            Fault::PastEnd => true,
-        }
+        !matches!(self, Fault::Foreign)
     }
 }

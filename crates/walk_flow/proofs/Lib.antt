@@ -1,3 +1,2 @@
-mod NoBox
 pub mod ForeignEnd
 pub mod Boxes

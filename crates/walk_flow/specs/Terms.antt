@@ -3,7 +3,7 @@
 use Rattle.std.specs.Prelude.{ℕ, List, [], take}
 use Rattle.image_header.specs.Scan.{header_of, landings_of}
 use Rattle.image_header.specs.declared.Header.{Header}
-use Rattle.image_header.specs.declared.reader.HeaderRead.{HeaderRead}
+use Rattle.image_header.specs.Scan.{HeaderJudged}
 
 pub record Terms : Type 0 where
   pub header : Header
@@ -18,7 +18,7 @@ abbrev pub by_header : Header → Terms
 by_header h = record { header = h; landings = [] }
 
 -- of what was read of an image, and of an image
-abbrev pub terms_in : HeaderRead → List ℕ → Terms
+abbrev pub terms_in : HeaderJudged → List ℕ → Terms
 terms_in r l = under r.header l
 
 abbrev pub terms_of : List ℕ → Terms

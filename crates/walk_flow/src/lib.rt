@@ -40,32 +40,27 @@ pub enum Flow {
 
 impl Flow {
     // All that a command, whose code has this row, may continue with in a program with this header.
+    #[tactic(auto, unfolding(crate::specs::Flow::flow_of))]
     pub fn of(header: Header, row: Row, c: Command) -> Flow
         requires { row ≡ row_of c.code }
         ensures { result ≡ flow_of (by_header header) c }
     {
-        let kind = row.flow;
-        flow_by(kind, c.x, c.word)
+        flow_by(row.flow, c.x, c.word)
     }
 }
 
 // Whether a 51 ends another task than the one that executes it; the command's code has this row.
+#[tactic(auto, unfolding(crate::specs::Permission::foreign))]
 pub fn foreign(task: u8, row: Row, c: Command) -> bool
     requires { row ≡ row_of c.code }
     ensures { result ≡ foreign task c }
 {
     let mode = c.x;
-    let kind = row.flow;
-    if !kind.is_ending() {
-        return false;
-    }
-    if mode == 0 {
-        return false;
-    }
-    mode as u16 != task as u16 + 1
+    row.flow.is_ending() && mode != 0 && u16::from(mode) != u16::from(task) + 1
 }
 
 // Whether the boxes of the manual let a task use a command, whose code has this row, in a program with this header.
+#[tactic(auto, unfolding(crate::specs::Permission::permitted))]
 pub fn permitted(header: Header, row: Row, c: Command, task: u8) -> bool
     requires { row ≡ row_of c.code }
     ensures { result ≡ permitted (by_header header) c.code task }
@@ -103,8 +98,5 @@ fn flow_by(kind: FlowKind, x: u8, word: u16) -> Flow
 fn ending(mode: u8) -> Flow
     ensures { result ≡ ending_by mode }
 {
-    if mode == 0 {
-        return Flow::Restart;
-    }
-    Flow::End
+    if mode == 0 { Flow::Restart } else { Flow::End }
 }

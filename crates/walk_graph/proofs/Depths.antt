@@ -1,5 +1,5 @@
 -- Laws of sets of depths. The limit on depth is a variable in all of them until the last, so that none is counted out.
-use Prim.Native.Nat.{ℕ, zero, suc, ◌+◌, ◌-◌, ◌*◌, ◌/◌, ◌%◌, ◌^◌, ◌<◌, ◌≤◌, max}
+use Prim.Native.Nat.{ℕ, zero, suc, ◌+◌, ◌-◌, ◌*◌, ◌/◌, ◌%◌, ◌^◌, ◌<◌, ◌≤◌, max, min}
 use mathlib.Core.Path.{◌≡◌, refl, sym, ap, ◌∙◌}
 use mathlib.Core.Bool.{Bool, true, false, cond}
 use mathlib.Core.Logic.{◌⊎◌, inl, inr}
@@ -7,8 +7,9 @@ use native.Mathlib.Nat.{not-suc-le-zero, pow-succ'}
 use native.Mathlib.Decide.{ℕ_discrete}
 use native.Mathlib.Omega.{arith}
 use lib.Bits.{bit_or, or_step, or_add_and, and_le_r, or_lt, block_half, block_odd}
+use lib.Count.{count_trailing_zeros, under}
 use lib.Dec.{eqb}
-use borrow.Author.Tests.{eqb-true, eqb-false, ne_eqb}
+use borrow.Author.Tests.{eqb-true, eqb-false}
 use Rattle.limits.specs.Limits.{most_depth, depths}
 use Rattle.walk_graph.specs.Depths.{sets, deepest, digit, Has, union, deeper, least_from, least_depth}
 
@@ -209,15 +210,21 @@ least_most (suc n) s d (suc k) h e = go (eqb (s % 2) 1) (least_most n (s / 2) (d
     go false l = omega arith
 
 -- digit by digit
-pub least_here : (n s d : ℕ) → 0 < n → Has s 0 → d ≡ least_from n s d
-unfolding digit least_from
-least_here zero s d h e = absurd (omega arith)
-least_here (suc n) s d h e = rw e
+-- it is the place of the lowest digit that is 1, or n
+least_is : (n k s d : ℕ) → n ≤ k → least_from n s d ≡ d + min (count_trailing_zeros k s) n
+unfolding least_from count_trailing_zeros
+least_is zero k s d h = omega arith
+least_is (suc n) zero s d h = absurd (omega arith)
+least_is (suc n) (suc k) s d h = go (s % 2) (omega arith) (least_is n k (s / 2) (d + 1) (omega arith))
+  where
+    go : (b : ℕ) → b < 2 → least_from n (s / 2) (d + 1) ≡ d + 1 + min (count_trailing_zeros k (s / 2)) n
+        → cond (eqb b 1) d (least_from n (s / 2) (d + 1)) ≡ d + min (under b (count_trailing_zeros k (s / 2))) (suc n)
+    go zero l e = omega arith
+    go (suc zero) l e = omega arith
+    go (suc (suc b)) l e = absurd (omega arith)
 
-pub least_further : (n s d : ℕ) → 0 < n → (Has s 0 → ⊥) → least_from (n - 1) (s / 2) (d + 1) ≡ least_from n s d
-unfolding digit least_from
-least_further zero s d h e = absurd (omega arith)
-least_further (suc n) s d h e = let z : suc n - 1 ≡ n = omega arith in rw (z, ne_eqb (s % 2) 1 e)
+pub least_depth_is : (s : ℕ) → least_depth s ≡ min (count_trailing_zeros 8 s) depths
+least_depth_is s = omega (arith, least_is depths 8 s 0 (omega arith))
 
 module _ (s : ℕ) (some : 0 < s) (small : s < sets) where
   pub least_has : Has s (least_depth s) × (least_depth s < depths)

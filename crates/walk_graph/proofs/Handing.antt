@@ -1,6 +1,7 @@
 -- What a pair hands on is what follows it: the points that follow those of pair p at depths s are those of the named pair at the depths handed to it,
 -- those of the pair behind at the depths handed to that, and those of a task at every landing block at the depths handed to these; the bad depths are those
 -- of the bad points, and a 51 is foreign at all depths or none.
+use Rattle.std.specs.Prelude.{Ok, Err}
 use Prim.Native.Nat.{ℕ, zero, suc, ◌+◌, ◌-◌, ◌*◌, ◌/◌, ◌%◌, ◌<◌}
 use mathlib.Core.Path.{◌≡◌, refl, sym, ap, ◌∙◌}
 use mathlib.Core.Bool.{Bool, true, false, cond}
@@ -18,8 +19,8 @@ use Rattle.walk_flow.specs.Permission.{foreign, permitted}
 use Rattle.walk_flow.specs.declared.Flow.{Flow}
 use Rattle.walk_flow.specs.declared.Flow.TheVariants.{Next, Wait, Jump, Branch, Call, Return, Start, Restart, End, ComputedJump, ComputedStart}
 use Rattle.walk_fault.specs.Fault.{is_foreign, is_bad}
-use Rattle.walk_fault.specs.declared.Fault.{Fault}
-use Rattle.walk_fault.specs.declared.Fault.TheVariants.{Fine, Foreign, Forbidden, TooDeep, NoCall, PastEnd}
+use Rattle.walk_fault.specs.Fault.{FaultResult}
+use Rattle.walk_fault.specs.declared.Fault.TheVariants.{Foreign, Forbidden, TooDeep, NoCall, PastEnd}
 use Rattle.walk_point.specs.PointFault.{point, too_deep, no_call, any_past, flow_fault, fault_of}
 use Rattle.walk_point.specs.declared.Point.{Point}
 use Rattle.walk.specs.Blocks.{command_at, fault_at}
@@ -332,19 +333,19 @@ module _ (h : Terms) (bs : List ℕ) (task block s : ℕ) (small : s < sets) whe
   abbrev left : ℕ
   left = s - broken past f s
 
-  abbrev fault : ℕ → Fault
+  abbrev fault : ℕ → FaultResult
   fault d = fault_at h bs (point task block d)
 
-  fault_is : (d : ℕ) → fault d ≡ cond (foreign task c) Foreign (cond (permitted h c.code task) (fault_by past f d) Forbidden)
+  fault_is : (d : ℕ) → fault d ≡ cond (foreign task c) (Err Foreign) (cond (permitted h c.code task) (fault_by past f d) (Err Forbidden))
   unfolding fault_at fault_of flow_fault
   fault_is d = refl
 
-  follow_is : (d : ℕ) (k : Fault) → fault d ≡ k → successors h bs (point task block d) ≡ leads_to h.landings (point task block d) (unless k f)
+  follow_is : (d : ℕ) (k : FaultResult) → fault d ≡ k → successors h bs (point task block d) ≡ leads_to h.landings (point task block d) (unless k f)
   unfolding successors flow_at
   follow_is d k e = rw e
 
   -- nothing follows, from any depth
-  nothing : (k : Fault) (o : Onward) → ((d : ℕ) → fault d ≡ k) → unless k f ≡ End → is_foreign k ≡ o.foreign → o.into ≡ 0 → o.behind ≡ 0
+  nothing : (k : FaultResult) (o : Onward) → ((d : ℕ) → fault d ≡ k) → unless k f ≡ End → is_foreign k ≡ o.foreign → o.into ≡ 0 → o.behind ≡ 0
       → o.lander ≡ 0 → o.landing ≡ 0
       → ((d : ℕ) → Has o.bad d → Has s d × (is_bad k ≡ true)) → ((d : ℕ) → Has s d → is_bad k ≡ true → Has o.bad d) → o.bad < sets
       → Handed h bs task block s o
@@ -384,7 +385,7 @@ module _ (h : Terms) (bs : List ℕ) (task block s : ℕ) (small : s < sets) whe
       lowered : left < sets
       lowered = omega arith
 
-      never : (past t u : Bool) → is_foreign (cond t TooDeep (cond u NoCall (cond past PastEnd Fine))) ≡ false
+      never : (past t u : Bool) → is_foreign (cond t (Err TooDeep) (cond u (Err NoCall) (cond past (Err PastEnd) (Ok tt)))) ≡ false
       never past true u = refl
       never past false true = refl
       never true false false = refl
@@ -400,29 +401,29 @@ module _ (h : Terms) (bs : List ℕ) (task block s : ℕ) (small : s < sets) whe
             from = l.from;
             has = t.0;
             at = l.at;
-            member = rw (follow_is l.from Fine (is l.from ∙ t.1))
+            member = rw (follow_is l.from (Ok tt) (is l.from ∙ t.1))
                 l.member;
             pair = l.pair;
             depth = l.depth;
           }
 
-      shallow : (d : ℕ) → fault_by past f d ≡ Fine → too_deep f d ≡ false
+      shallow : (d : ℕ) → fault_by past f d ≡ Ok tt → too_deep f d ≡ false
       shallow d e = test (too_deep f d) (λ t. clash (ap is_bad (rw t at e))) (λ t. t)
 
-      gone : (k : Fault) → is_bad k ≡ true → unless k f ≡ End
-      gone Fine b = clash (sym b)
-      gone Foreign b = refl
-      gone Forbidden b = refl
-      gone TooDeep b = refl
-      gone NoCall b = refl
-      gone PastEnd b = refl
+      gone : (k : FaultResult) → is_bad k ≡ true → unless k f ≡ End
+      gone (Ok _) b = clash (sym b)
+      gone (Err Foreign) b = refl
+      gone (Err Forbidden) b = refl
+      gone (Err TooDeep) b = refl
+      gone (Err NoCall) b = refl
+      gone (Err PastEnd) b = refl
 
       go : (d : ℕ) → Has s d → (q : Point) → In q (successors h bs (point task block d))
-          → (Has (broken past f s) d × (is_bad (fault_by past f d) ≡ true)) ⊎ (Has left d × (fault_by past f d ≡ Fine))
+          → (Has (broken past f s) d × (is_bad (fault_by past f d) ≡ true)) ⊎ (Has left d × (fault_by past f d ≡ Ok tt))
           → OneOf h.landings task block (handed_on task f (broken past f s) left) q
       go d e q m (inl y) = absurd (rw (follow_is d (fault_by past f d) (is d), gone (fault_by past f d) y.1) at m)
       go d e q m (inr y) =
-          leads h.landings task block (broken past f s) left lowered f q d y.0 (shallow d y.1) (rw (follow_is d Fine (is d ∙ y.1)) at m)
+          leads h.landings task block (broken past f s) left lowered f q d y.0 (shallow d y.1) (rw (follow_is d (Ok tt) (is d ∙ y.1)) at m)
 
   pub handed : Handed h bs task block s (onward_of h bs task block s)
   unfolding onward_of command_onward
@@ -431,9 +432,9 @@ module _ (h : Terms) (bs : List ℕ) (task block s : ℕ) (small : s < sets) whe
       go : (t u : Bool) → foreign task c ≡ t → permitted h c.code task ≡ u
           → Handed h bs task block s (cond t onward_foreign (cond u (flow_onward h.header.count task block f s) (onward_none s)))
       go true u e k =
-          nothing Foreign onward_foreign (λ d. fault_is d ∙ rw e refl) refl refl refl refl refl refl (λ d i. absurd (none d i)) (λ d i b. clash (sym b)) (omega arith)
+          nothing (Err Foreign) onward_foreign (λ d. fault_is d ∙ rw e refl) refl refl refl refl refl refl (λ d i. absurd (none d i)) (λ d i b. clash (sym b)) (omega arith)
       go false true e k = by_flow (λ d. fault_is d ∙ rw (e, k) refl)
-      go false false e k = nothing Forbidden (onward_none s) (λ d. fault_is d ∙ rw (e, k) refl) refl refl refl refl refl refl (λ d i. (i, refl)) (λ d i b. i) small
+      go false false e k = nothing (Err Forbidden) (onward_none s) (λ d. fault_is d ∙ rw (e, k) refl) refl refl refl refl refl refl (λ d i. (i, refl)) (λ d i b. i) small
 
 -- ---- by number
 

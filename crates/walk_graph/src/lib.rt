@@ -29,6 +29,17 @@ pub struct Onward {
     pub landing: u8,
 }
 
+// No depth is bad, and none is handed on.
+const NOTHING: Onward = Onward {
+    foreign: false,
+    bad: 0,
+    named: 0,
+    into: 0,
+    behind: 0,
+    lander: 0,
+    landing: 0,
+};
+
 // The set of the greatest depth alone.
 const DEEPEST: u8 = 1 << limits::MOST_DEPTH;
 
@@ -36,10 +47,11 @@ const DEEPEST: u8 = 1 << limits::MOST_DEPTH;
 pub fn pair_of(task: u8, block: u16) -> u32
     ensures { result ≡ pair_of task block }
 {
-    block as u32 * limits::TASK_COUNT + task as u32
+    u32::from(block) * limits::TASK_COUNT + u32::from(task)
 }
 
 // What the command at a block breaks in a task at the depths s, and where it hands the others on.
+#[tactic(auto, using(walk_blocks::proofs::RowOfCode::row_at, walk_blocks::proofs::RowOfCode::command_is), unfolding(crate::specs::Onward::onward_of))]
 pub fn onward_of(header: Header, blocks: &[u8], task: u8, block: u16, s: u8) -> Onward
     ensures { result ≡ onward_of (by_header header) blocks.now task block s }
 {
@@ -52,19 +64,24 @@ pub fn onward_of(header: Header, blocks: &[u8], task: u8, block: u16, s: u8) -> 
     )
 }
 
+#[tactic(auto, unfolding(crate::specs::Onward::command_onward))]
 fn of_instruction(header: Header, i: Instruction, task: u8, block: u16, s: u8) -> Onward
     requires { i.row ≡ row_of i.command.code }
     ensures { result ≡ command_onward (by_header header) i.command task block s }
 {
-    let row = i.row;
-    let c = i.command;
-    if walk_flow::foreign(task, row, c) {
+    if walk_flow::foreign(task, i.row, i.command) {
         return foreign();
     }
-    if !walk_flow::permitted(header, row, c, task) {
+    if !walk_flow::permitted(header, i.row, i.command, task) {
         return nowhere(s);
     }
-    of_flow(header.count, task, block, Flow::of(header, row, c), s)
+    of_flow(
+        header.count,
+        task,
+        block,
+        Flow::of(header, i.row, i.command),
+        s,
+    )
 }
 
 // A 51 that ends another task hands nothing on.
@@ -73,12 +90,7 @@ fn foreign() -> Onward
 {
     Onward {
         foreign: true,
-        bad: 0,
-        named: 0,
-        into: 0,
-        behind: 0,
-        lander: 0,
-        landing: 0,
+        ..NOTHING
     }
 }
 
@@ -86,10 +98,11 @@ fn foreign() -> Onward
 fn nowhere(bad: u8) -> Onward
     ensures { result ≡ onward_none bad }
 {
-    to(bad, 0, 0, 0)
+    Onward { bad, ..NOTHING }
 }
 
 // A flow at a block of a task, in an image of this many blocks.
+#[tactic(auto, using(crate::proofs::BadDepths::broken_within), unfolding(crate::specs::Onward::flow_onward))]
 fn of_flow(count: u16, task: u8, block: u16, f: Flow, s: u8) -> Onward
     ensures { result ≡ flow_onward count task block f s }
 {
@@ -107,15 +120,7 @@ fn broken(past: bool, f: Flow, s: u8) -> u8
     match f {
         Flow::Call(_) => s / DEEPEST * DEEPEST,
         Flow::Return => s % 2,
-        Flow::Next => 0,
-        Flow::Wait => 0,
-        Flow::Jump(_) => 0,
-        Flow::Branch(_) => 0,
-        Flow::Start(_, _) => 0,
-        Flow::Restart => 0,
-        Flow::End => 0,
-        Flow::ComputedJump => 0,
-        Flow::ComputedStart(_) => 0,
+        _ => 0,
     }
 }
 
@@ -124,17 +129,14 @@ fn hand_on(task: u8, f: Flow, bad: u8, s: u8) -> Onward
     ensures { result ≡ handed_on task f bad s }
 {
     match f {
-        Flow::Next => to(bad, 0, 0, s),
-        Flow::Wait => to(bad, 0, 0, s),
+        Flow::Next | Flow::Wait => to(bad, 0, 0, s),
         Flow::Jump(a) => to(bad, pair_of(task, a), s, 0),
         Flow::Branch(a) => to(bad, pair_of(task, a), s, s),
         Flow::Call(a) => to(bad, pair_of(task, a), deeper(s), s),
-        Flow::Return => nowhere(bad),
         Flow::Start(u, a) => to(bad, pair_of(u, a), ground(s), not_own(u == task, s)),
-        Flow::Restart => nowhere(bad),
-        Flow::End => nowhere(bad),
         Flow::ComputedJump => to_landings(bad, 0, task, s),
         Flow::ComputedStart(u) => to_landings(bad, not_own(u == task, s), u, ground(s)),
+        Flow::Return | Flow::Restart | Flow::End => nowhere(bad),
     }
 }
 
@@ -142,13 +144,11 @@ fn to(bad: u8, named: u32, into: u8, behind: u8) -> Onward
     ensures { result ≡ onward_to bad named into behind }
 {
     Onward {
-        foreign: false,
-        bad: bad,
-        named: named,
-        into: into,
-        behind: behind,
-        lander: 0,
-        landing: 0,
+        bad,
+        named,
+        into,
+        behind,
+        ..NOTHING
     }
 }
 
@@ -156,13 +156,11 @@ fn to_landings(bad: u8, behind: u8, lander: u8, landing: u8) -> Onward
     ensures { result ≡ onward_landing bad behind lander landing }
 {
     Onward {
-        foreign: false,
-        bad: bad,
-        named: 0,
-        into: 0,
-        behind: behind,
-        lander: lander,
-        landing: landing,
+        bad,
+        behind,
+        lander,
+        landing,
+        ..NOTHING
     }
 }
 
@@ -188,17 +186,9 @@ fn deeper(s: u8) -> u8
 }
 
 // The least depth of a set; DEPTHS where it is empty.
+#[tactic(auto, using(crate::proofs::Depths::least_depth_is))]
 pub fn least_depth(s: u8) -> u32
     ensures { result ≡ least_depth s }
 {
-    let mut rest = s;
-    let mut d: u32 = 0;
-    while d < limits::DEPTHS as u32 {
-        if rest % 2 == 1 {
-            return d;
-        }
-        rest = rest / 2;
-        d += 1;
-    }
-    d
+    s.trailing_zeros().min(limits::DEPTHS as u32)
 }

@@ -1,6 +1,6 @@
 -- What a command breaks at a point (document 01: place) of a walk: 7 for a 51 that ends another task, then 9, 10, 11, 12 (document 01, "Refused
 -- because of the input").
-use Rattle.std.specs.Prelude.{ℕ, Bool, false, ◌||◌, cond, List, [], ◌∷◌, eqb, leb}
+use Rattle.std.specs.Prelude.{ℕ, Bool, false, ◌||◌, cond, List, [], ◌∷◌, eqb, leb, Ok, Err}
 use Rattle.limits.specs.Limits.{most_depth}
 use Rattle.command_operands.specs.declared.Command.{Command}
 use Rattle.walk_flow.specs.Terms.{Terms}
@@ -9,8 +9,8 @@ use Rattle.walk_flow.specs.Permission.{foreign, permitted}
 use Rattle.walk_point.specs.declared.Point.{Point}
 use Rattle.walk_flow.specs.declared.Flow.{Flow}
 use Rattle.walk_flow.specs.declared.Flow.TheVariants.{Next, Wait, Jump, Branch, Call, Return, Start, Restart, End, ComputedJump, ComputedStart}
-use Rattle.walk_fault.specs.declared.Fault.{Fault}
-use Rattle.walk_fault.specs.declared.Fault.TheVariants.{Fine, Foreign, Forbidden, TooDeep, NoCall, PastEnd}
+use Rattle.walk_fault.specs.Fault.{FaultResult}
+use Rattle.walk_fault.specs.declared.Fault.TheVariants.{Foreign, Forbidden, TooDeep, NoCall, PastEnd}
 
 -- a point of a walk
 abbrev pub point : ℕ → ℕ → ℕ → Point
@@ -50,14 +50,14 @@ any_past count [] = false
 any_past count (b ∷ bs) = leb count b || any_past count bs
 
 -- 10, 11 and 12 of a flow
-unfoldable pub flow_fault : ℕ → Point → Flow → Fault
+unfoldable pub flow_fault : ℕ → Point → Flow → FaultResult
 flow_fault count p f =
-    cond (too_deep f p.depth) TooDeep
-    (cond (no_call f p.depth) NoCall
-    (cond (any_past count (continues p.task p.block f)) PastEnd Fine))
+    cond (too_deep f p.depth) (Err TooDeep)
+    (cond (no_call f p.depth) (Err NoCall)
+    (cond (any_past count (continues p.task p.block f)) (Err PastEnd) (Ok tt)))
 
 -- the first that the command c breaks at a point
-unfoldable pub fault_of : Terms → Command → Point → Fault
+unfoldable pub fault_of : Terms → Command → Point → FaultResult
 fault_of terms c p =
-    cond (foreign p.task c) Foreign
-    (cond (permitted terms c.code p.task) (flow_fault terms.header.count p (flow_of terms c)) Forbidden)
+    cond (foreign p.task c) (Err Foreign)
+    (cond (permitted terms c.code p.task) (flow_fault terms.header.count p (flow_of terms c)) (Err Forbidden))

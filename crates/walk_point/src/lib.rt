@@ -1,7 +1,7 @@
 // Points of a walk and what one point breaks (document 01, "Walks"; refusals 7 of a foreign 51, then 9, 10, 11, 12).
 #![tactic(auto)]
 
-ghost use Rattle.std.specs.Prelude.{◌≡◌, cond, [], ◌∷◌};
+ghost use Rattle.std.specs.Prelude.{◌≡◌};
 ghost use Rattle.command_table.specs.Rows.{row_of};
 ghost use Rattle.walk_flow.specs.Terms.{by_header};
 ghost use Rattle.walk_flow.specs.Flow.{continues};
@@ -23,127 +23,68 @@ pub struct Point {
 
 impl Point {
     // What a command, whose code has this row, breaks at this point of an image with this header.
-    pub fn fault(self, header: Header, row: Row, c: Command) -> Fault
+    #[tactic(auto, unfolding(crate::specs::PointFault::fault_of))]
+    pub fn fault(self, header: Header, row: Row, c: Command) -> Result<(), Fault>
         requires { row ≡ row_of c.code }
         ensures { result ≡ fault_of (by_header header) c self }
     {
-        let task = self.task;
-        if walk_flow::foreign(task, row, c) {
-            return Fault::Foreign;
+        if walk_flow::foreign(self.task, row, c) {
+            return Err(Fault::Foreign);
         }
-        if !walk_flow::permitted(header, row, c, task) {
-            return Fault::Forbidden;
+        if !walk_flow::permitted(header, row, c, self.task) {
+            return Err(Fault::Forbidden);
         }
         flow_fault(header.count, self, Flow::of(header, row, c))
     }
 }
 
 // What a flow breaks at a point of an image of this many blocks: 10, 11 or 12.
-fn flow_fault(count: u16, p: Point, f: Flow) -> Fault
+#[tactic(auto, unfolding(crate::specs::PointFault::flow_fault))]
+fn flow_fault(count: u16, p: Point, f: Flow) -> Result<(), Fault>
     ensures { result ≡ flow_fault count p f }
 {
     if too_deep(f, p.depth) {
-        return Fault::TooDeep;
+        return Err(Fault::TooDeep);
     }
     if no_call(f, p.depth) {
-        return Fault::NoCall;
+        return Err(Fault::NoCall);
     }
     if past_end(count, p.task, p.block, f) {
-        return Fault::PastEnd;
+        return Err(Fault::PastEnd);
     }
-    Fault::Fine
+    Ok(())
 }
 
 // A call at the greatest depth.
 fn too_deep(f: Flow, depth: u8) -> bool
     ensures { result ≡ too_deep f depth }
 {
-    match f {
-        Flow::Call(_) => depth >= limits::MOST_DEPTH,
-        Flow::Next => false,
-        Flow::Wait => false,
-        Flow::Jump(_) => false,
-        Flow::Branch(_) => false,
-        Flow::Return => false,
-        Flow::Start(_, _) => false,
-        Flow::Restart => false,
-        Flow::End => false,
-        Flow::ComputedJump => false,
-        Flow::ComputedStart(_) => false,
-    }
+    matches!(f, Flow::Call(_)) && depth >= limits::MOST_DEPTH
 }
 
 // A return at depth 0.
 fn no_call(f: Flow, depth: u8) -> bool
     ensures { result ≡ no_call f depth }
 {
-    match f {
-        Flow::Return => depth == 0,
-        Flow::Next => false,
-        Flow::Wait => false,
-        Flow::Jump(_) => false,
-        Flow::Branch(_) => false,
-        Flow::Call(_) => false,
-        Flow::Start(_, _) => false,
-        Flow::Restart => false,
-        Flow::End => false,
-        Flow::ComputedJump => false,
-        Flow::ComputedStart(_) => false,
-    }
+    matches!(f, Flow::Return) && depth == 0
 }
 
 // Whether a command at this block of this task may go on with a block that is not below the count.
 pub fn past_end(count: u16, task: u8, block: u16, f: Flow) -> bool
     ensures { result ≡ any_past count (continues task block f) }
 {
-    let here = block as u32;
+    let count = u32::from(count);
+    let here = u32::from(block);
     let next = here + 1;
     match f {
-        Flow::Next => past(count, next),
-        Flow::Wait => either_past(count, next, here),
-        Flow::Jump(a) => past(count, a as u32),
-        Flow::Branch(a) => either_past(count, a as u32, next),
-        Flow::Call(a) => either_past(count, a as u32, next),
-        Flow::Return => false,
-        Flow::Start(u, a) => start_past(count, u == task, a as u32, next),
-        Flow::Restart => false,
-        Flow::End => false,
-        Flow::ComputedJump => false,
-        Flow::ComputedStart(u) => other_past(count, u == task, next),
+        Flow::Next => count <= next,
+        Flow::Wait => count <= next || count <= here,
+        Flow::Jump(a) => count <= u32::from(a),
+        Flow::Branch(a) => count <= u32::from(a) || count <= next,
+        Flow::Call(a) => count <= u32::from(a) || count <= next,
+        // starting its own task, a command goes on at the named block alone, or with nothing
+        Flow::Start(u, a) => count <= u32::from(a) || u != task && count <= next,
+        Flow::ComputedStart(u) => u != task && count <= next,
+        Flow::Return | Flow::Restart | Flow::End | Flow::ComputedJump => false,
     }
-}
-
-// Starting its own task, a command goes on at the named block alone.
-fn start_past(count: u16, own: bool, named: u32, next: u32) -> bool
-    ensures { result ≡ any_past count (cond own (named ∷ []) (named ∷ next ∷ [])) }
-{
-    if own {
-        return past(count, named);
-    }
-    either_past(count, named, next)
-}
-
-// Where the task that is started is another, a command goes on with the next block.
-fn other_past(count: u16, own: bool, next: u32) -> bool
-    ensures { result ≡ any_past count (cond own [] (next ∷ [])) }
-{
-    if own {
-        return false;
-    }
-    past(count, next)
-}
-
-fn either_past(count: u16, a: u32, b: u32) -> bool
-    ensures { result ≡ any_past count (a ∷ b ∷ []) }
-{
-    if past(count, a) {
-        return true;
-    }
-    past(count, b)
-}
-
-fn past(count: u16, a: u32) -> bool
-    ensures { result ≡ any_past count (a ∷ []) }
-{
-    count as u32 <= a
 }

@@ -3,11 +3,11 @@ use Prim.Native.Nat.{ℕ, zero, suc, ◌+◌, ◌-◌, ◌*◌, ◌/◌, ◌%◌
 use mathlib.Core.Path.{◌≡◌, refl, sym, ap, ◌∙◌}
 use mathlib.Core.Bool.{Bool, true, false, cond}
 use mathlib.Core.List.{List}
+use Rattle.std.proofs.Common.{Option}
 use native.Mathlib.Decide.{ℕ_discrete, dec_lt}
 use native.Mathlib.Nat.{mul-le-mul}
 use native.Mathlib.Omega.{arith}
 use lib.ListN.{length, get_or, length-set, replicate, length-replicate, get_or-replicate, get_or-eq_default}
-use lib.Seq.{ext_get_or}
 use borrow.Author.Tests.{eqb-true, eqb-false}
 use Rattle.limits.specs.Limits.{bias, task_count, most_blocks, most_landings, depths}
 use Rattle.logic.proofs.Choice.{clash, test}
@@ -37,7 +37,7 @@ pub record Running (h : Terms) (bs : List ℕ) (b : Board) : Type 0 where
   pub going : Going h bs b.marks b.landed b.found.pending
   pub least : Minima h bs (handed_in b.marks) b.found.foreign b.found.bad
 
-minima_of : (h : Terms) (bs : List ℕ) {hs hs' : ℕ → ℕ} {foreign bad : ℕ} → hs' ≡ hs → Minima h bs hs foreign bad → Minima h bs hs' foreign bad
+minima_of : (h : Terms) (bs : List ℕ) {hs hs' : ℕ → ℕ} {foreign bad : Option ℕ} → hs' ≡ hs → Minima h bs hs foreign bad → Minima h bs hs' foreign bad
 minima_of h bs e x = rw e x
 
 -- ---- the beginning
@@ -87,10 +87,6 @@ zeros n k = go (dec_lt k n)
     go : Dec (k < n) → get_or {A = ℕ} (replicate n 0) k 0 ≡ 0
     go (yes h) = get_or-replicate n k 0 0 h
     go (no h) = get_or-eq_default (replicate n 0) 0 (omega (arith, length-replicate {A = ℕ} n 0))
-
--- marks that are 0 below their length are all 0
-pub cleared : (l : List ℕ) (n : ℕ) → length l ≡ n → ((k : ℕ) → k < n → get_or l k 0 ≡ 0) → l ≡ replicate n 0
-cleared l n e f = ext_get_or 0 l (replicate n 0) (e ∙ sym (length-replicate {A = ℕ} n 0)) (λ k h. f k (omega arith) ∙ sym (zeros n k))
 
 -- nothing is noted of landing blocks
 none_landed_lem : (ls : List ℕ) (ss : ℕ → ℕ) → Landed ls none_landed ss

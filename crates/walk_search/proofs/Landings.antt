@@ -1,6 +1,6 @@
 -- What is handed to the landing blocks: touches one after the other keep what one touch keeps; all depths that are handed over are seen at every landing block
 -- afterwards, whether they were new or not, and the depths noted for a task are seen there. Each time that landing blocks are touched a task has a depth more.
-use Prim.Native.Nat.{ℕ, ◌+◌, ◌*◌, ◌<◌, ◌≤◌}
+use Prim.Native.Nat.{ℕ, zero, suc, ◌+◌, ◌*◌, ◌<◌, ◌≤◌}
 use mathlib.Core.Path.{◌≡◌, refl, sym, ◌∙◌}
 use mathlib.Core.Bool.{Bool, true, false, cond}
 use mathlib.Core.Logic.{◌⊎◌, inl, inr, ⊎_elim}
@@ -8,9 +8,9 @@ use mathlib.Core.List.{List, [], ◌∷◌}
 use native.Mathlib.Decide.{ℕ_discrete}
 use native.Mathlib.Omega.{arith}
 use native.Mathlib.Numerals.{add-one}
-use lib.ListN.{length, get_or, take, drop, length-set, drop_of_length-le}
-use lib.Seq.{length-take-le, drop-cons, get_or-take, get_or-set_same, get_or-set_other, set-get_or}
-use borrow.Author.Tests.{eqb-true, eq-eqb, ne_eqb}
+use lib.ListN.{length, get_or, drop, length-set, drop_of_length-le}
+use lib.Seq.{drop-cons, get_or-set_same, get_or-set_other, set-get_or}
+use borrow.Author.Tests.{eqb-true, eq-eqb}
 use Rattle.limits.specs.Limits.{task_count, depths}
 use Rattle.walk.specs.Graph.{In}
 use Rattle.walk_graph.specs.Depths.{sets, Has, union}
@@ -64,19 +64,21 @@ module _ (m t s : ℕ) (small : s < sets) where
             (rest.only i k);
       }
 
--- place by place, of the first so many of a list
-module _ (ls : List ℕ) (count t s i : ℕ) (enough : count ≤ length ls) (b : Listing) where
-  long : length (take count ls) ≡ count
-  long = length-take-le count ls enough
+-- place by place
+pub member : (ls : List ℕ) (i : ℕ) → i < length ls → In (get_or ls i 0) ls
+member [] i h = absurd (omega arith)
+member (a ∷ ls) zero h = inl refl
+member (a ∷ ls) (suc i) h = inr (member ls i (omega arith))
 
-  pub each_next : i < count → (b' : Listing) → b' ≡ touched (pair_of t (get_or ls i 0)) s b
-      → touched_each (drop (i + 1) (take count ls)) t s b' ≡ touched_each (drop i (take count ls)) t s b
+module _ (ls : List ℕ) (t s i : ℕ) (b : Listing) where
+  pub each_next : i < length ls → (b' : Listing) → b' ≡ touched (pair_of t (get_or ls i 0)) s b
+      → touched_each (drop (i + 1) ls) t s b' ≡ touched_each (drop i ls) t s b
   unfolding touched_each
-  each_next h b' e = rw (add-one i, drop-cons (take count ls) i 0 (omega (arith, long)), get_or-take count ls i 0 h, e)
+  each_next h b' e = rw (add-one i, drop-cons ls i 0 h, e)
 
-  pub each_done : count ≤ i → b ≡ touched_each (drop i (take count ls)) t s b
+  pub each_done : length ls ≤ i → b ≡ touched_each (drop i ls) t s b
   unfolding touched_each
-  each_done h = rw (drop_of_length-le (take count ls) {i = i} (omega (arith, long)))
+  each_done h = rw (drop_of_length-le ls {i = i} h)
 
 -- there is room for each of them
 module _ {ls l : List ℕ} {n t s : ℕ} (r : RoomEach ls l n t s) (a : ℕ) (i : In a ls) where
@@ -105,10 +107,6 @@ module _ (ls landed : List ℕ) (t s : ℕ) (b : Listing) where
   pub land_known : union (landed_of landed t) s ≡ landed_of landed t → (b ≡ landed_on ls t s landed b) × (landed ≡ landed_with landed t s)
   unfolding landed_on
   land_known e = (rw (eq-eqb (union (landed_of landed t) s) (landed_of landed t) e), sym (rw e (set-get_or landed t 0)))
-
-  pub land_new : (union (landed_of landed t) s ≡ landed_of landed t → ⊥) → touched_each ls t s b ≡ landed_on ls t s landed b
-  unfolding landed_on
-  land_new n = rw (ne_eqb (union (landed_of landed t) s) (landed_of landed t) n)
 
 -- what is noted stays noted where more is seen
 pub landed_kept : {ls landed : List ℕ} {ss ss' : ℕ → ℕ} → ((p e : ℕ) → Has (ss p) e → Has (ss' p) e) → Landed ls landed ss → Landed ls landed ss'

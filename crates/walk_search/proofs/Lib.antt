@@ -1,4 +1,3 @@
-mod Front
 mod Upwards
 mod PartByPart
 mod Stores
@@ -9,5 +8,6 @@ mod Landings
 mod ByHeader
 mod Visits
 mod Minima
+mod Told
 pub mod Ends
 pub mod Fixed

@@ -4,21 +4,23 @@ use mathlib.Core.Path.{◌≡◌, refl, sym, ap, ◌∙◌}
 use mathlib.Core.Bool.{Bool, true, false, cond}
 use mathlib.Core.Logic.{◌⊎◌, inl, inr, ⊎_elim}
 use mathlib.Core.List.{List}
+use Rattle.std.proofs.Common.{Option, None, Some, MatchOption}
+use Rattle.std.specs.Prelude.{⊤}
 use native.Mathlib.Decide.{ℕ_discrete}
 use native.Mathlib.Omega.{arith}
 use lib.Dec.{ltb, eqb}
-use borrow.Author.Tests.{eqb-true, eqb-false}
+use borrow.Author.Tests.{eqb-true, eqb-false, lt-ltb, le-ltb}
 use Rattle.limits.specs.Limits.{most_blocks, depths, marks_length}
 use Rattle.logic.proofs.Choice.{clash}
 use Rattle.walk_flow.specs.Terms.{Terms}
 use Rattle.walk_fault.specs.Fault.{is_foreign, is_bad}
 use Rattle.walk.specs.Blocks.{fault_at}
 use Rattle.walk.specs.Index.{point_at}
-use Rattle.walk.specs.Graph.{Reach, lesser, least}
+use Rattle.walk.specs.Graph.{In, Reach, least}
 use Rattle.walk.specs.Successors.{next_of, WalkBounds}
 use Rattle.walk.specs.Verdict.{root_of, reached, least_foreign, least_bad}
 use Rattle.walk.proofs.Points.Index.{has_point}
-use Rattle.walk.proofs.Graph.Least.{lesser_first, lesser_second, least_only}
+use Rattle.walk.proofs.Graph.Least.{lesser_first, lesser_second, Member, least_only}
 use Rattle.walk.proofs.Steps.History.{number_inside}
 use Rattle.walk.proofs.Verdicts.OfWalks.{exact}
 use Rattle.walk_graph.specs.Depths.{sets, Has, least_depth}
@@ -26,7 +28,7 @@ use Rattle.walk_graph.specs.Onward.{task_of, block_of, onward_of}
 use Rattle.walk_graph.specs.declared.Onward.{Onward}
 use Rattle.walk_graph.proofs.Depths.{none, some_depth, least_has, least_least}
 use Rattle.walk_graph.proofs.Handing.{foreign_at_lem, bad_of, bad_has, bad_small}
-use Rattle.walk_search.specs.Search.{foreign_with, bad_with, Seen}
+use Rattle.walk_search.specs.Search.{least_with, foreign_with, bad_with, below, Seen}
 use Rattle.walk_search.proofs.Stores.{put, put_same, put_other}
 
 -- a number of these that passes a test, with this key
@@ -36,33 +38,52 @@ pub record Among (P : ℕ → Type 0) (test : ℕ → Bool) (key : ℕ → ℕ) 
   pub passes : test at ≡ true
   pub key_is : key at ≡ k
 
--- the least key of those that pass a test, `none` where there is none
-pub record LeastOf (P : ℕ → Type 0) (test : ℕ → Bool) (key : ℕ → ℕ) (none m : ℕ) : Type 0 where
-  pub below : (k : ℕ) → P k → test k ≡ true → m ≤ key k
-  pub found : (m ≡ none) ⊎ Among P test key m
+-- a number that was found is at most n
+abbrev pub AtMost : Option ℕ → ℕ → Type 0
+AtMost None n = ⊥
+AtMost (Some m) n = m ≤ n
 
-module _ {P Q : ℕ → Type 0} {test : ℕ → Bool} {key : ℕ → ℕ} {none m : ℕ} (s : LeastOf P test key none m) (more : (k : ℕ) → P k → Q k) where
-  further : (m ≡ none) ⊎ Among P test key m → (m ≡ none) ⊎ Among Q test key m
-  further (inl e) = inl e
-  further (inr a) = inr (record { at = a.at; one = more a.at a.one; passes = a.passes; key_is = a.key_is })
+-- the least key of those that pass a test, None where there is none
+pub record LeastOf (P : ℕ → Type 0) (test : ℕ → Bool) (key : ℕ → ℕ) (m : Option ℕ) : Type 0 where
+  pub below : (k : ℕ) → P k → test k ≡ true → AtMost m (key k)
+  pub found : MatchOption m ⊤ (Among P test key)
 
+with_first : (n k : ℕ) (m : Option ℕ) → n ≤ k → least_with n m ≤ k
+with_first n k None h = h
+with_first n k (Some b) h = omega (arith, lesser_first n b)
+
+with_second : (n k : ℕ) (m : Option ℕ) → AtMost m k → least_with n m ≤ k
+with_second n k None h = absurd h
+with_second n k (Some b) h = omega (arith, lesser_second n b)
+
+module _ {P Q : ℕ → Type 0} (test : ℕ → Bool) (key : ℕ → ℕ) (more : (k : ℕ) → P k → Q k) where
+  among : {m : ℕ} → Among P test key m → Among Q test key m
+  among a = record { at = a.at; one = more a.at a.one; passes = a.passes; key_is = a.key_is }
+
+  further : (m : Option ℕ) → MatchOption m ⊤ (Among P test key) → MatchOption m ⊤ (Among Q test key)
+  further None a = a
+  further (Some m) a = among a
+
+  -- the lesser is among them
+  lower : (n : ℕ) (m : Option ℕ) → Among Q test key n → MatchOption m ⊤ (Among P test key) → Among Q test key (least_with n m)
+  lower n None new a = new
+  lower n (Some b) new a = go (ltb n b)
+    where
+      go : (t : Bool) → Among Q test key (cond t n b)
+      go true = new
+      go false = among a
+
+module _ {P Q : ℕ → Type 0} {test : ℕ → Bool} {key : ℕ → ℕ} {m : Option ℕ} (s : LeastOf P test key m) (more : (k : ℕ) → P k → Q k) where
   -- further numbers, none of which passes
-  least_kept : ((k : ℕ) → Q k → test k ≡ true → P k) → LeastOf Q test key none m
-  least_kept old = record { below = λ k i e. s.below k (old k i e) e; found = further s.found }
+  least_kept : ((k : ℕ) → Q k → test k ≡ true → P k) → LeastOf Q test key m
+  least_kept old = record { below = λ k i e. s.below k (old k i e) e; found = further test key more m s.found }
 
   -- further numbers, the least key of which is n
-  least_lower : (n : ℕ) → ((k : ℕ) → Q k → test k ≡ true → P k ⊎ (n ≤ key k)) → Among Q test key n → LeastOf Q test key none (lesser n m)
+  least_lower : (n : ℕ) → ((k : ℕ) → Q k → test k ≡ true → P k ⊎ (n ≤ key k)) → Among Q test key n → LeastOf Q test key (Some (least_with n m))
   least_lower n old new = record {
-    below = λ k i e. ⊎_elim
-        (λ y. let a = s.below k y e in let b = lesser_second n m in omega arith)
-        (λ y. let b = lesser_first n m in omega arith)
-        (old k i e);
-    found = go (ltb n m);
+    below = λ k i e. ⊎_elim (λ y. with_second n (key k) m (s.below k y e)) (λ y. with_first n (key k) m y) (old k i e);
+    found = lower test key more n m new s.found;
   }
-    where
-      go : (b : Bool) → (cond b n m ≡ none) ⊎ Among Q test key (cond b n m)
-      go true = inr new
-      go false = further s.found
 
 -- the keys: the block of a number's point, and the number itself
 abbrev pub block_key : ℕ → ℕ
@@ -79,9 +100,9 @@ module _ (h : Terms) (bs : List ℕ) where
   bad_at i = is_bad (fault_at h bs (point_at i))
 
   -- of the points of a function's sets
-  pub record Minima (hs : ℕ → ℕ) (foreign bad : ℕ) : Type 0 where
-    pub foreign_least : LeastOf (Seen hs) foreign_at block_key most_blocks foreign
-    pub bad_least : LeastOf (Seen hs) bad_at self marks_length bad
+  pub record Minima (hs : ℕ → ℕ) (foreign bad : Option ℕ) : Type 0 where
+    pub foreign_least : LeastOf (Seen hs) foreign_at block_key foreign
+    pub bad_least : LeastOf (Seen hs) bad_at self bad
 
   -- ---- a visit: pair p has handed the depths s on, those among them that it had handed on before
   module _ (hs : ℕ → ℕ) (p s : ℕ) (held : (d : ℕ) → Has (hs p) d → Has s d) (some : 0 < s) (small : s < sets) where
@@ -116,14 +137,14 @@ module _ (h : Terms) (bs : List ℕ) where
     unfolding point_at
     block_here d l = omega arith
 
-    foreign_visit : {m : ℕ} → LeastOf (Seen hs) foreign_at block_key most_blocks m
-        → LeastOf (Seen hs') foreign_at block_key most_blocks (foreign_with o.foreign (block_of p) m)
+    foreign_visit : {m : Option ℕ} → LeastOf (Seen hs) foreign_at block_key m
+        → LeastOf (Seen hs') foreign_at block_key (foreign_with o.foreign (block_of p) m)
     foreign_visit {m} w = go o.foreign refl
       where
         at_pair : (k : ℕ) → k ≡ depths * p + k % depths → foreign_at k ≡ o.foreign
         at_pair k e = ap foreign_at e ∙ foreign_at_lem h bs p s small (k % depths) (omega arith)
 
-        go : (t : Bool) → o.foreign ≡ t → LeastOf (Seen hs') foreign_at block_key most_blocks (cond t (lesser (block_of p) m) m)
+        go : (t : Bool) → o.foreign ≡ t → LeastOf (Seen hs') foreign_at block_key (cond t (Some (least_with (block_of p) m)) m)
         go true e =
             let d = some_depth s some small in
             least_lower w grows (block_of p)
@@ -136,13 +157,13 @@ module _ (h : Terms) (bs : List ℕ) where
             })
         go false e = least_kept w grows (λ k i y. ⊎_elim (λ z. z) (λ z. clash (sym y ∙ at_pair k z.0 ∙ e)) (apart k i))
 
-    bad_visit : {m : ℕ} → LeastOf (Seen hs) bad_at self marks_length m → LeastOf (Seen hs') bad_at self marks_length (bad_with o.bad p m)
+    bad_visit : {m : Option ℕ} → LeastOf (Seen hs) bad_at self m → LeastOf (Seen hs') bad_at self (bad_with o.bad p m)
     bad_visit {m} w = go (eqb o.bad 0) refl
       where
         bad_here : (k : ℕ) → bad_at k ≡ true → (k ≡ depths * p + k % depths) × Has s (k % depths) → Has o.bad (k % depths)
         bad_here k y z = bad_has h bs p s small (k % depths) z.1 (ap bad_at (sym z.0) ∙ y)
 
-        go : (t : Bool) → eqb o.bad 0 ≡ t → LeastOf (Seen hs') bad_at self marks_length (cond t m (lesser (depths * p + least_depth o.bad) m))
+        go : (t : Bool) → eqb o.bad 0 ≡ t → LeastOf (Seen hs') bad_at self (cond t m (Some (least_with (depths * p + least_depth o.bad) m)))
         go true e =
             let n = eqb-true o.bad 0 e in
             least_kept w grows (λ k i y. ⊎_elim (λ z. z) (λ z. absurd (none (k % depths) (rw n at (bad_here k y z)))) (apart k i))
@@ -156,30 +177,41 @@ module _ (h : Terms) (bs : List ℕ) where
             (apart k i))
             (record { at = depths * p + least_depth o.bad; one = here (least_depth o.bad) l.1 b.0; passes = b.1; key_is = refl })
 
-    pub minima_visit : (foreign bad : ℕ) → Minima hs foreign bad → Minima hs' (foreign_with o.foreign (block_of p) foreign) (bad_with o.bad p bad)
+    pub minima_visit : (foreign bad : Option ℕ) → Minima hs foreign bad → Minima hs' (foreign_with o.foreign (block_of p) foreign) (bad_with o.bad p bad)
     minima_visit foreign bad w = record { foreign_least = foreign_visit w.foreign_least; bad_least = bad_visit w.bad_least }
 
   -- ---- the beginning and the end
 
-  pub minima_begun : (hs : ℕ → ℕ) → ((p : ℕ) → hs p ≡ 0) → Minima hs most_blocks marks_length
+  pub minima_begun : (hs : ℕ → ℕ) → ((p : ℕ) → hs p ≡ 0) → Minima hs None None
   minima_begun hs z = record {
-    foreign_least = record { below = λ k i. absurd (none (k % depths) (rw (z (k / depths)) at i)); found = inl refl };
-    bad_least = record { below = λ k i. absurd (none (k % depths) (rw (z (k / depths)) at i)); found = inl refl };
+    foreign_least = record { below = λ k i. absurd (none (k % depths) (rw (z (k / depths)) at i)); found = tt };
+    bad_least = record { below = λ k i. absurd (none (k % depths) (rw (z (k / depths)) at i)); found = tt };
   }
 
   module _ (r : WalkBounds h) (hs : ℕ → ℕ) (sound : (i : ℕ) → Seen hs i → Reach (next_of h bs) (root_of h) i)
       (whole : (i : ℕ) → Reach (next_of h bs) (root_of h) i → Seen hs i) where
-    least_is : (test : ℕ → Bool) (key : ℕ → ℕ) (none : ℕ) → ((p : ℕ) → p < marks_length → key p ≤ none) → (m : ℕ)
-        → LeastOf (Seen hs) test key none m → m ≡ least test key none (reached h bs)
-    least_is test key none bound m s =
-        let x = exact h bs r in
-        least_only test key none (reached h bs) (λ p k. bound p (number_inside h bs r p (x.sound p k))) m
-        (λ p k t. s.below p (whole p (x.sound p k)) t)
-        (⊎_elim (λ e. inl e)
-        (λ k. inr (record { at = k.at; member = x.whole k.at (sound k.at k.one); passes = k.passes; key_is = k.key_is }))
-        s.found)
+    least_is : (test : ℕ → Bool) (key : ℕ → ℕ) (most : ℕ) → ((p : ℕ) → p < marks_length → key p < most) → (m : Option ℕ)
+        → LeastOf (Seen hs) test key m → m ≡ below most (least test key most (reached h bs))
+    least_is test key most bound m s = go m s.below s.found
+      where
+        inside : (p : ℕ) → Reach (next_of h bs) (root_of h) p → key p < most
+        inside p w = bound p (number_inside h bs r p w)
 
-    pub minima_are : (foreign bad : ℕ) → Minima hs foreign bad → (foreign ≡ least_foreign h bs (reached h bs)) × (bad ≡ least_bad h bs (reached h bs))
+        only : (n : ℕ) → ((p : ℕ) → In p (reached h bs) → test p ≡ true → n ≤ key p) → (n ≡ most) ⊎ Member test key most (reached h bs) n → n ≡ least test key most (reached h bs)
+        only = least_only test key most (reached h bs) (λ p k. omega (arith, inside p ((exact h bs r).sound p k)))
+
+        go : (m : Option ℕ) → ((k : ℕ) → Seen hs k → test k ≡ true → AtMost m (key k)) → MatchOption m ⊤ (Among (Seen hs) test key)
+            → m ≡ below most (least test key most (reached h bs))
+        go None low a =
+            let e = only most (λ p k t. absurd (low p (whole p ((exact h bs r).sound p k)) t)) (inl refl) in
+            rw (← e, le-ltb most most (omega arith))
+        go (Some n) low a =
+            let e = only n (λ p k t. low p (whole p ((exact h bs r).sound p k)) t)
+            (inr (record { at = a.at; member = (exact h bs r).whole a.at (sound a.at a.one); passes = a.passes; key_is = a.key_is })) in
+            rw (← e, lt-ltb n most (omega (arith, inside a.at (sound a.at a.one), a.key_is)))
+
+    pub minima_are : (foreign bad : Option ℕ) → Minima hs foreign bad
+        → (foreign ≡ below most_blocks (least_foreign h bs (reached h bs))) × (bad ≡ below marks_length (least_bad h bs (reached h bs)))
     unfolding least_foreign least_bad
     minima_are foreign bad w = (
       least_is foreign_at block_key most_blocks (λ p l. let b = (has_point p l).block in omega arith) foreign w.foreign_least,

@@ -8,7 +8,7 @@ use native.Mathlib.Omega.{arith}
 use lib.Bits.{or_zero_r}
 use lib.ListN.{length, length-set}
 use lib.Dec.{eqb}
-use borrow.Author.Tests.{eqb-true, eqb-false, eq-eqb, ne_eqb}
+use borrow.Author.Tests.{eqb-true, eqb-false, eq-eqb}
 use Rattle.limits.specs.Limits.{depths}
 use Rattle.walk_graph.specs.Depths.{sets, Has, union}
 use Rattle.walk_graph.proofs.Depths.{union_over, union_under, union_left, union_right, union_of}
@@ -104,7 +104,7 @@ module _ (m : ℕ) (hs ss list : ℕ → ℕ) (n : ℕ) (g : Listed m hs ss list
 
 -- ---- in the marks
 
--- a touch, by its tests
+-- a touch that adds nothing
 module _ (q s : ℕ) (l : List ℕ) (n : ℕ) where
   abbrev more_seen : List ℕ
   more_seen = with_seen q (union (seen_in l q) s) l
@@ -115,15 +115,6 @@ module _ (q s : ℕ) (l : List ℕ) (n : ℕ) where
 
   pub touch_none : s ≡ 0 → listing l n ≡ touched q s (listing l n)
   touch_none e = touch_known (rw e (or_zero_r (seen_in l q)))
-
-  module _ (o : union (seen_in l q) s ≡ seen_in l q → ⊥) where
-    pub touch_more : (handed_in l q ≡ seen_in l q → ⊥) → listing more_seen n ≡ touched q s (listing l n)
-    unfolding touched
-    touch_more e = rw (ne_eqb (union (seen_in l q) s) (seen_in l q) o, ne_eqb (handed_in l q) (seen_in l q) e)
-
-    pub touch_push : handed_in l q ≡ seen_in l q → listing (with_entry n q more_seen) (n + 1) ≡ touched q s (listing l n)
-    unfolding touched
-    touch_push e = rw (ne_eqb (union (seen_in l q) s) (seen_in l q) o, eq-eqb (handed_in l q) (seen_in l q) e)
 
 -- what it keeps
 pub record Touched (m : ℕ) (l : List ℕ) (b : Listing) (q s : ℕ) : Type 0 where

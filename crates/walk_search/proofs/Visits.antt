@@ -3,6 +3,7 @@ use Prim.Native.Nat.{ℕ, ◌+◌, ◌-◌, ◌*◌, ◌/◌, ◌%◌, ◌<◌, 
 use mathlib.Core.Path.{◌≡◌, refl, sym, ◌∙◌}
 use mathlib.Core.Logic.{⊎_elim}
 use mathlib.Core.List.{List}
+use Rattle.std.proofs.Common.{Option}
 use native.Mathlib.Decide.{dec_lt}
 use native.Mathlib.Omega.{arith}
 use lib.ListN.{length, length-set}
@@ -296,7 +297,7 @@ module _ (h : Terms) (bs : List ℕ) (r : WalkBounds h) (l landed : List ℕ) (n
     landing_room b b' e i = rw (i, e, onward-is, pair_is) room₄
 
 -- the visit that is found is the definition's
-pub visit_is : (h : Terms) (bs l landed landed' : List ℕ) (f : Found) (p : ℕ) (o : Onward) (b b' b'' : Listing) (foreign bad : ℕ)
+pub visit_is : (h : Terms) (bs l landed landed' : List ℕ) (f : Found) (p : ℕ) (o : Onward) (b b' b'' : Listing) (foreign bad : Option ℕ)
     → p ≡ list_in l (f.pending - 1) → o ≡ onward_of h bs (task_of p) (block_of p) (seen_in l p)
     → b ≡ touched o.named o.into (listing (with_handed p (seen_in l p) l) (f.pending - 1)) → b' ≡ touched (p + task_count) o.behind b
     → b'' ≡ landed_on h.landings o.lander o.landing landed b' → landed' ≡ landed_with landed o.lander o.landing

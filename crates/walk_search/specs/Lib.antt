@@ -1,2 +1,4 @@
 pub mod Search
 pub mod After
+pub mod Terms
+pub mod Program

@@ -1,14 +1,18 @@
 -- The search's own values and invariants. Each pair, a task at a block, has four of the lent marks: the set of depths seen, the set of those handed on at its
 -- latest visit, and two bytes of a list. A pair is pending where the two sets differ; the list has the pending pairs, each once. Beside the marks a search has
 -- for each task the set of depths that were handed to it at every landing block.
-use Rattle.std.specs.Prelude.{ℕ, zero, suc, ◌+◌, ◌-◌, ◌*◌, ◌/◌, ◌%◌, ◌<◌, ◌≤◌, ◌≡◌, Bool, cond, List, [], ◌∷◌, length, get_or, set, replicate, eqb}
+use Rattle.std.specs.Prelude.{ℕ, zero, suc, ◌+◌, ◌-◌, ◌*◌, ◌/◌, ◌%◌, ◌<◌, ◌≤◌, ◌≡◌, Bool, cond, List, [], ◌∷◌, length, get_or, set, replicate, eqb, ltb, Option, None, Some, Ok, Err}
 use Rattle.limits.specs.Limits.{task_count, bias, most_blocks, depths, marks_length}
 use Rattle.num_le.specs.LittleEndian.{le_number}
+use Rattle.image_header.specs.declared.Header.{Header}
 use Rattle.walk_flow.specs.Terms.{Terms}
-use Rattle.walk.specs.Blocks.{block_number}
+use Rattle.command_judge.specs.BlockFault.{block_fault}
+use Rattle.walk.specs.Blocks.{block_at, fault_at}
 use Rattle.walk.specs.Graph.{In, Reach, has, lesser}
+use Rattle.walk.specs.Index.{point_at}
 use Rattle.walk.specs.Successors.{next_of}
-use Rattle.walk.specs.Verdict.{root_of, reached, least_foreign, least_bad}
+use Rattle.walk.specs.Verdict.{Verdict, refused_by, root_of, reached, least_foreign, least_bad}
+use Rattle.walk.specs.declared.Refusal.TheVariants as verdict
 use Rattle.walk_graph.specs.Depths.{sets, digit, Has, union, least_depth}
 use Rattle.walk_graph.specs.Onward.{pair_of, task_of, block_of, onward_of}
 use Rattle.walk_graph.specs.declared.Onward.{Onward}
@@ -88,16 +92,21 @@ none_landed = replicate task_count 0
 abbrev pub beginning : Terms → Board
 beginning terms = board (fresh (pair_marks * pairs terms) (pair_of bias terms.header.start)) none_landed (record {
   pending = 1;
-  foreign = most_blocks;
-  bad = marks_length;
+  foreign = None;
+  bad = None;
 })
 
--- the least foreign block and the least bad point so far, and those of pair p
-abbrev pub foreign_with : Bool → ℕ → ℕ → ℕ
-foreign_with foreign block so = cond foreign (lesser block so) so
+-- the lesser of a number and the one found so far
+abbrev pub least_with : ℕ → Option ℕ → ℕ
+least_with a None = a
+least_with a (Some b) = lesser a b
 
-abbrev pub bad_with : ℕ → ℕ → ℕ → ℕ
-bad_with bad p so = cond (eqb bad 0) so (lesser (depths * p + least_depth bad) so)
+-- the least foreign block and the least bad point so far, and those of pair p
+abbrev pub foreign_with : Bool → ℕ → Option ℕ → Option ℕ
+foreign_with foreign block so = cond foreign (Some (least_with block so)) so
+
+abbrev pub bad_with : ℕ → ℕ → Option ℕ → Option ℕ
+bad_with bad p so = cond (eqb bad 0) so (Some (least_with (depths * p + least_depth bad) so))
 
 -- the marks after the pair p with the depths s was taken off the list, all s noted as handed on
 abbrev pub taken_off : ℕ → ℕ → Board → Listing
@@ -220,12 +229,25 @@ pub record Searched (terms : Terms) (bs marks : List ℕ) : Type 0 where
   pub small : (p : ℕ) → seen_in marks p < sets
   pub settled : (p : ℕ) → handed_in marks p ≡ seen_in marks p
 
+-- a number that is below this one
+abbrev pub below : ℕ → ℕ → Option ℕ
+below most n = cond (ltb n most) (Some n) None
+
 -- nothing is pending, and the least of what is reached is found
 unfoldable pub found : Terms → List ℕ → Found
-found terms bs = record { pending = 0; foreign = least_foreign terms bs (reached terms bs); bad = least_bad terms bs (reached terms bs) }
+found terms bs = record {
+  pending = 0;
+  foreign = below most_blocks (least_foreign terms bs (reached terms bs));
+  bad = below marks_length (least_bad terms bs (reached terms bs));
+}
 
--- the first of the header's blocks that 5 to 8 or 23 refuse, or the count
-pub record FirstRefused (terms : Terms) (bs : List ℕ) (b : ℕ) : Type 0 where
-  pub most : b ≤ terms.header.count
-  pub before : (a : ℕ) → a < b → block_number terms bs a ≡ 0
-  pub refused : b < terms.header.count → block_number terms bs b ≡ 0 → ⊥
+-- the verdict by the least foreign block, or else the least bad point
+abbrev pub verdict_with : Terms → List ℕ → Option ℕ → Option ℕ → Verdict
+verdict_with terms bs (Some b) bad = Err (verdict.Foreign b)
+verdict_with terms bs None (Some i) = refused_by (λ f. verdict.Bad f (point_at i)) (fault_at terms bs (point_at i)) (Ok tt)
+verdict_with terms bs None None = Ok tt
+
+-- n blocks from block b on, each judged by itself, upwards
+unfoldable pub each_verdict : Header → List ℕ → ℕ → ℕ → Verdict
+each_verdict header bs b zero = Ok tt
+each_verdict header bs b (suc n) = refused_by (λ f. verdict.Block f b) (block_fault header (block_at bs b)) (each_verdict header bs (b + 1) n)

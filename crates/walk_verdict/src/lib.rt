@@ -4,19 +4,19 @@
 ghost use Rattle.std.specs.Prelude.{◌≡◌};
 ghost use Rattle.walk.specs.Verdict.{verdict_number, verdict_place, verdict_task, verdict_depth, is_accepted};
 
-use walk::Verdict;
+use walk::{Refusal, Verdict};
 
 // The refusal's number, 0 for none.
 pub fn number(v: Verdict) -> u32
     ensures { result ≡ verdict_number v }
 {
     match v {
-        Verdict::Accepted => 0,
-        Verdict::MarksShort(_) => 13,
-        Verdict::Image(result) => result.number(),
-        Verdict::Block(fault, _) => fault.number(),
-        Verdict::Foreign(_) => 7,
-        Verdict::Bad(fault, _) => fault.number(),
+        Ok(()) => 0,
+        Err(Refusal::MarksShort(_)) => 13,
+        Err(Refusal::Image(fault)) => fault.number(),
+        Err(Refusal::Block(fault, _)) => fault.number(),
+        Err(Refusal::Foreign(_)) => 7,
+        Err(Refusal::Bad(fault, _)) => fault.number(),
     }
 }
 
@@ -25,12 +25,11 @@ pub fn place(v: Verdict) -> usize
     ensures { result ≡ verdict_place v }
 {
     match v {
-        Verdict::Accepted => 0,
-        Verdict::MarksShort(length) => length,
-        Verdict::Image(result) => result.place(),
-        Verdict::Block(_, block) => block,
-        Verdict::Foreign(block) => block,
-        Verdict::Bad(_, point) => point.block as usize,
+        Ok(()) => 0,
+        Err(Refusal::MarksShort(length)) => length,
+        Err(Refusal::Image(fault)) => fault.place(),
+        Err(Refusal::Block(_, block) | Refusal::Foreign(block)) => block,
+        Err(Refusal::Bad(_, point)) => usize::from(point.block),
     }
 }
 
@@ -39,12 +38,8 @@ pub fn task(v: Verdict) -> u8
     ensures { result ≡ verdict_task v }
 {
     match v {
-        Verdict::Accepted => 0,
-        Verdict::MarksShort(_) => 0,
-        Verdict::Image(_) => 0,
-        Verdict::Block(_, _) => 0,
-        Verdict::Foreign(_) => 0,
-        Verdict::Bad(_, point) => point.task,
+        Err(Refusal::Bad(_, point)) => point.task,
+        _ => 0,
     }
 }
 
@@ -53,12 +48,8 @@ pub fn depth(v: Verdict) -> u8
     ensures { result ≡ verdict_depth v }
 {
     match v {
-        Verdict::Accepted => 0,
-        Verdict::MarksShort(_) => 0,
-        Verdict::Image(_) => 0,
-        Verdict::Block(_, _) => 0,
-        Verdict::Foreign(_) => 0,
-        Verdict::Bad(_, point) => point.depth,
+        Err(Refusal::Bad(_, point)) => point.depth,
+        _ => 0,
     }
 }
 
@@ -66,12 +57,5 @@ pub fn depth(v: Verdict) -> u8
 pub fn is_accepted(v: Verdict) -> bool
     ensures { result ≡ is_accepted v }
 {
-    match v {
-        Verdict::Accepted => true,
-        Verdict::MarksShort(_) => false,
-        Verdict::Image(_) => false,
-        Verdict::Block(_, _) => false,
-        Verdict::Foreign(_) => false,
-        Verdict::Bad(_, _) => false,
-    }
+    v.is_ok()
 }

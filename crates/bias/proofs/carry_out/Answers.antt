@@ -11,7 +11,7 @@ use Rattle.machine.specs.Inputs.{inputs_of}
 use Rattle.machine.specs.DepthAllows.{DepthAllows}
 use Rattle.machine.specs.declared.Effect.{Effect}
 use Rattle.bias.specs.Step.{Stepped}
-use Rattle.bias.proofs.OfState.{state_long, task_room, depth_allows, carried_is}
+use Rattle.bias.proofs.OfState.{task_room, depth_allows, carried_is}
 use Rattle.bias.proofs.carry_out.Goals as goal
 
 -- values are those of their parts
@@ -20,41 +20,17 @@ values_of_lem : {vs vs' : List ℤ} {fs fs' os os' : List ℕ} {m m' : Motion} {
     → values_of (cells_of vs fs os) m n ≡ values_of (cells_of vs' fs' os') m' n'
 values_of_lem ev ef eo em en = λ ι. values_of (cells_of (ev ι) (ef ι) (eo ι)) (em ι) (en ι)
 
-pub tasks_in-tasks-requires : goal.tasks_in-tasks-requires
-tasks_in-tasks-requires c =
-    state_long c.args.state.now (λ k. (c.slice_known-1.given k).fits) c.requires.state_value
-
-pub variables_in-variables-requires : goal.variables_in-variables-requires
-variables_in-variables-requires c =
-    state_long c.args.state.now (λ k. (c.slice_known-1.given k).fits) c.requires.state_value
-
-pub flags_in-flags-requires : goal.flags_in-flags-requires
-flags_in-flags-requires c =
-    state_long c.args.state.now (λ k. (c.slice_known-1.given k).fits) c.requires.state_value
-
-pub outputs_in-outputs-requires : goal.outputs_in-outputs-requires
-outputs_in-outputs-requires c =
-    state_long c.args.state.now (λ k. (c.slice_known-1.given k).fits) c.requires.state_value
-
-pub motion_in-motion_before-requires : goal.motion_in-motion_before-requires
-motion_in-motion_before-requires c =
-    state_long c.args.state.now (λ k. (c.slice_known-1.given k).fits) c.requires.state_value
-
-pub notes_in-notes_before-requires : goal.notes_in-notes_before-requires
-notes_in-notes_before-requires c =
-    state_long c.args.state.now (λ k. (c.slice_known-1.given k).fits) c.requires.state_value
-
 pub action_of-action-requires : goal.action_of-action-requires
 action_of-action-requires c =
     let a = c.args in
-    (task_room a.state.now (λ k. (c.slice_known-1.given k).fits) c.requires.state_value a.image.now
+    (task_room a.state.now c.fits-state c.requires.state_value a.image.now
     (inputs_of a.t a.inputs.now a.start a.ramp_ended a.in_window) c.requires.task_in_range a.task a.c
     c.requires.task_value c.requires.c_value).turns
 
 pub after-after-requires : goal.after-after-requires
 after-after-requires c =
     let a = c.args in
-    let bytes : Bytes a.state.now = λ k. (c.slice_known-1.given k).fits in
+    let bytes : Bytes a.state.now = c.fits-state in
     let x = inputs_of a.t a.inputs.now a.start a.ramp_ended a.in_window in
     record {
       block_in_range = (task_room a.state.now bytes c.requires.state_value a.image.now x c.requires.task_in_range a.task a.c c.requires.task_value c.requires.c_value).block;
@@ -62,15 +38,11 @@ after-after-requires c =
           (depth_allows a.state.now bytes c.requires.state_value a.image.now x c.requires.task_in_range a.task a.c c.requires.task_value c.requires.c_value _ _ _ _);
     }
 
-pub encode_parts-requires : goal.encode_parts-requires
-encode_parts-requires c =
-    state_long c.args.state.now (λ k. (c.slice_known-1.given k).fits) c.requires.state_value
-
 pub returns : goal.returns
 returns c =
     let a = c.args in
     let e = carried_is a.state.now
-    (λ k. (c.slice_known-1.given k).fits) c.requires.state_value a.image.now (inputs_of a.t a.inputs.now a.start a.ramp_ended a.in_window)
+    c.fits-state c.requires.state_value a.image.now (inputs_of a.t a.inputs.now a.start a.ramp_ended a.in_window)
     c.requires.task_in_range a.task a.c
     c.requires.task_value c.requires.c_value c.action_of-action.result _ _ _ _ _ _ _ _ _ _ _ _
     c.requires.header_value c.requires.landings_value c.tasks_in-tasks.ensures

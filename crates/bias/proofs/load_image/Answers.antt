@@ -6,11 +6,11 @@ use Rattle.walk.specs.Verdict.{is_accepted}
 use mathlib.Core.Path.{sym, ap, ◌∙◌}
 use Rattle.bias.proofs.load_image.Goals as goal
 
-pub returns-then-not-is_accepted : goal.returns-then-not-is_accepted
-returns-then-not-is_accepted c =
+pub returns-then-not-is_ok : goal.returns-then-not-is_ok
+returns-then-not-is_ok c =
     let a = c.args in
     let j = c.judge-verdict in
-    let refused = sym (ap is_accepted j.ensures.value) ∙ sym c.is_accepted.ensures ∙ c.if-not-is_accepted.true in
+    let refused = sym (ap is_accepted j.ensures.value) ∙ sym c.is_ok.ensures.value ∙ c.if-not-is_ok.true in
     record {
       value = c.verdict.ensures ∙ ap verdict_for j.ensures.value
           ∙ sym (verdict_is a.image.now _ a.state.now);
@@ -22,8 +22,7 @@ pub returns : goal.returns
 returns c =
     let a = c.args in
     let j = c.judge-verdict in
-    let accepted = sym (ap is_accepted j.ensures.value) ∙ sym c.is_accepted.ensures
-    ∙ c.if-not-is_accepted.false in
+    let accepted = sym (ap is_accepted j.ensures.value) ∙ sym c.is_ok.ensures.value ∙ c.if-not-is_ok.false in
     record {
       value = c.verdict-2.ensures ∙ ap verdict_for j.ensures.value ∙ sym (verdict_is a.image.now _ a.state.now);
       state_after = c.encode.ensures ∙ ap encoded c.fresh.ensures

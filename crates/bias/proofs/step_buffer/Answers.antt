@@ -5,12 +5,8 @@ use Rattle.num_le.specs.LittleEndian.{Bytes}
 use Rattle.machine.specs.Inputs.{inputs_of}
 use Rattle.bias.specs.Step.{Stepped}
 use Rattle.bias.proofs.ByTest.{no_state_lem, of_state, step_refused}
-use Rattle.bias.proofs.OfState.{state_long, refused_is, ready_of, blocks_of_lem, few_landings, as_many, zeros_behind, whole}
+use Rattle.bias.proofs.OfState.{refused_is, ready_of, blocks_of_lem, few_landings, as_many, zeros_behind, whole}
 use Rattle.bias.proofs.step_buffer.Goals as goal
-
--- a state's landing list is as long as its count says, and 0 behind
-
--- so the landing blocks are a part of it
 
 pub returns-then-not-is_state : goal.returns-then-not-is_state
 returns-then-not-is_state c =
@@ -20,35 +16,25 @@ returns-then-not-is_state c =
     c.no_state.ensures in
     record { value = r.0; state_after = r.1 }
 
-pub header_in-header-requires : goal.header_in-header-requires
-header_in-header-requires c = state_long c.args.state.now (λ k. (c.slice_known-1.given k).fits) (sym c.is_state.ensures ∙ c.if-not-is_state.false)
-
 pub landings_in-landings-requires : goal.landings_in-landings-requires
 landings_in-landings-requires c =
     let b = c.args.state.now in
-    let bytes : Bytes b = λ k. (c.slice_known-1.given k).fits in
+    let bytes : Bytes b = c.fits-state in
     let holds = sym c.is_state.ensures ∙ c.if-not-is_state.false in
     let read = c.header_in-header.ensures in
     record {
-      b_len = state_long b bytes holds;
       count_in_range = few_landings b bytes holds _ read;
       zeros_behind = zeros_behind b bytes holds _ read;
     }
 
-pub task_at-task-requires : goal.task_at-task-requires
-task_at-task-requires c =
-    record {
-      b_len = state_long c.args.state.now (λ k. (c.slice_known-1.given k).fits) (sym c.is_state.ensures ∙ c.if-not-is_state.false);
-      task_in_range = c.requires.task_in_range;
-    }
-
 pub slice_bounds-landings-end : goal.slice_bounds-landings-end
 slice_bounds-landings-end c =
-    omega (arith, few_landings c.args.state.now (λ k. (c.slice_known-1.given k).fits) (sym c.is_state.ensures ∙ c.if-not-is_state.false) _ c.header_in-header.ensures)
+    omega (arith, few_landings c.args.state.now c.fits-state (sym c.is_state.ensures ∙ c.if-not-is_state.false) _ c.header_in-header.ensures)
 
 pub slice_bounds-carry_out-end : goal.slice_bounds-carry_out-end
 slice_bounds-carry_out-end c =
-    as_many c.args.state.now (λ k. (c.slice_known-1.given k).fits) (sym c.is_state.ensures ∙ c.if-not-is_state.false) _ c.header_in-header.ensures _ c.landings_in-landings.ensures
+    rw c.from-n.ensures
+    (as_many c.args.state.now c.fits-state (sym c.is_state.ensures ∙ c.if-not-is_state.false) _ c.header_in-header.ensures _ c.landings_in-landings.ensures)
 
 pub carry_out-requires : goal.carry_out-requires
 carry_out-requires c =
@@ -59,26 +45,26 @@ carry_out-requires c =
       state_value = sym c.is_state.ensures ∙ c.if-not-is_state.false;
       task_in_range = c.requires.task_in_range;
       header_value = read;
-      landings_value = blocks_of_lem a.state.now _ _ read list;
+      landings_value = rw c.from-n.ensures (blocks_of_lem a.state.now _ _ read list);
       task_value = c.task_at-task.ensures;
-      c_value = sym c.in-Carries.is ∙ ready_of a.state.now a.image.now _ _ _ _ _ read list c.ready_for.ensures;
+      c_value = sym c.in-Ok.is ∙ ready_of a.state.now a.image.now _ _ _ _ _ read list c.ready_for.ensures;
     }
 
-pub returns-in-Refused : goal.returns-in-Refused
-returns-in-Refused c =
+pub returns-in-Err : goal.returns-in-Err
+returns-in-Err c =
     let a = c.args in
     let x = inputs_of a.t a.inputs.now a.start a.ramp_ended a.in_window in
     let holds = sym c.is_state.ensures ∙ c.if-not-is_state.false in
     let e = of_state a.image.now a.state.now x holds
-    ∙ refused_is a.state.now (λ k. (c.slice_known-1.given k).fits) holds a.image.now x c.requires.task_in_range _ _ c.requires.inputs_len
+    ∙ refused_is a.state.now c.fits-state holds a.image.now x c.requires.task_in_range _ _ c.requires.inputs_len
     c.task_at-task.ensures
-    (sym c.in-Refused.is ∙ ready_of a.state.now a.image.now _ _ _ _ _ c.header_in-header.ensures c.landings_in-landings.ensures
+    (sym c.in-Err.is ∙ ready_of a.state.now a.image.now _ _ _ _ _ c.header_in-header.ensures c.landings_in-landings.ensures
     c.ready_for.ensures) in
     let r = step_refused _ _ _ _ e c.answer.ensures in
     record { value = r.0; state_after = r.1 }
 
-pub returns-in-Carries : goal.returns-in-Carries
-returns-in-Carries c =
+pub returns-in-Ok : goal.returns-in-Ok
+returns-in-Ok c =
     let a = c.args in
     let x = inputs_of a.t a.inputs.now a.start a.ramp_ended a.in_window in
     let holds = sym c.is_state.ensures ∙ c.if-not-is_state.false in

@@ -1,28 +1,18 @@
--- `find_landing` meets its contract: at each turn what is looked for is still what the rest of the list says.
-use mathlib.Core.Path.{◌≡◌, ◌∙◌}
-use native.Mathlib.Omega.{arith}
-use mir.Syntax.{w32}
-use mir.Val.{to_z, of_z}
-use mir.Facts.{to_z-of_z}
-use Rattle.exec_action.proofs.Landings.{look_at, past_last}
+-- `find_landing` meets its contract: a test of two numbers is the test of their bits.
+use Rattle.std.proofs.Common.{rules, tests, pos, sym, ◌∙◌}
+use Rattle.std.proofs.lemmas.Iterator.{YieldsList-from_slice}
+use Rattle.std.proofs.lemmas.Iterator.Adapters.{option_map_id}
+use Rattle.std.proofs.lemmas.Iterator.Consumers.{YieldsList-from_copied}
+use Rattle.std.proofs.lemmas.Iterator.Search.{find_from_yields_List}
+use Rattle.num_arith.proofs.Comparisons.{same_bits}
+use Rattle.num_arith.specs.Ops.{eq_z}
+use Rattle.exec_action.specs.Action.{landing_of}
 use Rattle.exec_action.proofs.find_landing.Goals as goal
 
-pub loop-k-preserved : goal.loop-k-preserved
-loop-k-preserved c =
-    let v = c.loop-k in
-    let l = c.args.landings.now in
-    let e : to_z w32 (of_z w32 c.args.content) ≡ c.args.content = to_z-of_z c.ranges.content in
-    grind (arith, look_at, v.invariant.1, e)
-
-pub returns-then-is_block : goal.returns-then-is_block
-returns-then-is_block c =
-    let v = c.loop-k in
-    let l = c.args.landings.now in
-    let e : to_z w32 (of_z w32 c.args.content) ≡ c.args.content = to_z-of_z c.ranges.content in
-    grind (arith, look_at, v.invariant.1, e)
-
 pub returns : goal.returns
+unfolding landing_of
 returns c =
-    let v = c.loop-k in
-    let l = c.args.landings.now in
-    past_last v.k l _ (omega arith) ∙ (rw (to_z-of_z c.ranges.content) at v.invariant.1)
+    sym (option_map_id c.find.result)
+    ∙ find_from_yields_List (λ a. eq_z c.args.content (pos a)) _ _ _ c.find.ensures.ran
+    (YieldsList-from_copied (YieldsList-from_slice c.args.landings.now cc))
+    (λ x b q k. search (rules, tests, same_bits))

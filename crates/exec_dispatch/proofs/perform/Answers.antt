@@ -1,5 +1,7 @@
 -- `perform` meets its contract: each arm of the match is the row of its code.
-use mathlib.Core.Path.{refl}
+use Rattle.std.proofs.Common.{rules, refl, w32, ◌+ℤ◌, ◌-ℤ◌, ◌*ℤ◌}
+use Rattle.num_arith.specs.Wrap.{wrap}
+use Rattle.exec_action.specs.Action.{assigning, content}
 use Rattle.limits.specs.Limits.{bias, most_speed, most_ramp}
 use Rattle.state.specs.State.{with_speed, with_acceleration, with_deceleration}
 use Rattle.machine.specs.Effect.{effect_in}
@@ -8,261 +10,21 @@ use Rattle.machine.specs.declared.Request.TheVariants.{MoveTo, MoveBy, Forward, 
 use Rattle.exec_dispatch.proofs.Found.{found, missed, found_move, found_parameter, found_wait, found_quotient, found_landing}
 use Rattle.exec_dispatch.proofs.perform.Goals as goal
 
-pub move_to-requires : goal.move_to-requires
-unfolding effect_in
-move_to-requires c = tt
-
-pub move_by-requires : goal.move_by-requires
-unfolding effect_in
-move_by-requires c = tt
-
-pub forward-requires : goal.forward-requires
-unfolding effect_in
-forward-requires c = tt
-
-pub backward-requires : goal.backward-requires
-unfolding effect_in
-backward-requires c = tt
-
-pub set_mark-requires : goal.set_mark-requires
-unfolding effect_in
-set_mark-requires c = tt
-
-pub stop-requires : goal.stop-requires
-unfolding effect_in
-stop-requires c = tt
-
-pub stop_by-requires : goal.stop_by-requires
-unfolding effect_in
-stop_by-requires c = tt
-
-pub set_position-requires : goal.set_position-requires
-unfolding effect_in
-set_position-requires c = tt
-
-pub set_speed-requires : goal.set_speed-requires
-unfolding effect_in
-set_speed-requires c = tt
-
-pub set_acceleration-requires : goal.set_acceleration-requires
-unfolding effect_in
-set_acceleration-requires c = tt
-
-pub set_deceleration-requires : goal.set_deceleration-requires
-unfolding effect_in
-set_deceleration-requires c = tt
-
-pub load_position-requires : goal.load_position-requires
-unfolding effect_in
-load_position-requires c = tt
-
-pub load_speed-requires : goal.load_speed-requires
-unfolding effect_in
-load_speed-requires c = tt
-
-pub load_acceleration-requires : goal.load_acceleration-requires
-unfolding effect_in
-load_acceleration-requires c = tt
-
-pub load_deceleration-requires : goal.load_deceleration-requires
-unfolding effect_in
-load_deceleration-requires c = tt
-
-pub store_position-requires : goal.store_position-requires
-unfolding effect_in
-store_position-requires c = tt
-
-pub store_speed-requires : goal.store_speed-requires
-unfolding effect_in
-store_speed-requires c = tt
-
-pub store_acceleration-requires : goal.store_acceleration-requires
-unfolding effect_in
-store_acceleration-requires c = tt
-
-pub store_deceleration-requires : goal.store_deceleration-requires
-unfolding effect_in
-store_deceleration-requires c = tt
-
-pub flows-requires : goal.flows-requires
-unfolding effect_in
-flows-requires c = tt
-
-pub end-requires : goal.end-requires
-unfolding effect_in
-end-requires c = tt
-
-pub call-requires : goal.call-requires
-unfolding effect_in
-call-requires c = tt
-
-pub come_back-requires : goal.come_back-requires
-unfolding effect_in
-come_back-requires c = tt
-
-pub start_plc-requires : goal.start_plc-requires
-unfolding effect_in
-start_plc-requires c = tt
-
-pub jump-requires : goal.jump-requires
-unfolding effect_in
-jump-requires c = tt
-
-pub jump_to_landing-requires : goal.jump_to_landing-requires
-unfolding effect_in
-jump_to_landing-requires c = tt
-
-pub start_bias-requires : goal.start_bias-requires
-unfolding effect_in
-start_bias-requires c = tt
-
-pub wait_for_position-requires : goal.wait_for_position-requires
-unfolding effect_in
-wait_for_position-requires c = tt
-
-pub wait-requires : goal.wait-requires
-unfolding effect_in
-wait-requires c = c.requires
-
-pub wait_by_variable-requires : goal.wait_by_variable-requires
-unfolding effect_in
-wait_by_variable-requires c = c.requires
-
-pub start_bias_at_landing-requires : goal.start_bias_at_landing-requires
-unfolding effect_in
-start_bias_at_landing-requires c = tt
-
-pub set_flag-requires : goal.set_flag-requires
-unfolding effect_in
-set_flag-requires c = tt
-
-pub jump_by_flag-requires : goal.jump_by_flag-requires
-unfolding effect_in
-jump_by_flag-requires c = tt
-
-pub copy_flag-requires : goal.copy_flag-requires
-unfolding effect_in
-copy_flag-requires c = tt
-
-pub flag_from_input-requires : goal.flag_from_input-requires
-unfolding effect_in
-flag_from_input-requires c = tt
-
-pub flag_from_output-requires : goal.flag_from_output-requires
-unfolding effect_in
-flag_from_output-requires c = tt
-
-pub and_flags-requires : goal.and_flags-requires
-unfolding effect_in
-and_flags-requires c = tt
-
-pub or_flags-requires : goal.or_flags-requires
-unfolding effect_in
-or_flags-requires c = tt
-
-pub xor_flags-requires : goal.xor_flags-requires
-unfolding effect_in
-xor_flags-requires c = tt
-
-pub not_flag-requires : goal.not_flag-requires
-unfolding effect_in
-not_flag-requires c = tt
-
-pub jump_by_bit-requires : goal.jump_by_bit-requires
-unfolding effect_in
-jump_by_bit-requires c = tt
-
-pub jump_by_input-requires : goal.jump_by_input-requires
-unfolding effect_in
-jump_by_input-requires c = tt
-
-pub jump_by_output-requires : goal.jump_by_output-requires
-unfolding effect_in
-jump_by_output-requires c = tt
-
-pub set_output-requires : goal.set_output-requires
-unfolding effect_in
-set_output-requires c = tt
-
-pub output_from_flag-requires : goal.output_from_flag-requires
-unfolding effect_in
-output_from_flag-requires c = tt
-
-pub set_variable-requires : goal.set_variable-requires
-unfolding effect_in
-set_variable-requires c = tt
-
-pub jump_by_value-requires : goal.jump_by_value-requires
-unfolding effect_in
-jump_by_value-requires c = tt
-
-pub add_value-requires : goal.add_value-requires
-unfolding effect_in
-add_value-requires c = tt
-
-pub sub_value-requires : goal.sub_value-requires
-unfolding effect_in
-sub_value-requires c = tt
-
-pub mul_value-requires : goal.mul_value-requires
-unfolding effect_in
-mul_value-requires c = tt
-
-pub div_value-requires : goal.div_value-requires
-unfolding effect_in
-div_value-requires c = tt
-
-pub flags_as_number-requires : goal.flags_as_number-requires
-unfolding effect_in
-flags_as_number-requires c = tt
-
-pub copy_variable-requires : goal.copy_variable-requires
-unfolding effect_in
-copy_variable-requires c = tt
-
-pub jump_by_variable-requires : goal.jump_by_variable-requires
-unfolding effect_in
-jump_by_variable-requires c = tt
-
-pub add_variable-requires : goal.add_variable-requires
-unfolding effect_in
-add_variable-requires c = tt
-
-pub sub_variable-requires : goal.sub_variable-requires
-unfolding effect_in
-sub_variable-requires c = tt
-
-pub mul_variable-requires : goal.mul_variable-requires
-unfolding effect_in
-mul_variable-requires c = tt
-
-pub div_variable-requires : goal.div_variable-requires
-unfolding effect_in
-div_variable-requires c = tt
-
-pub start_mathematics-requires : goal.start_mathematics-requires
-unfolding effect_in
-start_mathematics-requires c = tt
-
-pub flows-requires-in_default : goal.flows-requires-in_default
-unfolding effect_in
-flows-requires-in_default c = tt
-
 pub returns-in-0 : goal.returns-in-0
 unfolding effect_in
-returns-in-0 c = found_move _ _ _ _ _ MoveTo c.in-0.is c.move_to.ensures refl
+returns-in-0 c = found_move _ _ _ _ _ MoveTo c.in-0.is c.moves.ensures refl
 
 pub returns-in-1 : goal.returns-in-1
 unfolding effect_in
-returns-in-1 c = found_move _ _ _ _ _ MoveBy c.in-1.is c.move_by.ensures refl
+returns-in-1 c = found_move _ _ _ _ _ MoveBy c.in-1.is c.moves-in-1.ensures refl
 
 pub returns-in-3 : goal.returns-in-3
 unfolding effect_in
-returns-in-3 c = found_move _ _ _ _ _ Forward c.in-3.is c.forward.ensures refl
+returns-in-3 c = found_move _ _ _ _ _ Forward c.in-3.is c.moves-in-3.ensures refl
 
 pub returns-in-4 : goal.returns-in-4
 unfolding effect_in
-returns-in-4 c = found_move _ _ _ _ _ Backward c.in-4.is c.backward.ensures refl
+returns-in-4 c = found_move _ _ _ _ _ Backward c.in-4.is c.moves-in-4.ensures refl
 
 pub returns-in-14 : goal.returns-in-14
 unfolding effect_in
@@ -342,7 +104,7 @@ returns-in-83 c = found _ _ _ _ _ c.in-83.is c.come_back.ensures refl
 
 pub returns-in-84 : goal.returns-in-84
 unfolding effect_in
-returns-in-84 c = found _ _ _ _ _ c.in-84.is c.start_plc.ensures refl
+returns-in-84 c = found _ _ _ _ _ c.in-84.is c.start.ensures refl
 
 pub returns-in-85 : goal.returns-in-85
 unfolding effect_in
@@ -354,7 +116,7 @@ returns-in-86 c = found_landing _ _ _ _ _ Jump c.in-86.is c.jump_to_landing.ensu
 
 pub returns-in-87 : goal.returns-in-87
 unfolding effect_in
-returns-in-87 c = found _ _ _ _ _ c.in-87.is c.start_bias.ensures refl
+returns-in-87 c = found _ _ _ _ _ c.in-87.is c.start-in-87.ensures refl
 
 pub returns-in-88 : goal.returns-in-88
 unfolding effect_in
@@ -378,11 +140,11 @@ returns-in-96 c = found _ _ _ _ _ c.in-96.is c.set_flag.ensures refl
 
 pub returns-in-97 : goal.returns-in-97
 unfolding effect_in
-returns-in-97 c = found _ _ _ _ _ c.in-97.is c.jump_by_flag.ensures refl
+returns-in-97 c = found _ _ _ _ _ c.in-97.is c.jump_by_level.ensures refl
 
 pub returns-in-98 : goal.returns-in-98
 unfolding effect_in
-returns-in-98 c = found _ _ _ _ _ c.in-98.is c.copy_flag.ensures refl
+returns-in-98 c = found _ _ _ _ _ c.in-98.is c.flag_from_level.ensures refl
 
 pub returns-in-99 : goal.returns-in-99
 unfolding effect_in
@@ -390,7 +152,7 @@ returns-in-99 c = found _ _ _ _ _ c.in-99.is c.flag_from_input.ensures refl
 
 pub returns-in-100 : goal.returns-in-100
 unfolding effect_in
-returns-in-100 c = found _ _ _ _ _ c.in-100.is c.flag_from_output.ensures refl
+returns-in-100 c = found _ _ _ _ _ c.in-100.is c.flag_from_level-in-100.ensures refl
 
 pub returns-in-101 : goal.returns-in-101
 unfolding effect_in
@@ -418,7 +180,7 @@ returns-in-112 c = found _ _ _ _ _ c.in-112.is c.jump_by_input.ensures refl
 
 pub returns-in-113 : goal.returns-in-113
 unfolding effect_in
-returns-in-113 c = found _ _ _ _ _ c.in-113.is c.jump_by_output.ensures refl
+returns-in-113 c = found _ _ _ _ _ c.in-113.is c.jump_by_level-in-113.ensures refl
 
 pub returns-in-114 : goal.returns-in-114
 unfolding effect_in
@@ -438,15 +200,18 @@ returns-in-129 c = found _ _ _ _ _ c.in-129.is c.jump_by_value.ensures refl
 
 pub returns-in-130 : goal.returns-in-130
 unfolding effect_in
-returns-in-130 c = found _ _ _ _ _ c.in-130.is c.add_value.ensures refl
+returns-in-130 c = let a = c.args in
+    found _ _ _ _ _ {a = assigning a.c (wrap w32 (content a.variables.now a.c.y +ℤ a.c.value))} c.in-130.is (search rules) refl
 
 pub returns-in-131 : goal.returns-in-131
 unfolding effect_in
-returns-in-131 c = found _ _ _ _ _ c.in-131.is c.sub_value.ensures refl
+returns-in-131 c = let a = c.args in
+    found _ _ _ _ _ {a = assigning a.c (wrap w32 (content a.variables.now a.c.y -ℤ a.c.value))} c.in-131.is (search rules) refl
 
 pub returns-in-132 : goal.returns-in-132
 unfolding effect_in
-returns-in-132 c = found _ _ _ _ _ c.in-132.is c.mul_value.ensures refl
+returns-in-132 c = let a = c.args in
+    found _ _ _ _ _ {a = assigning a.c (wrap w32 (content a.variables.now a.c.y *ℤ a.c.value))} c.in-132.is (search rules) refl
 
 pub returns-in-133 : goal.returns-in-133
 unfolding effect_in
@@ -466,15 +231,18 @@ returns-in-137 c = found _ _ _ _ _ c.in-137.is c.jump_by_variable.ensures refl
 
 pub returns-in-138 : goal.returns-in-138
 unfolding effect_in
-returns-in-138 c = found _ _ _ _ _ c.in-138.is c.add_variable.ensures refl
+returns-in-138 c = let a = c.args in
+    found _ _ _ _ _ {a = assigning a.c (wrap w32 (content a.variables.now a.c.y +ℤ content a.variables.now a.c.z))} c.in-138.is (search rules) refl
 
 pub returns-in-139 : goal.returns-in-139
 unfolding effect_in
-returns-in-139 c = found _ _ _ _ _ c.in-139.is c.sub_variable.ensures refl
+returns-in-139 c = let a = c.args in
+    found _ _ _ _ _ {a = assigning a.c (wrap w32 (content a.variables.now a.c.y -ℤ content a.variables.now a.c.z))} c.in-139.is (search rules) refl
 
 pub returns-in-140 : goal.returns-in-140
 unfolding effect_in
-returns-in-140 c = found _ _ _ _ _ c.in-140.is c.mul_variable.ensures refl
+returns-in-140 c = let a = c.args in
+    found _ _ _ _ _ {a = assigning a.c (wrap w32 (content a.variables.now a.c.y *ℤ content a.variables.now a.c.z))} c.in-140.is (search rules) refl
 
 pub returns-in-141 : goal.returns-in-141
 unfolding effect_in
@@ -482,7 +250,7 @@ returns-in-141 c = found_quotient _ _ _ _ _ _ c.in-141.is c.div_variable.ensures
 
 pub returns-in-144 : goal.returns-in-144
 unfolding effect_in
-returns-in-144 c = found _ _ _ _ _ c.in-144.is c.start_mathematics.ensures refl
+returns-in-144 c = found _ _ _ _ _ c.in-144.is c.start-in-144.ensures refl
 
 pub returns-in_default : goal.returns-in_default
 unfolding effect_in

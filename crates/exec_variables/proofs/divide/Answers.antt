@@ -10,12 +10,12 @@ assigns-requires c = tt
 pub halts-requires : goal.halts-requires
 halts-requires c = tt
 
-pub returns-in-Value : goal.returns-in-Value
-returns-in-Value c = let a = c.args in
+pub returns-in-Some : goal.returns-in-Some
+returns-in-Some c = let a = c.args in
     c.assigns.ensures
-    ∙ ap (assigning a.c) (got w32 c.in-Value.known_told-1-own.given.0.1 refl)
-    ∙ ap (dividing a.c) (sym c.in-Value.is)
+    ∙ ap (assigning a.c) (got w32 c.in-Some.known_told-1-own.given.0.1 refl)
+    ∙ ap (dividing a.c) (sym c.in-Some.is)
 
-pub returns-in-ByZero : goal.returns-in-ByZero
-returns-in-ByZero c = let a = c.args in
-    c.halts.ensures ∙ ap (dividing a.c) (sym c.in-ByZero.is)
+pub returns-in-None : goal.returns-in-None
+returns-in-None c = let a = c.args in
+    c.halts.ensures ∙ ap (dividing a.c) (sym c.in-None.is)

@@ -4,38 +4,19 @@ use native.Mathlib.Omega.{arith}
 use lib.ListN.{get_or}
 use Rattle.image_result.specs.ImageResult.{done}
 use Rattle.image_header.specs.Scan.{first_refusal}
-use Rattle.image_writer.specs.Writer.{room_result, written_with, judged_write}
+use Rattle.image_writer.specs.Writer.{room_result}
 use Rattle.image_header.proofs.Read.{neither}
 use Rattle.image_writer.proofs.Judged.{room_right}
 use Rattle.image_writer.proofs.fit.Goals as goal
-
-pub judge_room-requires : goal.judge_room-requires
-judge_room-requires c = c.requires
-
-pub returns-then-not-is_done : goal.returns-then-not-is_done
-unfolding judged_write written_with
-returns-then-not-is_done c =
-    let o = c.first_refusal-result in
-    let told = o.ensures ∙ ap (first_refusal c.args.s.result) c.judge_room.ensures in
-    let d = c.is_done in
-    rw (← told, sym d.ensures ∙ c.if-not-is_done.true) c.not_written.ensures
 
 pub overflow_add-result : goal.overflow_add-result
 overflow_add-result c =
     let o = c.first_refusal-result in
     let told = o.ensures ∙ ap (first_refusal c.args.s.result) c.judge_room.ensures in
-    let d = c.is_done in
+    let d = c.is_ok in
     let s = c.args.s in
     let room = room_result s.at (get_or s.numbers 5 0) c.args.blocks c.args.room in
-    let ok = sym (ap done told) ∙ sym d.ensures ∙ c.if-not-is_done.false in
+    let ok = sym (ap done told) ∙ sym d.ensures.value ∙ c.if-not-is_ok.false in
     let r = (room_right s.at (get_or s.numbers 5 0) c.args.blocks c.args.room (neither s.result room ok).1).1 in
     let h = c.ranges.room.fits in
     omega arith
-
-pub returns : goal.returns
-unfolding judged_write written_with
-returns c =
-    let o = c.first_refusal-result in
-    let told = o.ensures ∙ ap (first_refusal c.args.s.result) c.judge_room.ensures in
-    let d = c.is_done in
-    rw (← told, sym d.ensures ∙ c.if-not-is_done.false)

@@ -1,10 +1,11 @@
 -- `image_writer::judge` meets its contract: another format is refused before any number is judged.
+use Rattle.std.specs.Prelude.{Err}
 use borrow.Author.Rules.{rules}
 use mathlib.Core.Path.{◌≡◌, sym, ap, ◌∙◌}
 use mathlib.Core.List.{◌++◌}
 use native.Mathlib.Omega.{arith}
 use lib.ListN.{length}
-use Rattle.image_result.specs.declared.ImageResult.TheVariants.{OutOfRange}
+use Rattle.image_result.specs.declared.ImageFault.TheVariants.{OutOfRange}
 use Rattle.image_header.specs.Rows.{header_count}
 use Rattle.image_header.specs.Scan.{stopped_scan, beside, no_landings}
 use Rattle.image_header.specs.declared.reader.Scan.{Scan}
@@ -22,7 +23,7 @@ returns-then-numbers-format c =
     let p = c.requires in
     record {
       landings_after = ap (beside c.stop.result) p
-          ∙ ap (λ (s : Scan). beside s no_landings) (c.stop.ensures ∙ ap (stopped_scan (OutOfRange 0)) c.begin.ensures)
+          ∙ ap (λ (s : Scan). beside s no_landings) (c.stop.ensures ∙ ap (stopped_scan (Err (OutOfRange 0))) c.begin.ensures)
           ∙ sym (other_format a.format (a.numbers ++ words) (λ q. c.if-numbers-format.true (sym e ∙ q)));
       landings_len = ap length p;
     }

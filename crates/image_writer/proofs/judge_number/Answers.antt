@@ -61,7 +61,7 @@ word_at-block-requires c = let p = c.requires in omega arith
 
 pub overflow_add-s-2 : goal.overflow_add-s-2
 overflow_add-s-2 c =
-    omega (arith, c.size-2.ensures, size_most c.wide.result, c.requires.room)
+    omega (arith, c.size-2.ensures, size_most c.from.result, c.requires.room)
 
 pub judge_landing-requires : goal.judge_landing-requires
 judge_landing-requires c =
@@ -98,7 +98,7 @@ returns c =
     let e : w.result ≡ get_or (a.numbers ++ words) a.row 0 = w.ensures ∙ sym (behind_number a.numbers seven words (a.row - header_count))
     ∙ ap (λ (k : ℕ). get_or (a.numbers ++ words) k 0) q in
     let m : s.at + z.result ≡ s.at + length (number_bytes w.result) =
-    ap (λ (n : ℕ). s.at + n) (z.ensures ∙ ap (λ (v : ℕ). length (number_bytes v)) c.wide.ensures) in
+    ap (λ (n : ℕ). s.at + n) (z.ensures ∙ ap (λ (v : ℕ). length (number_bytes v)) c.from.ensures) in
     record {
       landings_after = given_goes_on (a.numbers ++ words) a.row (beside s l) (beside j.result j.new.landings) w.result (s.at + z.result) comes e m
           (subst (λ (k : ℕ). beside j.result j.new.landings ≡ judged k (beside s l) w.result (s.at + z.result)) q j.ensures.landings_after);

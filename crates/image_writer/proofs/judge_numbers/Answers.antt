@@ -15,7 +15,7 @@ pub loop-row-init : goal.loop-row-init
 unfolding scan
 loop-row-init c =
     let e = c.requires in
-    (rw e (ap (λ (s : Scan). beside s no_landings) c.begin-s.ensures), ap length e, omega arith)
+    (rw e (ap (λ (s : Scan). beside s no_landings) c.begin-s.ensures), ap length e)
 
 pub judge_number-s-requires : goal.judge_number-s-requires
 judge_number-s-requires c =
@@ -23,17 +23,10 @@ judge_number-s-requires c =
     let ns = c.args.numbers ++ words_of c.args.bytes.now in
     let m = at_most 0 (given_numbers ns) (given_near ns) l.row in
     let e = ap (λ (s : Scanned). s.at) l.invariant.0 in
-    let u = c.loop-row-test.true in
     record {
-      room = (omega arith, u);
+      room = (omega arith, omega arith);
       landings_len = l.invariant.1;
     }
-
-pub overflow_add-row : goal.overflow_add-row
-overflow_add-row c = omega arith
-
-pub loop-row-smaller : goal.loop-row-smaller
-loop-row-smaller c = omega arith
 
 pub loop-row-preserved : goal.loop-row-preserved
 loop-row-preserved c =
@@ -41,12 +34,12 @@ loop-row-preserved c =
     let ns = c.args.numbers ++ words_of c.args.bytes.now in
     let j = c.judge_number-s in
     let t = beside j.result j.new.landings in
-    (next_row 0 (given_numbers ns) l.row (beside l.s l.landings) t l.invariant.0 j.ensures.landings_after, j.ensures.length_kept, omega arith)
+    (next_row 0 (given_numbers ns) l.row (beside l.s l.landings) t l.invariant.0 j.ensures.landings_after, j.ensures.length_kept)
 
 pub returns : goal.returns
 returns c =
     let l = c.loop-row in
-    let h : l.row ≡ row_count = omega (arith, c.loop-row-test.false, l.invariant.2) in
+    let h : l.row ≡ row_count = omega arith in
     record {
       landings_after = rw h at l.invariant.0;
       landings_len = l.invariant.1;

@@ -13,13 +13,13 @@ use Rattle.image_writer.proofs.put_numbers.Goals as goal
 
 pub loop-row-init : goal.loop-row-init
 unfolding first_numbers
-loop-row-init c = (refl, refl, omega arith)
+loop-row-init c = (refl, refl)
 
 pub put_number-at-requires : goal.put_number-at-requires
 put_number-at-requires c =
     let l = c.loop-row in
     let ns = c.args.numbers ++ words_of c.args.landings.now in
-    let u : l.row < row_count = c.loop-row-test.true in
+    let u : l.row < row_count = omega arith in
     let e : length l.out ≡ length c.args.out.now = ap length l.invariant.1 ∙ length-sets c.args.out.now 0 (first_numbers ns l.row) in
     let r = room ns l.row row_count u in
     let i = l.invariant.0 in
@@ -30,14 +30,6 @@ put_number-at-requires c =
       row_in_bounds = omega arith;
     }
 
-pub overflow_add-row : goal.overflow_add-row
-unfolding first_numbers
-overflow_add-row c = omega arith
-
-pub loop-row-smaller : goal.loop-row-smaller
-unfolding first_numbers
-loop-row-smaller c = omega arith
-
 pub loop-row-preserved : goal.loop-row-preserved
 loop-row-preserved c =
     let l = c.loop-row in
@@ -46,7 +38,6 @@ loop-row-preserved c =
     let i = l.invariant.0 in (
       (let m = one_more ns l.row in let q = called.ensures.value in rw (add-one l.row) (omega arith)),
       stored ns c.args.out.now l.out called.new.out l.at l.row l.invariant.0 l.invariant.1 called.ensures.out_after,
-      omega arith,
     )
 
 pub shape_of-out : goal.shape_of-out
@@ -57,7 +48,7 @@ shape_of-out c =
 pub returns : goal.returns
 returns c =
     let l = c.loop-row in
-    let h : l.row ≡ row_count = omega (arith, c.loop-row-test.false, l.invariant.2) in
+    let h : l.row ≡ row_count = omega arith in
     record {
       value = rw h at l.invariant.0;
       out_after = rw h at l.invariant.1;

@@ -24,8 +24,8 @@ fit-w-requires c =
     let is : beside j.result j.new.landings ≡ judged_for c.args.format w = j.ensures.landings_after ∙ ap (judged_for c.args.format) same in
     judged_near c.args.format w j.result j.new.landings j.ensures.landings_len is
 
-pub returns-then-not-is_done : goal.returns-then-not-is_done
-returns-then-not-is_done c =
+pub returns-then-not-is_ok : goal.returns-then-not-is_ok
+returns-then-not-is_ok c =
     let ns = c.args.numbers in
     let landings = c.args.landings.now in
     let w = with_landings ns landings in
@@ -38,11 +38,11 @@ returns-then-not-is_done c =
     let f = c.fit-w in
     let t : f.result ≡ written c.args.format w (length l) (length o) =
     f.ensures ∙ write_alone c.args.format w j.result j.new.landings j.ensures.landings_len is (length l) (length o) in
-    let d = c.is_done in
+    let d = c.is_ok in
     record {
       value = t;
-      out_after = left_alone c.args.format w l o (answered c.args.format w l o f.result t d.result false d.ensures
-          (c.if-not-is_done.true));
+      out_after = left_alone c.args.format w l o (answered c.args.format w l o f.result t d.result false d.ensures.value
+          (c.if-not-is_ok.true));
     }
 
 pub put_image-requires-clause-have_forms : goal.put_image-requires-clause-have_forms
@@ -59,8 +59,8 @@ put_image-requires-clause-have_forms c =
     let f = c.fit-w in
     let t : f.result ≡ written c.args.format w (length l) (length o) =
     f.ensures ∙ write_alone c.args.format w j.result j.new.landings j.ensures.landings_len is (length l) (length o) in
-    let d = c.is_done in
-    let ok = answered c.args.format w l o f.result t d.result true d.ensures (c.if-not-is_done.false) in
+    let d = c.is_ok in
+    let ok = answered c.args.format w l o f.result t d.result true d.ensures.value (c.if-not-is_ok.false) in
     rw same (have_forms c.args.format w l (length o) ok)
 
 pub put_image-requires-clause-blocks_in_bounds : goal.put_image-requires-clause-blocks_in_bounds
@@ -77,8 +77,8 @@ put_image-requires-clause-blocks_in_bounds c =
     let f = c.fit-w in
     let t : f.result ≡ written c.args.format w (length l) (length o) =
     f.ensures ∙ write_alone c.args.format w j.result j.new.landings j.ensures.landings_len is (length l) (length o) in
-    let d = c.is_done in
-    let ok = answered c.args.format w l o f.result t d.result true d.ensures (c.if-not-is_done.false) in
+    let d = c.is_ok in
+    let ok = answered c.args.format w l o f.result t d.result true d.ensures.value (c.if-not-is_ok.false) in
     rw same (has_room c.args.format w l (length o) ok)
 
 pub returns : goal.returns
@@ -95,8 +95,8 @@ returns c =
     let f = c.fit-w in
     let t : f.result ≡ written c.args.format w (length l) (length o) =
     f.ensures ∙ write_alone c.args.format w j.result j.new.landings j.ensures.landings_len is (length l) (length o) in
-    let d = c.is_done in
-    let ok = answered c.args.format w l o f.result t d.result true d.ensures (c.if-not-is_done.false) in
+    let d = c.is_ok in
+    let ok = answered c.args.format w l o f.result t d.result true d.ensures.value (c.if-not-is_ok.false) in
     record {
       value = t;
       out_after = c.put_image.ensures ∙ ap (λ (n : List ℕ). overlaid (image_of n l) o) same ∙ put_there c.args.format w l o ok;

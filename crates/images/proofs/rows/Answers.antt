@@ -3,29 +3,27 @@ use Rattle.std.proofs.Common.{ℕ, ◌+◌, refl, sym, ap, ◌∙◌, arith}
 use Rattle.text_hex.specs.Lines.{lines_of}
 use Rattle.text_hex.proofs.Lines.{ends, goes_on}
 use Rattle.images.proofs.rows.Goals as goal
-use Rattle.images.proofs.rows.Goals.{then-text-i-eq-LINE_END+in_ok-row, else-text-i-eq-LINE_END}
+use Rattle.images.proofs.rows.Goals.{then-byte-eq-LINE_END+in_ok-row, else-byte-eq-LINE_END}
 
 pub loop-i-init : goal.loop-i-init
 unfolding lines_of
-loop-i-init g c = record { begins = omega arith; within = omega arith; few = omega arith; counted = refl }
+loop-i-init g c = record { begins = omega arith; few = omega arith; counted = refl }
 
 pub loop-i-preserved : goal.loop-i-preserved
 loop-i-preserved g c =
     let v = c.loop-i in
     let text = c.args.text.now in
-    elim c.if-text-i-eq-LINE_END.branch [
-      | then-text-i-eq-LINE_END+in_ok-row w ↦
+    elim c.if-byte-eq-LINE_END.branch [
+      | then-byte-eq-LINE_END+in_ok-row w ↦
           record {
             begins = omega arith;
-            within = omega arith;
             few = omega arith;
-            counted = w.n-is ∙ ap (λ (k : ℕ). k + 1) v.invariant.counted ∙ sym (ends text v.i w.if-text-i-eq-LINE_END.true);
+            counted = w.n-is ∙ ap (λ (k : ℕ). k + 1) v.invariant.counted ∙ sym (ends text v.i w.if-byte-eq-LINE_END.true);
           }
-      | else-text-i-eq-LINE_END w ↦
+      | else-byte-eq-LINE_END w ↦
           record {
             begins = omega arith;
-            within = omega arith;
             few = omega arith;
-            counted = w.n-is ∙ v.invariant.counted ∙ sym (goes_on text v.i w.if-text-i-eq-LINE_END.false);
+            counted = w.n-is ∙ v.invariant.counted ∙ sym (goes_on text v.i w.if-byte-eq-LINE_END.false);
           }
     ]

@@ -3,18 +3,17 @@ use Rattle.std.proofs.Common.{ℕ, ◌+◌, ◌*◌, ◌%◌, refl, sym, ap, ◌
 use Rattle.images.specs.Part.{check_of}
 use Rattle.images.proofs.summed.Goals as goal
 
-pub loop-i-init : goal.loop-i-init
+pub loop-byte-init : goal.loop-byte-init
 unfolding check_of
-loop-i-init c = record { within = omega arith; small = omega arith; summed = refl }
+loop-byte-init c = record { small = omega arith; summed = refl }
 
-pub loop-i-preserved : goal.loop-i-preserved
+pub loop-byte-preserved : goal.loop-byte-preserved
 unfolding check_of
-loop-i-preserved c =
-    let v = c.loop-i in
+loop-byte-preserved c =
+    let v = c.loop-byte in
     let bytes = c.args.bytes.now in record {
-      within = omega arith;
       small = omega arith;
       summed = c.next-check.ensures
-          ∙ ap (λ (k : ℕ). (257 * k + get_or bytes v.i 0) % 65521) v.invariant.summed
-          ∙ ap (check_of bytes) (sym (add-one v.i));
+          ∙ ap (λ (k : ℕ). (257 * k + get_or bytes v.byte-index 0) % 65521) v.invariant.summed
+          ∙ ap (check_of bytes) (sym (add-one v.byte-index));
     }

@@ -1,5 +1,6 @@
 -- What is shown of every command, and how the forms of effects come by it: the outcome is in the flow, a pending time goes with a wait and is not
 -- due, a halt has its reason, good values stay good, the notes of BIAS stay, and a move is asked for only where one starts.
+use Rattle.std.specs.Prelude.{Option, Some, None}
 use Prim.Native.Nat.{ℕ, ◌+◌, ◌≤◌}
 use mathlib.Core.Path.{◌≡◌, refl, sym, ap, ◌∙◌}
 use mathlib.Core.Bool.{Bool, true, false, not, ◌||◌, cond, or-true}
@@ -16,7 +17,6 @@ use Rattle.limits.specs.Limits.{most_time, longest_wait}
 use Rattle.num_arith.specs.Wrap.{wrap}
 use Rattle.num_arith.specs.Ops.{quotient, eq_z}
 use Rattle.num_arith.proofs.Cut.{wrap_fits}
-use Rattle.num_arith.specs.declared.Quotient.TheVariants.{Value, ByZero}
 use Rattle.logic.proofs.Choice.{clash, neither, or_is}
 use Rattle.command_table.specs.Rows.{row_of}
 use Rattle.command_operands.specs.declared.Command.{Command}
@@ -38,7 +38,7 @@ use Rattle.machine.specs.declared.Cause.{Cause}
 use Rattle.machine.specs.declared.Cause.TheVariants.{ZeroDivisor, BadContent, NoLanding}
 use Rattle.machine.specs.declared.Effect.{Effect}
 use Rattle.machine.specs.declared.Request.{Request}
-use Rattle.machine.specs.declared.Request.TheVariants.{None, Stop}
+use Rattle.machine.specs.declared.Request.TheVariants.{Stop}
 use Rattle.machine.specs.declared.Outcome.{Outcome}
 use Rattle.machine.specs.declared.Outcome.TheVariants.{GoOn, Stay, Jump, Call, Return, Start, Restart, End, Halt}
 use Rattle.machine.proofs.Rows.Waits.{begins, goes_on}
@@ -200,7 +200,7 @@ module _ (ls : List ℕ) (k : ℕ) (c : Command) (g : Context) (v : Values) wher
   halts_law q m r = flows_law (Halt q) (halts_by q m r)
 
   -- the values change but for the notes, and the task goes on
-  pub effect_law : (w : Values) (m : Request) → w.notes ≡ v.notes
+  pub effect_law : (w : Values) (m : Option Request) → w.notes ≡ v.notes
       → (is_move m ≡ true → (is_move_code k ≡ true) × (started g v.motion v.notes ≡ true)) → In GoOn
       → ((count : ℕ) → Fit count c → GoodValues v → GoodValues w) → Law ls k c g v (effect w m GoOn)
   effect_law w m n s further h = record { outcome = simply GoOn refl further; values = h; still = λ i. clash (sym i); notes = n; move = s }
@@ -209,8 +209,8 @@ module _ (ls : List ℕ) (k : ℕ) (c : Command) (g : Context) (v : Values) wher
   sets_law w n further h = effect_law w None n (λ i. clash (sym i)) further h
 
   -- a stop
-  pub stop_law : (mode deceleration : ℕ) → In GoOn → Law ls k c g v (effect v (Stop mode deceleration) GoOn)
-  stop_law mode deceleration further = effect_law v (Stop mode deceleration) refl (λ i. clash (sym i)) further (λ _ _ d. d)
+  pub stop_law : (mode deceleration : ℕ) → In GoOn → Law ls k c g v (effect v (Some (Stop mode deceleration)) GoOn)
+  stop_law mode deceleration further = effect_law v (Some (Stop mode deceleration)) refl (λ i. clash (sym i)) further (λ _ _ d. d)
 
   -- the axis changes
   pub axis_law : (put : Axis → Axis) → In GoOn → ((count : ℕ) → Fit count c → GoodValues v → GoodAxis (put (axis_of first_axis v)))
@@ -226,8 +226,8 @@ module _ (ls : List ℕ) (k : ℕ) (c : Command) (g : Context) (v : Values) wher
 
   pub moves_law : (kind : Axis → Request) → is_move_code k ≡ true → In GoOn → In (Stay 0 0) → Law ls k c g v (moves kind g c v)
   moves_law kind code further again =
-      either_effect (started g v.motion v.notes) (effect (with_mark 0 v) (kind (axis_of first_axis v)) GoOn) (flows v (Stay 0 0))
-      (λ s. effect_law (with_mark 0 v) (kind (axis_of first_axis v)) refl (λ _. (code, s)) further (λ _ _ d. mark_good v d 0 (omega arith)))
+      either_effect (started g v.motion v.notes) (effect (with_mark 0 v) (Some (kind (axis_of first_axis v))) GoOn) (flows v (Stay 0 0))
+      (λ s. effect_law (with_mark 0 v) (Some (kind (axis_of first_axis v))) refl (λ _. (code, s)) further (λ _ _ d. mark_good v d 0 (omega arith)))
       (λ _. flows_law (Stay 0 0) (stays_on again))
 
   -- on, or the same again
@@ -261,7 +261,7 @@ module _ (ls : List ℕ) (k : ℕ) (c : Command) (g : Context) (v : Values) wher
   unfolding divides quotient
   divides_law a b further stops reason = go (eq_z b (pos 0)) refl
     where
-      go : (t : Bool) → eq_z b (pos 0) ≡ t → Law ls k c g v (divides c (cond t ByZero (Value (wrap w32 (quot_z a b)))) v)
+      go : (t : Bool) → eq_z b (pos 0) ≡ t → Law ls k c g v (divides c (cond t None (Some (wrap w32 (quot_z a b)))) v)
       go true e = halts_law ZeroDivisor stops (reason (same_number b 0 e))
       go false e = assigns_law (wrap w32 (quot_z a b)) further (λ _ _ _. wrap_fits w32 (quot_z a b))
 

@@ -1,4 +1,5 @@
 -- What 5 to 8 and 23 promise of the command of a block that they let pass: its operands are in the ranges of its row, and numbers of their width.
+use Rattle.std.specs.Prelude.{Ok, Err}
 use Prim.Native.Nat.{ℕ, ◌+◌, ◌*◌, ◌%◌, ◌<◌, ◌≤◌}
 use mathlib.Core.Path.{◌≡◌, refl}
 use mathlib.Core.Bool.{Bool, true, false, cond}
@@ -17,9 +18,9 @@ use Rattle.command_table.specs.declared.Layout.TheVariants.{Bare, Byte, Word, Pa
 use Rattle.command_operands.specs.Operands.{byte_at, word_at, value_at, laid_out, operands, unused_zero}
 use Rattle.command_judge.specs.BlockFault.{block_fault, row_fault, command_fault, operand_fault, if_present, block_fault_number, in_range, device_presence}
 use Rattle.command_operands.specs.declared.Command.{Command}
-use Rattle.command_judge.specs.declared.BlockFault.TheVariants.{Fine, NotCarried, OutOfRange, NotZero}
-use Rattle.drive.specs.declared.Presence.{Presence}
-use Rattle.drive.specs.declared.Presence.TheVariants as presence
+use Rattle.command_judge.specs.declared.BlockFault.TheVariants.{NotCarried, OutOfRange, NotZero}
+use Rattle.drive.specs.Types.{Presence}
+use Rattle.drive.specs.declared.Absence.TheVariants as presence
 use Rattle.machine.proofs.Rows.Forms.{Ranged, Fit}
 
 -- every byte of a block, and what is read past its end, is below 256
@@ -73,20 +74,20 @@ module _ (r : Row) (h : Header) (b : List ℕ) (c : Command) where
   unfolding command_fault operand_fault
   judged e = present (device_presence r.device h.drive c.x c.y) e
     where
-      range : (t : Bool) → block_fault_number (cond t (cond (unused_zero r.layout b) Fine NotZero) OutOfRange) ≡ 0 → t ≡ true
+      range : (t : Bool) → block_fault_number (cond t (cond (unused_zero r.layout b) (Ok tt) (Err NotZero)) (Err OutOfRange)) ≡ 0 → t ≡ true
       range true i = refl
       range false i = absurd (omega arith)
 
       present : (p : Presence) → block_fault_number (if_present p (operand_fault r h.count b c)) ≡ 0 → in_range r.ranges h.count c ≡ true
-      present presence.Present j = range (in_range r.ranges h.count c) j
-      present presence.BoardMissing j = absurd (omega arith)
-      present presence.Never j = absurd (omega arith)
+      present (Ok _) j = range (in_range r.ranges h.count c) j
+      present (Err presence.BoardMissing) j = absurd (omega arith)
+      present (Err presence.Never) j = absurd (omega arith)
 
 pub in_ranges : (h : Header) (b : List ℕ) → block_fault_number (block_fault h b) ≡ 0 → Ranged h.count (operands b)
 unfolding block_fault row_fault operands
 in_ranges h b e = rw ((laid (row_of (byte_at b 0)).layout).code b) (go (row_of (byte_at b 0)).carried e)
   where
-    go : (t : Bool) → block_fault_number (cond t (command_fault (row_of (byte_at b 0)) h b (laid_out (row_of (byte_at b 0)).layout b)) NotCarried) ≡ 0
+    go : (t : Bool) → block_fault_number (cond t (command_fault (row_of (byte_at b 0)) h b (laid_out (row_of (byte_at b 0)).layout b)) (Err NotCarried)) ≡ 0
         → in_range (row_of (byte_at b 0)).ranges h.count (laid_out (row_of (byte_at b 0)).layout b) ≡ true
     go false i = absurd (omega arith)
     go true i = judged (row_of (byte_at b 0)) h b (laid_out (row_of (byte_at b 0)).layout b) i

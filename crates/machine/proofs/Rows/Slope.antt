@@ -1,5 +1,6 @@
 -- When a move starts, in document 01's words: the start mark stands, or the start input is high and was low at the preceding BIAS step. Then, and only then,
 -- a move is asked for. And what a 58 comes to.
+use Rattle.std.specs.Prelude.{Option, Some, None}
 use Prim.Native.Nat.{ℕ}
 use mathlib.Core.Path.{◌≡◌, refl, sym, ◌∙◌}
 use mathlib.Core.Bool.{Bool, true, false, ◌&&◌, ◌||◌, not, cond}
@@ -19,7 +20,7 @@ use Rattle.machine.specs.Engine.{is_move}
 use Rattle.machine.specs.StepRule.{is_move_code, asks_motion}
 use Rattle.machine.specs.declared.Effect.{Effect}
 use Rattle.machine.specs.declared.Request.{Request}
-use Rattle.machine.specs.declared.Request.TheVariants.{None, MoveTo, MoveBy, Forward, Backward, Stop}
+use Rattle.machine.specs.declared.Request.TheVariants.{MoveTo, MoveBy, Forward, Backward, Stop}
 use Rattle.machine.specs.declared.Outcome.TheVariants.{GoOn, Stay}
 use Rattle.machine.proofs.Rows.EveryLaw.{every_law}
 
@@ -50,13 +51,13 @@ started_exactly g v = (starts_for g v, from)
 
 -- ---- a move is asked for exactly by a move that starts
 
-move_asks : (m : Request) → is_move m ≡ true → asks_motion m ≡ true
+move_asks : (m : Option Request) → is_move m ≡ true → asks_motion m ≡ true
 move_asks None e = clash (sym e)
-move_asks (MoveTo axis) e = refl
-move_asks (MoveBy axis) e = refl
-move_asks (Forward axis) e = refl
-move_asks (Backward axis) e = refl
-move_asks (Stop mode deceleration) e = clash (sym e)
+move_asks (Some (MoveTo axis)) e = refl
+move_asks (Some (MoveBy axis)) e = refl
+move_asks (Some (Forward axis)) e = refl
+move_asks (Some (Backward axis)) e = refl
+move_asks (Some (Stop mode deceleration)) e = clash (sym e)
 
 module _ (inputs ls : List ℕ) (g : Context) (c : Command) (v : Values) where
   abbrev e : Effect
@@ -65,7 +66,7 @@ module _ (inputs ls : List ℕ) (g : Context) (c : Command) (v : Values) where
   -- a command of one of the four codes moves the axis in its own way, or waits
   record ByMove : Type 0 where
     kind : Axis → Request
-    move : (a : Axis) → is_move (kind a) ≡ true
+    move : (a : Axis) → is_move (Some (kind a)) ≡ true
     effect : e ≡ moves kind g c v
 
   by_move : is_move_code c.code ≡ true → ByMove
@@ -100,9 +101,9 @@ module _ (inputs ls : List ℕ) (g : Context) (c : Command) (v : Values) where
       same : ByMove → is_move e.request ≡ asks_motion e.request
       same b = rw b.effect (go (started g v.motion v.notes))
         where
-          go : (t : Bool) → is_move (cond t (effect (with_mark 0 v) (b.kind (axis_of first_axis v)) GoOn) (flows v (Stay 0 0))).request
-              ≡ asks_motion (cond t (effect (with_mark 0 v) (b.kind (axis_of first_axis v)) GoOn) (flows v (Stay 0 0))).request
-          go true = b.move (axis_of first_axis v) ∙ sym (move_asks (b.kind (axis_of first_axis v)) (b.move (axis_of first_axis v)))
+          go : (t : Bool) → is_move (cond t (effect (with_mark 0 v) (Some (b.kind (axis_of first_axis v))) GoOn) (flows v (Stay 0 0))).request
+              ≡ asks_motion (cond t (effect (with_mark 0 v) (Some (b.kind (axis_of first_axis v))) GoOn) (flows v (Stay 0 0))).request
+          go true = b.move (axis_of first_axis v) ∙ sym (move_asks (Some (b.kind (axis_of first_axis v))) (b.move (axis_of first_axis v)))
           go false = refl
 
   -- ---- 58

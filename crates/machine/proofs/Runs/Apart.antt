@@ -1,5 +1,6 @@
 -- What the statements of specs/StepRule.antt, Alike.antt and Run.antt give when they are taken apart: one way more, or one thing less, in any of them is
 -- noticed here, or, of a reason to halt, in Halts.antt.
+use Rattle.std.specs.Prelude.{None, Ok, Err}
 use Prim.Native.Nat.{ℕ, ◌+◌, ◌<◌, ◌≤◌}
 use mathlib.Core.Path.{◌≡◌, refl, sym, ap, ◌∙◌}
 use mathlib.Core.Bool.{Bool, true, false, ◌&&◌, cond, and-false}
@@ -15,7 +16,7 @@ use Rattle.walk_flow.specs.Terms.{terms_of}
 use Rattle.image_header.specs.Scan.{header_of, blocks_of}
 use Rattle.logic.proofs.Choice.{clash}
 use Rattle.walk_fault.specs.Fault.{fault_number}
-use Rattle.walk_fault.specs.declared.Fault.{Fault}
+use Rattle.walk_fault.specs.Fault.{FaultResult}
 use Rattle.walk.specs.Graph.{In}
 use Rattle.walk.specs.Walk.{starts_anew}
 use Rattle.state.specs.State.{runs, ended, halted, task_at}
@@ -32,9 +33,8 @@ use Rattle.machine.specs.Run.{SameHanded, Permitted}
 use Rattle.machine.specs.StepRule.{without_latest, counts, calls_after, Past, past_after, is_move_code, asks_motion, wait_over, level_noted, command_of}
 use Rattle.machine.specs.StepRule.{executed, content_of, Behind, Reason, Stopped, StepRule, EachStep}
 use Rattle.machine.specs.declared.Cause.{Cause}
-use Rattle.machine.specs.declared.Request.TheVariants.{None}
-use Rattle.machine.specs.declared.Answer.{Answer}
-use Rattle.machine.specs.declared.Answer.TheVariants.{Done, NoTask, Inputs as BadInputs, NotRunning, Differs, Halted}
+use Rattle.machine.specs.Answers.{Answer}
+use Rattle.machine.specs.declared.NotDone.TheVariants.{NoTask, Inputs as BadInputs, NotRunning, Differs, Halted}
 use Rattle.machine.specs.declared.StepOut.{StepOut}
 
 -- ---- part 1
@@ -86,7 +86,7 @@ alike_is s m e = (values_are s.values m.values e.values, λ t l r. thread_is (ta
 
 pub permitted_fits : (image : List ℕ) (t : ℕ) (task : Task) → Permitted image t task → block_fits (terms_of image) (blocks_of image) t task ≡ true
 permitted_fits image t task p =
-    let e = ap (λ (f : Fault). eqb (fault_number f) 0) p.fine in
+    let e = ap (λ (f : FaultResult). eqb (fault_number f) 0) p.fine in
     λ ι. eqb (p.sound ι) 0 && e ι
 
 pub permitted_at : (image : List ℕ) (t : ℕ) (task : Task) → Permitted image t task → (task.block < (header_of image).header.count) × (task.depth ≤ most_depth)
@@ -95,13 +95,13 @@ permitted_at image t task p = (p.block, p.depth)
 -- ---- parts 4 to 6
 
 -- a command counts as executed where its step is answered 0, and nowhere else
-pub executed_is : (a : Answer) → executed a ≡ true → a ≡ Done
-executed_is Done e = refl
-executed_is (NoTask t) e = clash (sym e)
-executed_is (BadInputs n) e = clash (sym e)
-executed_is NotRunning e = clash (sym e)
-executed_is (Differs p) e = clash (sym e)
-executed_is (Halted q p) e = clash (sym e)
+pub executed_is : (a : Answer) → executed a ≡ true → a ≡ Ok tt
+executed_is (Ok _) e = refl
+executed_is (Err (NoTask t)) e = clash (sym e)
+executed_is (Err (BadInputs n)) e = clash (sym e)
+executed_is (Err NotRunning) e = clash (sym e)
+executed_is (Err (Differs p)) e = clash (sym e)
+executed_is (Err (Halted q p)) e = clash (sym e)
 
 pub behind_is : (b c : ℕ) (bs : List ℕ) → Behind (b ∷ bs) c → c ≡ b + 1
 behind_is b _ bs Behind.latest = refl
@@ -114,7 +114,7 @@ behind_some Behind.latest e = let n = ap length e in omega arith
 pub record ByRefusal (image : List ℕ) (s : State) (x : Inputs) : Type 0 where
   pub cause : Cause
   pub reason : Reason (terms_held s).landings (command_of image s x) s.values (task_at s x.task).time cause
-  pub answer : (step image s x).answer ≡ Halted cause (point_of x.task (task_at s x.task))
+  pub answer : (step image s x).answer ≡ Err (Halted cause (point_of x.task (task_at s x.task)))
   pub values : (step image s x).state.values ≡ level_noted x.task x.start s.values
   pub task : task_at (step image s x).state x.task ≡ stopped halted (task_at s x.task)
   pub request : (step image s x).request ≡ None
@@ -123,7 +123,7 @@ pub record ByRefusal (image : List ℕ) (s : State) (x : Inputs) : Type 0 where
 pub record ByItself (image : List ℕ) (s : State) (x : Inputs) : Type 0 where
   pub code : (command_of image s x).code ≡ 0x51
   pub mode : (command_of image s x).x ≡ x.task + 1
-  pub answer : (step image s x).answer ≡ Done
+  pub answer : (step image s x).answer ≡ Ok tt
   pub task : task_at (step image s x).state x.task ≡ stopped ended (task_at s x.task)
 
 pub how : {image : List ℕ} {s : State} {x : Inputs} → Stopped image s x → ByRefusal image s x ⊎ ByItself image s x

@@ -1,4 +1,5 @@
 -- A step keeps good states, whatever the image and the inputs are: 17 lets a command pass only where 5 to 12 and 23 do.
+use Rattle.std.specs.Prelude.{Err, Ok}
 use Prim.Native.Nat.{ℕ, zero, suc, ◌+◌, ◌-◌, ◌<◌, ◌≤◌}
 use mathlib.Core.Path.{◌≡◌, refl, sym, ◌∙◌, subst}
 use mathlib.Core.Bool.{Bool, true, false, ◌&&◌, cond}
@@ -21,7 +22,6 @@ use Rattle.walk_flow.specs.Flow.{flow_of}
 use Rattle.walk_fault.proofs.NoFault.{no_fault}
 use Rattle.walk_fault.specs.Fault.{fault_number}
 use Rattle.walk_point.specs.declared.Point.{Point}
-use Rattle.walk_fault.specs.declared.Fault.TheVariants.{Fine}
 use Rattle.walk.specs.Blocks.{block_at, command_at, fault_at, block_number}
 use Rattle.walk.specs.Graph.{In}
 use Rattle.walk.specs.Successors.{leads_to as walked, flow_at, successors, WalkBounds}
@@ -40,8 +40,8 @@ use Rattle.machine.specs.Engine.{block_fits, wait_fits, fits, refuse, task_step,
 use Rattle.machine.specs.declared.StepOut.{StepOut}
 use Rattle.machine.specs.Allows.{Allows}
 use Rattle.machine.specs.Theorem.{KeepsGood}
-use Rattle.machine.specs.declared.Answer.{Answer}
-use Rattle.machine.specs.declared.Answer.TheVariants.{NoTask, Inputs as BadInputs, NotRunning, Differs}
+use Rattle.machine.specs.Answers.{Answer}
+use Rattle.machine.specs.declared.NotDone.TheVariants.{NoTask, Inputs as BadInputs, NotRunning, Differs}
 use Rattle.machine.specs.declared.Effect.{Effect}
 use Rattle.machine.specs.declared.Outcome.{Outcome}
 use Rattle.machine.specs.declared.Outcome.TheVariants.{GoOn, Stay, Jump, Call, Return, Start, Restart, End, Halt}
@@ -233,7 +233,7 @@ module _ (image : List ℕ) (bytes : Bytes image) (s : State) (g : GoodState s) 
       let b = both (block_fits terms bs t own) (wait_fits bs own) a.1 in
       both (eqb (block_number terms bs own.block) 0) (eqb (fault_number (fault_at terms bs p)) 0) b.0
 
-  fault_free : fault_at terms bs p ≡ Fine
+  fault_free : fault_at terms bs p ≡ Ok tt
   fault_free = no_fault (fault_at terms bs p) (eqb-true _ 0 block_fits_lem.1)
 
   passed : Passes terms c p
@@ -323,10 +323,10 @@ keeps_good image bytes s g x =
     (λ _. either (eqb (task_at s x.task).status runs) _ _
     (λ j. either (fits image (terms_held s) x.task (task_at s x.task)) _ _
     (λ f. performed_good image bytes s g x (ltb-true _ _ i) (eqb-true _ _ j) f)
-    (stays (Differs (point_of x.task (task_at s x.task)))))
-    (stays NotRunning))
-    (stays (BadInputs (length x.levels))))
-    (stays (NoTask x.task))
+    (stays (Err (Differs (point_of x.task (task_at s x.task))))))
+    (stays (Err NotRunning)))
+    (stays (Err (BadInputs (length x.levels)))))
+    (stays (Err (NoTask x.task)))
   where
     stays : (a : Answer) → GoodState (refuse s a).state
     stays a = subst GoodState (sym (refused_alike s a)) g

@@ -1,5 +1,6 @@
 -- What a step leaves of the values: one that is refused leaves all as it is, any other takes the notes of BIAS as the reference machine does; and the note of
 -- a move is what the steps before it say.
+use Rattle.std.specs.Prelude.{Option, Some, None}
 use Prim.Native.Nat.{ℕ, ◌≤◌}
 use mathlib.Core.Path.{◌≡◌, refl, ap, ◌∙◌}
 use mathlib.Core.Bool.{Bool, true, false, ◌&&◌, not, cond}
@@ -19,26 +20,26 @@ use Rattle.machine.specs.Effect.{bit}
 use Rattle.machine.specs.Engine.{is_move, is_halt, moved_after, notes_after, answer_to, performed, refuse}
 use Rattle.machine.specs.Reference.{moving, move_note, keeps}
 use Rattle.machine.specs.StepRule.{executed, level_noted}
-use Rattle.machine.specs.declared.Answer.{Answer}
+use Rattle.machine.specs.Answers.{Answer}
 use Rattle.machine.specs.declared.Cause.{Cause}
 use Rattle.machine.specs.declared.Effect.{Effect}
 use Rattle.machine.specs.declared.Request.{Request}
-use Rattle.machine.specs.declared.Request.TheVariants.{None, MoveTo, MoveBy, Forward, Backward, Stop}
+use Rattle.machine.specs.declared.Request.TheVariants.{MoveTo, MoveBy, Forward, Backward, Stop}
 use Rattle.machine.specs.declared.Outcome.{Outcome}
 use Rattle.machine.specs.declared.Outcome.TheVariants.{GoOn, Stay, Jump, Call, Return, Start, Restart, End, Halt}
 use Rattle.machine.proofs.Rows.InRange.{bit_level, level_level}
 
 -- ---- the engine and the reference machine note alike
 
-moving_is : (m : Request) → bit (is_move m) ≡ moving m
+moving_is : (m : Option Request) → bit (is_move m) ≡ moving m
 moving_is None = refl
-moving_is (MoveTo axis) = refl
-moving_is (MoveBy axis) = refl
-moving_is (Forward axis) = refl
-moving_is (Backward axis) = refl
-moving_is (Stop mode deceleration) = refl
+moving_is (Some (MoveTo axis)) = refl
+moving_is (Some (MoveBy axis)) = refl
+moving_is (Some (Forward axis)) = refl
+moving_is (Some (Backward axis)) = refl
+moving_is (Some (Stop mode deceleration)) = refl
 
-moved_is : (o : Outcome) (m : Request) (before : ℕ) → moved_after o m before ≡ move_note o before (moving m)
+moved_is : (o : Outcome) (m : Option Request) (before : ℕ) → moved_after o m before ≡ move_note o before (moving m)
 moved_is GoOn m before = moving_is m
 moved_is (Stay time turns) m before = moving_is m
 moved_is (Jump a) m before = moving_is m
@@ -64,7 +65,7 @@ refused_alike s a = refl
 -- ---- the note of a move and what came before
 
 -- a halt leaves the note of a move
-pub level_noted_lem : (t start : ℕ) (q : Cause) (m : Request) (v : Values) → with_notes (notes_after t start (Halt q) m v.notes) v ≡ level_noted t start v
+pub level_noted_lem : (t start : ℕ) (q : Cause) (m : Option Request) (v : Values) → with_notes (notes_after t start (Halt q) m v.notes) v ≡ level_noted t start v
 level_noted_lem t start q m v = go (eqb t bias)
   where
     go : (b : Bool) → with_notes (cond b (record { level = level start; moved = v.notes.moved }) v.notes) v ≡ record {
@@ -104,7 +105,7 @@ moved_told t start e v p was i j = rw (executed_is_no_halt e.outcome p) (go (eqb
     go false h = before
 
 -- another task's step leaves the notes
-pub notes_left : (t start : ℕ) (o : Outcome) (m : Request) (before : Notes) → (t ≡ bias → ⊥) → notes_after t start o m before ≡ before
+pub notes_left : (t start : ℕ) (o : Outcome) (m : Option Request) (before : Notes) → (t ≡ bias → ⊥) → notes_after t start o m before ≡ before
 notes_left t start o m before n = rw (ne_eqb t bias n) refl
 
 pub bit_clear : (b : Bool) → eqb (bit b) 0 ≡ not b
@@ -113,7 +114,7 @@ bit_clear false = refl
 
 -- ---- what is noted is good
 
-pub noted_good : (t start : ℕ) (o : Outcome) (m : Request) (v : Values) → GoodValues v → GoodValues (with_notes (notes_after t start o m v.notes) v)
+pub noted_good : (t start : ℕ) (o : Outcome) (m : Option Request) (v : Values) → GoodValues v → GoodValues (with_notes (notes_after t start o m v.notes) v)
 noted_good t start o m v g = notes_good v g _ (go (eqb t bias))
   where
     moved : (h : Bool) → cond h v.notes.moved (bit (is_move m)) ≤ most_level

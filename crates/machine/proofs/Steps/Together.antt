@@ -1,4 +1,5 @@
 -- What a step comes to in a run, for the engine and the reference machine at once: both refuse it, or both execute the command.
+use Rattle.std.specs.Prelude.{Ok, Err}
 use Prim.Native.Nat.{ℕ, zero, suc, ◌<◌}
 use mathlib.Core.Path.{◌≡◌, refl, sym, ap, subst, ◌∙◌}
 use mathlib.Core.Bool.{Bool, true, false, cond}
@@ -37,8 +38,8 @@ use Rattle.machine.specs.Reference.{Thread, Machine, idle, landing_blocks, does,
 use Rattle.machine.specs.Alike.{returns_of, SameTask}
 use Rattle.machine.specs.StepRule.{command_of, executed}
 use Rattle.machine.specs.Allows.{Allows}
-use Rattle.machine.specs.declared.Answer.{Answer}
-use Rattle.machine.specs.declared.Answer.TheVariants.{Done, NoTask, Inputs as BadInputs, NotRunning}
+use Rattle.machine.specs.Answers.{Answer}
+use Rattle.machine.specs.declared.NotDone.TheVariants.{NoTask, Inputs as BadInputs, NotRunning}
 use Rattle.machine.specs.declared.Effect.{Effect}
 use Rattle.machine.specs.declared.Outcome.{Outcome}
 use Rattle.machine.specs.declared.Outcome.TheVariants.{GoOn, Stay, Jump, Call, Return, Start, Restart, End, Halt}
@@ -193,7 +194,7 @@ module _ (image : List ℕ) where
 
     tries_is : tries m x p e ≡ does m x p e
     unfolding tries
-    tries_is = ap (λ (b : Bool). cond b (stands_still m Done) (does m x p e)) (not_lost e.outcome in_flow)
+    tries_is = ap (λ (b : Bool). cond b (stands_still m (Ok tt)) (does m x p e)) (not_lost e.outcome in_flow)
 
     acts_is : acts image m x p ≡ does m x p e
     unfolding acts
@@ -220,18 +221,18 @@ module _ (image : List ℕ) where
 
   module _ (ok : Accepted image) (s : State) (m : Machine) (g : Agree s m) (x : Inputs) where
     running_case : (l : x.task < task_count) (a : Bool) → eqb (task_at s x.task).status runs ≡ a → step image s x ≡ task_step image s x (task_at s x.task)
-        → reference_step image m x ≡ cond a (acts image m x (thread_of m x)) (stands_still m NotRunning) → Case s m x
+        → reference_step image m x ≡ cond a (acts image m x (thread_of m x)) (stands_still m (Err NotRunning)) → Case s m x
     unfolding task_step
     running_case l true e i j =
         ran_here ok s m g x l (eqb-true _ runs e) (i ∙ rw (e, fits_here ok s m g x l (eqb-true _ runs e))) j
-    running_case l false e i j = Case.refused NotRunning refl (i ∙ rw e) j
+    running_case l false e i j = Case.refused (Err NotRunning) refl (i ∙ rw e) j
 
     inputs_case : (l : x.task < task_count) (a : Bool) → eqb (length x.levels) inputs_length ≡ a
-        → step image s x ≡ cond a (task_step image s x (task_at s x.task)) (refuse s (BadInputs (length x.levels)))
-        → reference_step image m x ≡ cond a (cond (thread_of m x).runs (acts image m x (thread_of m x)) (stands_still m NotRunning))
-        (stands_still m (BadInputs (length x.levels))) → Case s m x
+        → step image s x ≡ cond a (task_step image s x (task_at s x.task)) (refuse s (Err (BadInputs (length x.levels))))
+        → reference_step image m x ≡ cond a (cond (thread_of m x).runs (acts image m x (thread_of m x)) (stands_still m (Err NotRunning)))
+        (stands_still m (Err (BadInputs (length x.levels)))) → Case s m x
     inputs_case l true e i j = running_case l (eqb (task_at s x.task).status runs) refl i (j ∙ rw (g.both.same x.task l).running refl)
-    inputs_case l false e i j = Case.refused (BadInputs (length x.levels)) refl i j
+    inputs_case l false e i j = Case.refused (Err (BadInputs (length x.levels))) refl i j
 
     pub step_case : Case s m x
     unfolding step reference_step
@@ -241,6 +242,6 @@ module _ (image : List ℕ) where
         go true e =
             let l = ltb-true x.task task_count e in
             let i : step image s x ≡ cond (eqb (length x.levels) inputs_length) (task_step image s x (task_at s x.task))
-            (refuse s (BadInputs (length x.levels))) = rw e in
+            (refuse s (Err (BadInputs (length x.levels)))) = rw e in
             inputs_case l (eqb (length x.levels) inputs_length) refl i (rw (le-ltb 2 x.task (omega arith)))
-        go false e = let l = ltb-false x.task task_count e in Case.refused (NoTask x.task) refl (rw e) (rw (lt-ltb 2 x.task (omega arith)))
+        go false e = let l = ltb-false x.task task_count e in Case.refused (Err (NoTask x.task)) refl (rw e) (rw (lt-ltb 2 x.task (omega arith)))

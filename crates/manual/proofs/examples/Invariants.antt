@@ -1,15 +1,11 @@
 -- n is the number of lines that end before i, and the next begins at or before i.
-use Rattle.std.proofs.Common.{◌≡◌, ◌-◌, ◌≤◌, length}
+use Rattle.std.proofs.Common.{◌≡◌, ◌≤◌}
 use Rattle.text_hex.specs.Lines.{lines_of}
 use Rattle.manual.proofs.examples.Given as goal
 
 abbrev pub invariant-loop-i : goal.invariant-loop-i
 invariant-loop-i g l = record {
   begins : l.from ≤ l.i;
-  within : l.i ≤ length l.text;
   few : l.n ≤ l.i;
   counted : l.n ≡ lines_of l.text l.i;
 }
-
-abbrev pub decreases-loop-i : goal.decreases-loop-i
-decreases-loop-i g l = length l.text - l.i

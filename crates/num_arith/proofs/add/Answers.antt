@@ -1,23 +1,9 @@
--- `num_arith::add` meets its contract: the exact sum fits 64 bits.
-use mathlib.Core.Path.{ap, ◌∙◌}
-use lib.IntN.{◌+ℤ◌}
-use mir.Syntax.{w32, w64}
-use Rattle.num_arith.specs.Wrap.{wrap}
-use Rattle.num_arith.proofs.Range.{sum_fits, got, widens, asks, gives}
+-- `num_arith::add` meets its contract: std wraps the sum.
+use mathlib.Core.Path.{◌∙◌}
+use mir.Syntax.{w32}
+use Rattle.std.proofs.lemmas.Int.{wrapping_add_is}
+use Rattle.num_arith.proofs.Cut.{is_wrap}
 use Rattle.num_arith.proofs.add.Goals as goal
 
-pub overflow_cast-a : goal.overflow_cast-a
-overflow_cast-a c = widens w32 w64 tt c.ranges.a
-
-pub overflow_cast-b : goal.overflow_cast-b
-overflow_cast-b c = widens w32 w64 tt c.ranges.b
-
-pub overflow_add-a : goal.overflow_add-a
-overflow_add-a c = asks w32 w64 tt ◌+ℤ◌ c.ranges.a c.ranges.b (sum_fits w32 w64 tt c.ranges.a c.ranges.b)
-
 pub returns : goal.returns
-returns c =
-    let a = c.ranges.a in
-    let b = c.ranges.b in
-    got w32 c.narrow.type_inv c.narrow.ensures
-    ∙ ap (wrap w32) (gives w32 w64 tt ◌+ℤ◌ a b (sum_fits w32 w64 tt a b))
+returns c = wrapping_add_is w32 c.args.a c.args.b c.ranges.a c.ranges.b ∙ is_wrap w32 _

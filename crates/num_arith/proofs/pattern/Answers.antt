@@ -1,12 +1,10 @@
--- `num_arith::pattern` meets its contract: a number of 32 bits has the same low bits in 64.
-use mathlib.Core.Path.{ap, ◌∙◌}
-use mir.Syntax.{w32, w64}
-use Rattle.num_arith.specs.Wrap.{word}
-use Rattle.num_arith.proofs.Range.{widens, widened}
+-- `num_arith::pattern` meets its contract: a number that fits has its own bits.
+use mathlib.Core.Path.{sym, ap, ◌∙◌}
+use mir.Syntax.{w32}
+use mir.Val.{of_z}
+use mir.Facts.{to_z-of_z}
+use Rattle.num_arith.proofs.Cut.{word_same}
 use Rattle.num_arith.proofs.pattern.Goals as goal
 
-pub overflow_cast-a : goal.overflow_cast-a
-overflow_cast-a c = widens w32 w64 tt c.ranges.a
-
 pub returns : goal.returns
-returns c = c.low.ensures ∙ ap (word w32) (widened w32 w64 tt c.ranges.a)
+returns c = c.cast_unsigned.ensures ∙ ap (of_z w32) (to_z-of_z c.ranges.a) ∙ sym (word_same w32 _ c.ranges.a)

@@ -35,17 +35,14 @@ all_read b r k h z =
     (λ j u. by j k (h.front j) (λ v. sym (get_or_table most_landings (entry b) 0 j u) ∙ z j v ∙ sym (h.rest j v))))
 
 pub loop-k-init : goal.loop-k-init
-loop-k-init c = (omega arith, record { long = refl; front = λ j u. absurd (omega arith); rest = λ j _. get_d_replicate {A = ℕ} most_landings 0 j })
-
-pub loop-k-smaller : goal.loop-k-smaller
-loop-k-smaller c = omega arith
+loop-k-init c = record { long = refl; front = λ j u. absurd (omega arith); rest = λ j _. get_d_replicate {A = ℕ} most_landings 0 j }
 
 pub loop-k-preserved : goal.loop-k-preserved
 loop-k-preserved c = let v = c.loop-k in
-    (omega arith, read_more c.args.b.now v.r v.k _ (omega (arith, c.requires.count_in_range)) v.invariant.1 c.word.ensures)
+    read_more c.args.b.now v.r v.k _ (omega (arith, c.requires.count_in_range)) v.invariant c.word.ensures
 
 pub returns : goal.returns
 returns c =
     let v = c.loop-k in
     let e : v.k ≡ c.args.count = omega arith in
-    all_read c.args.b.now v.r v.k v.invariant.1 (λ j u. c.requires.zeros_behind j (omega arith))
+    all_read c.args.b.now v.r v.k v.invariant (λ j u. c.requires.zeros_behind j (omega arith))

@@ -1,5 +1,5 @@
 -- `landings_in` meets its contract: after k turns the first k entries are read, and those behind them are still 0, as they are in the buffer.
-use Prim.Native.Nat.{ℕ, ◌+◌, ◌*◌, ◌-◌, ◌<◌, ◌≤◌}
+use Prim.Native.Nat.{ℕ, ◌+◌, ◌*◌, ◌<◌, ◌≤◌}
 use mathlib.Core.Path.{◌≡◌}
 use mathlib.Core.List.{List}
 use lib.ListN.{length, get_or}
@@ -19,7 +19,4 @@ pub record Read (b r : List ℕ) (k : ℕ) : Type 0 where
   pub rest : (j : ℕ) → k ≤ j → get_or r j 0 ≡ 0
 
 abbrev pub invariant-loop-k : goal.invariant-loop-k
-invariant-loop-k l = (l.k ≤ l.n) × Read l.b l.r l.k
-
-abbrev pub decreases-loop-k : goal.decreases-loop-k
-decreases-loop-k l = l.n - l.k
+invariant-loop-k l = Read l.b l.r l.k

@@ -1,26 +1,19 @@
--- `state_decode::levels_in` meets its contract: a table filled from the front.
-use Prim.Native.Nat.{ℕ, ◌+◌}
+-- `state_decode::levels_in` meets its contract: a part of a list is the table of its elements.
+use Prim.Native.Nat.{ℕ, ◌+◌, ◌-◌}
+use mathlib.Core.Path.{◌≡◌, sym, ap, ◌∙◌}
+use mathlib.Core.List.{List}
 use native.Mathlib.Omega.{arith}
-use mathlib.Core.Path.{refl}
-use lib.ListN.{get_or, length-set}
+use lib.ListN.{length, get_or, drop}
+use Rattle.std.proofs.lemmas.List.{get_or-take, get_or-drop}
 use Rattle.limits.specs.Limits.{cells}
-use Rattle.state_bytes.proofs.Tables.{none, more, all}
+use Rattle.state_bytes.proofs.Tables.{table_is}
 use Rattle.state_layout.specs.Codecs.{levels_in}
-use borrow.Author.Rules.{rules}
 use Rattle.state_decode.proofs.levels_in.Goals as goal
-
-pub loop-k-init : goal.loop-k-init
-loop-k-init c = (search rules, (search rules, none _))
-
-pub loop-k-preserved : goal.loop-k-preserved
-loop-k-preserved c =
-    let l = c.loop-k in
-    let a = c.args in
-    (search rules, (simp length-set (search rules), more l.r l.k (λ (j : ℕ). get_or a.b.now (a.at + j) 0) _ (omega arith) l.invariant.1.1 (refl)))
 
 pub returns : goal.returns
 unfolding levels_in
 returns c =
-    let l = c.loop-k in
     let a = c.args in
-    all l.r l.k cells (λ (j : ℕ). get_or a.b.now (a.at + j) 0) l.invariant.0 c.loop-k-test.false l.invariant.1.0 l.invariant.1.1
+    let n : length c.copy_from_slice.new.self ≡ cells = omega arith in
+    sym (table_is cells (λ (k : ℕ). get_or a.b.now (a.at + k) 0) c.copy_from_slice.new.self 0 n (λ k l.
+    sym (ap (λ (r : List ℕ). get_or r k 0) c.copy_from_slice.ensures.after ∙ get_or-take (a.at + 256 - a.at) (drop a.at a.b.now) k 0 (omega arith) ∙ get_or-drop a.at a.b.now k 0)))

@@ -1,5 +1,5 @@
 -- `state_decode::stack_in` meets its contract: a table filled from the front.
-use Prim.Native.Nat.{ℕ, ◌+◌, ◌*◌, ◌-◌, ◌≤◌}
+use Prim.Native.Nat.{ℕ, ◌+◌, ◌*◌}
 use mathlib.Core.Path.{◌≡◌}
 use lib.ListN.{length, take}
 use Rattle.limits.specs.Limits.{most_depth}
@@ -7,7 +7,4 @@ use Rattle.state_bytes.specs.Bytes.{table, le_number_at}
 use Rattle.state_decode.proofs.stack_in.Given as goal
 
 abbrev pub invariant-loop-i : goal.invariant-loop-i
-invariant-loop-i l = (l.i ≤ most_depth) × ((length l.r ≡ most_depth) × (take l.i l.r ≡ table l.i (λ (j : ℕ). le_number_at 2 l.b (l.at + 2 * j))))
-
-abbrev pub decreases-loop-i : goal.decreases-loop-i
-decreases-loop-i l = most_depth - l.i
+invariant-loop-i l = (length l.r ≡ most_depth) × (take l.i l.r ≡ table l.i (λ (j : ℕ). le_number_at 2 l.b (l.at + 2 * j)))

@@ -1,19 +1,20 @@
--- `state_decode::task_at` meets its contract, task by task.
-use mathlib.Core.Path.{◌≡◌, ◌∙◌}
+-- `state_decode::task_at` meets its contract: the record at its place, with its start.
+use mathlib.Core.Path.{◌≡◌, refl, ◌∙◌}
+use mathlib.Core.List.{List}
+use Prim.Native.Nat.{ℕ, zero, suc, ◌+◌, ◌*◌, ◌<◌}
 use native.Mathlib.Omega.{arith}
-use Rattle.limits.specs.Limits.{mathematics}
-use Rattle.state_layout.specs.Layout.{decoded}
+use Rattle.limits.specs.Limits.{task_count}
+use Rattle.state.specs.State.{task_at}
+use Rattle.state_layout.specs.Codecs.{task_length, task_in}
+use Rattle.state_layout.specs.Layout.{tasks_at, decoded}
 use Rattle.state_decode.proofs.task_at.Goals as goal
 
-pub returns-then-t-eq-BIAS : goal.returns-then-t-eq-BIAS
+task_read : (b : List ℕ) (t : ℕ) → t < task_count → task_in b (tasks_at + t * task_length) (task_at (decoded b) t).start ≡ task_at (decoded b) t
 unfolding decoded
-returns-then-t-eq-BIAS c = c.bias_in.ensures ∙ rw c.if-t-eq-BIAS.true
-
-pub returns-then-t-eq-PLC : goal.returns-then-t-eq-PLC
-unfolding decoded
-returns-then-t-eq-PLC c = c.plc_in.ensures ∙ rw c.if-t-eq-PLC.true
+task_read b zero l = refl
+task_read b (suc zero) l = refl
+task_read b (suc (suc zero)) l = refl
+task_read b (suc (suc (suc t))) l = absurd (omega arith)
 
 pub returns : goal.returns
-unfolding decoded
-returns c = let e : c.args.t ≡ mathematics = omega
-    (arith, c.requires, c.if-t-eq-BIAS.false, c.if-t-eq-PLC.false) in c.mathematics_in.ensures ∙ rw e
+returns c = c.task_in.ensures ∙ rw (c.from.ensures, c.start_of.ensures) (task_read c.args.b.now c.args.t c.requires)

@@ -1,5 +1,5 @@
 -- `state_decode::variables_in` meets its contract: a table filled from the front.
-use Prim.Native.Nat.{ℕ, ◌+◌, ◌*◌, ◌-◌, ◌≤◌}
+use Prim.Native.Nat.{ℕ, ◌+◌, ◌*◌}
 use mathlib.Core.Path.{◌≡◌}
 use lib.ListN.{length, take}
 use Rattle.limits.specs.Limits.{cells}
@@ -8,7 +8,4 @@ use Rattle.state_layout.specs.Layout.{variables_at}
 use Rattle.state_decode.proofs.variables_in.Given as goal
 
 abbrev pub invariant-loop-k : goal.invariant-loop-k
-invariant-loop-k l = (l.k ≤ cells) × ((length l.r ≡ cells) × (take l.k l.r ≡ table l.k (λ (j : ℕ). signed_at l.b (variables_at + 4 * j))))
-
-abbrev pub decreases-loop-k : goal.decreases-loop-k
-decreases-loop-k l = cells - l.k
+invariant-loop-k l = (length l.r ≡ cells) × (take l.k l.r ≡ table l.k (λ (j : ℕ). signed_at l.b (variables_at + 4 * j)))

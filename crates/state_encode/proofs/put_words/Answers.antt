@@ -10,32 +10,24 @@ use borrow.Author.Rules.{rules}
 use Rattle.state_encode.proofs.put_words.Goals as goal
 
 pub loop-i-init : goal.loop-i-init
-loop-i-init c = (search rules, concatenated_none _ _ _)
+loop-i-init c = concatenated_none _ _ _
 
 pub put_word-requires : goal.put_word-requires
 put_word-requires c =
     let l = c.loop-i in
-    omega (arith, c.requires, puts_long l.b c.args.b.now c.args.at _ l.invariant.1)
+    omega (arith, c.requires, puts_long l.b c.args.b.now c.args.at _ l.invariant)
 
 pub loop-i-preserved : goal.loop-i-preserved
 loop-i-preserved c =
-    let l = c.loop-i in (
-      search rules,
-      c.put_word.ensures
-          ∙ concatenated_more (λ (j : ℕ). le_bytes 2 (get_or c.args.words.now j 0)) 2 (λ j. refl) c.args.b.now c.args.at l.i l.b
-          l.invariant.1,
-    )
-
-pub shape_of-b : goal.shape_of-b
-shape_of-b c = puts_long _ _ _ _ c.loop-i.invariant.1
+    let l = c.loop-i in
+    c.put_word.ensures ∙ concatenated_more (λ (j : ℕ). le_bytes 2 (get_or c.args.words.now j 0)) 2 (λ j. refl) c.args.b.now c.args.at l.i l.b l.invariant
 
 pub returns : goal.returns
 unfolding word_bytes
 returns c =
     let l = c.loop-i in
     record {
-      b_after = concatenated_all (λ (j : ℕ). le_bytes 2 (get_or c.args.words.now j 0)) c.args.b.now c.args.at l.i (length c.args.words.now) l.b l.invariant.0
-          c.loop-i-test.false
-          l.invariant.1;
+      b_after = concatenated_all (λ (j : ℕ). le_bytes 2 (get_or c.args.words.now j 0)) c.args.b.now c.args.at l.i (length c.args.words.now) l.b
+          (omega arith) (omega arith) l.invariant;
       words_fit = search rules;
     }

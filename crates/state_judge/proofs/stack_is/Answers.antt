@@ -5,20 +5,19 @@ use mathlib.Core.Path.{◌≡◌, refl, ap, ◌∙◌}
 use Rattle.limits.specs.Limits.{most_depth}
 use Rattle.logic.specs.Each.{each_below}
 use Rattle.state_layout.specs.IsState.{all_of, entry_is}
-use borrow.Author.Rules.{rules}
 use Rattle.state_judge.proofs.stack_is.Goals as goal
 
 pub loop-i-init : goal.loop-i-init
 unfolding each_below
-loop-i-init c = (search rules, refl)
+loop-i-init c = refl
 
 pub loop-i-preserved : goal.loop-i-preserved
 unfolding each_below
-loop-i-preserved c = (search rules, rw (add-one, c.entry_is-pass.ensures, ← c.loop-i.invariant.1))
+loop-i-preserved c = rw (add-one, c.entry_is-pass.ensures, ← c.loop-i.invariant)
 
 pub returns : goal.returns
 returns c =
     let l = c.loop-i in
     let a = c.args in
     let e : l.i ≡ most_depth = omega arith in
-    l.invariant.1 ∙ ap (all_of (entry_is a.count a.depth) a.stack.now) e
+    l.invariant ∙ ap (all_of (entry_is a.count a.depth) a.stack.now) e

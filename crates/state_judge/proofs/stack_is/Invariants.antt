@@ -1,12 +1,7 @@
 -- `stack_is` meets its contract: after i turns the first i entries are judged.
-use Prim.Native.Nat.{◌-◌, ◌≤◌}
 use mathlib.Core.Path.{◌≡◌}
-use Rattle.limits.specs.Limits.{most_depth}
 use Rattle.state_layout.specs.IsState.{all_of, entry_is}
 use Rattle.state_judge.proofs.stack_is.Given as goal
 
 abbrev pub invariant-loop-i : goal.invariant-loop-i
-invariant-loop-i l = (l.i ≤ most_depth) × (l.pass ≡ all_of (entry_is l.count l.depth) l.stack l.i)
-
-abbrev pub decreases-loop-i : goal.decreases-loop-i
-decreases-loop-i l = most_depth - l.i
+invariant-loop-i l = l.pass ≡ all_of (entry_is l.count l.depth) l.stack l.i

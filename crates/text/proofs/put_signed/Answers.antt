@@ -1,21 +1,18 @@
--- By its pattern, the number is 0 or more, or it lies below 0 by what its pattern lacks to a whole turn.
-use Rattle.std.proofs.Common.{◌≡◌, ap, ◌∙◌, w32}
+-- By its sign, the number's text is the digits of its distance from 0, or these behind a minus.
+use Rattle.std.specs.Prelude.{unsigned_abs}
+use Rattle.std.proofs.Common.{◌≡◌, ap, ◌∙◌, arith}
+use Rattle.std.proofs.lemmas.Int.{ints}
 use mir.Facts.{to_z-of_z}
-use Rattle.num_arith.specs.Wrap.{word}
 use Rattle.text.proofs.Joined.{and_then}
 use Rattle.text.proofs.Read.{signed_high, signed_low}
 use Rattle.text.proofs.put_signed.Goals as goal
 
-pub returns-then-p-lt2147483648 : goal.returns-then-p-lt2147483648
-returns-then-p-lt2147483648 c =
-    let p = c.pattern-p in
-    let is : p.result ≡ word w32 c.args.v = p.ensures ∙ ap (word w32) (to_z-of_z c.ranges.v) in
-    let e = signed_high w32 c.args.v c.ranges.v (rw is at c.if-p-lt2147483648.true) in
-    rw (is, ← e) at c.put_decimal.ensures
+pub returns-then-v-lt0 : goal.returns-then-v-lt0
+returns-then-v-lt0 c =
+    let size : c.from-size.result ≡ unsigned_abs c.args.v = c.from-size.ensures ∙ c.unsigned_abs.ensures.value ∙ ap unsigned_abs (to_z-of_z c.ranges.v) in
+    rw (signed_low c.args.v (omega (arith, ints)), ← size) (and_then c.put-behind.ensures c.put_decimal.ensures)
 
 pub returns : goal.returns
 returns c =
-    let p = c.pattern-p in
-    let is : p.result ≡ word w32 c.args.v = p.ensures ∙ ap (word w32) (to_z-of_z c.ranges.v) in
-    let e = signed_low w32 c.args.v c.ranges.v (rw is at c.if-p-lt2147483648.false) in
-    rw e (and_then c.put-behind.ensures (rw is at c.put_decimal-2.ensures))
+    let size : c.from-size.result ≡ unsigned_abs c.args.v = c.from-size.ensures ∙ c.unsigned_abs.ensures.value ∙ ap unsigned_abs (to_z-of_z c.ranges.v) in
+    rw (signed_high c.args.v (omega (arith, ints)), ← size) c.put_decimal-2.ensures

@@ -7,13 +7,11 @@ use Rattle.text_hex.proofs.decode.Goals as goal
 
 pub loop-i-init : goal.loop-i-init
 unfolding hex_bytes
-loop-i-init c = record { within = omega arith; same_length = refl; holds = refl }
+loop-i-init c = record { same_length = refl; holds = refl }
 
 pub loop-i-preserved : goal.loop-i-preserved
 loop-i-preserved c =
-    let v = c.loop-i in
-    let inside = c.least-n.ensures in record {
-      within = omega arith;
+    let v = c.loop-i in record {
       same_length = length-set v.out v.i c.byte.result ∙ v.invariant.same_length;
       holds = ap (λ (l : List ℕ). set l v.i c.byte.result) v.invariant.holds
           ∙ one_more _ _ v.i c.byte.result (omega arith) c.byte.ensures;

@@ -3,14 +3,14 @@ use Rattle.std.proofs.Common.{ap}
 use Rattle.vectors.specs.Pins.{counted, shown_pin}
 use Rattle.vectors.proofs.show_pin.Goals as goal
 
-pub returns-in_ok-show_next-in-Present : goal.returns-in_ok-show_next-in-Present
+pub returns-in_ok-print-in-Ok : goal.returns-in_ok-print-in-Ok
 unfolding shown_pin
-returns-in_ok-show_next-in-Present g c = ap counted c.in-Present.ensures
+returns-in_ok-print-in-Ok g c = ap counted c.in-Ok.ensures
 
-pub returns-in_ok-write_all-in-BoardMissing : goal.returns-in_ok-write_all-in-BoardMissing
+pub returns-in_ok-print-in-Err-BoardMissing : goal.returns-in_ok-print-in-Err-BoardMissing
 unfolding shown_pin
-returns-in_ok-write_all-in-BoardMissing g c = ap counted c.in-BoardMissing.ensures
+returns-in_ok-print-in-Err-BoardMissing g c = ap counted (rw c.in-Err-BoardMissing.field-0-is at c.in-Err-BoardMissing.ensures)
 
-pub returns-in-Never : goal.returns-in-Never
+pub returns-in-Err-Never : goal.returns-in-Err-Never
 unfolding shown_pin
-returns-in-Never g c = ap counted c.in-Never.ensures
+returns-in-Err-Never g c = ap counted (rw c.in-Err-Never.field-0-is at c.in-Err-Never.ensures)

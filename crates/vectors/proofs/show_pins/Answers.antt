@@ -6,7 +6,7 @@ use Rattle.vectors.proofs.show_pins.Goals as goal
 
 pub loop-pin-init : goal.loop-pin-init
 unfolding present_pins
-loop-pin-init g c = record { within = omega arith; counted = refl }
+loop-pin-init g c = refl
 
 pub overflow_add-n : goal.overflow_add-n
 overflow_add-n g c =
@@ -17,4 +17,4 @@ pub loop-pin-preserved : goal.loop-pin-preserved
 unfolding present_pins
 loop-pin-preserved g c =
     let l = c.loop-pin in
-    record { within = omega arith; counted = rw (add-one l.pin) (ap₂ ◌+◌ l.invariant.counted c.in_ok-n.ensures) }
+    rw (add-one l.pin) (ap₂ ◌+◌ l.invariant c.in_ok-n.ensures)

@@ -1,11 +1,11 @@
 -- What load accepts of a header and a landing list keeps walks within the marks: the landing blocks are as many as the header says, each below the count.
+use Rattle.std.specs.Prelude.{Ok}
 use Prim.Native.Nat.{ℕ, zero, suc, ◌<◌, ◌≤◌}
-use mathlib.Core.Path.{◌≡◌, refl}
+use mathlib.Core.Path.{◌≡◌}
 use mathlib.Core.Logic.{inl, inr}
 use mathlib.Core.List.{List, [], ◌∷◌}
 use native.Mathlib.Omega.{arith}
 use lib.ListN.{length, get_or, take}
-use Rattle.image_result.specs.declared.ImageResult.TheVariants.{Done}
 use Rattle.image_header.specs.GoodHeader.{GoodHeader, GoodLandings}
 use Rattle.image_header.specs.Scan.{header_of}
 use Rattle.image_header.specs.declared.Header.{Header}
@@ -27,12 +27,6 @@ taken_placed (suc n) [] a m = absurd m
 taken_placed (suc n) (x ∷ l) a (inl e) = record { at = 0; below = omega arith; is = e }
 taken_placed (suc n) (x ∷ l) a (inr m) = let k = taken_placed n l a m in let b = k.below in record { at = suc k.at; below = omega arith; is = k.is }
 
-pub placed_taken : (n : ℕ) (l : List ℕ) (i : ℕ) → i < n → i < length l → In (get_or l i 0) (take n l)
-placed_taken zero l i u v = absurd (omega arith)
-placed_taken (suc n) [] i u v = absurd (omega arith)
-placed_taken (suc n) (x ∷ l) zero u v = inl refl
-placed_taken (suc n) (x ∷ l) (suc i) u v = inr (placed_taken n l i (omega arith) (omega arith))
-
 taken_few : (n : ℕ) (l : List ℕ) → length (take n l) ≤ n
 taken_few zero l = omega arith
 taken_few (suc n) [] = omega arith
@@ -46,5 +40,5 @@ good_bounds h l g k = record {
   below = λ a m. let p = taken_placed h.landings l a m in rw p.is (k.below p.at p.below);
 }
 
-pub image_bounds : (image : List ℕ) → (header_of image).result ≡ Done → WalkBounds (terms_of image)
+pub image_bounds : (image : List ℕ) → (header_of image).result ≡ Ok tt → WalkBounds (terms_of image)
 image_bounds image ok = good_bounds _ _ (header_good image ok) (landings_good image ok)

@@ -1,5 +1,6 @@
 -- Walks stay within the image: what follows a point of a task, a block of the image and a depth up to the limit is again such a point, since
 -- nothing follows a bad point and landing blocks are blocks of the image; and at most so many points follow as there may be landing blocks, and one.
+use Rattle.std.specs.Prelude.{Ok, Err}
 use Prim.Native.Nat.{ℕ, suc, ◌+◌, ◌<◌, ◌≤◌}
 use mathlib.Core.Path.{◌≡◌, refl, sym, ap, ◌∙◌}
 use mathlib.Core.Bool.{Bool, true, false, ◌||◌, cond}
@@ -22,29 +23,29 @@ use Rattle.walk_point.specs.PointFault.{point, too_deep, no_call, any_past, flow
 use Rattle.walk_point.specs.declared.Point.{Point}
 use Rattle.walk_flow.specs.declared.Flow.{Flow}
 use Rattle.walk_flow.specs.declared.Flow.TheVariants.{Next, Wait, Jump, Branch, Call, Return, Start, Restart, End, ComputedJump, ComputedStart}
-use Rattle.walk_fault.specs.declared.Fault.{Fault}
-use Rattle.walk_fault.specs.declared.Fault.TheVariants.{Fine, Foreign, Forbidden, TooDeep, NoCall, PastEnd}
+use Rattle.walk_fault.specs.Fault.{FaultResult}
+use Rattle.walk_fault.specs.declared.Fault.TheVariants.{Foreign, Forbidden, TooDeep, NoCall, PastEnd}
 use Rattle.walk.specs.Blocks.{command_at, fault_at}
 use Rattle.walk.specs.Graph.{In}
 use Rattle.walk.specs.Successors.{each_at, leads_to, unless, flow_at, successors, WalkBounds}
 use Rattle.walk.specs.Verdict.{most_following}
 
 -- whether a fault is none
-kind : Fault → Bool
-kind Fine = true
-kind Foreign = false
-kind Forbidden = false
-kind TooDeep = false
-kind NoCall = false
-kind PastEnd = false
+kind : FaultResult → Bool
+kind (Ok _) = true
+kind (Err Foreign) = false
+kind (Err Forbidden) = false
+kind (Err TooDeep) = false
+kind (Err NoCall) = false
+kind (Err PastEnd) = false
 
 -- where a choice is Fine and one way is not, the other way was taken
-not_first : (t : Bool) (f g : Fault) → kind f ≡ false → cond t f g ≡ Fine → (t ≡ false) × (g ≡ Fine)
+not_first : (t : Bool) (f g : FaultResult) → kind f ≡ false → cond t f g ≡ Ok tt → (t ≡ false) × (g ≡ Ok tt)
 unfolding kind
 not_first true f g k e = clash (sym (ap kind e) ∙ k)
 not_first false f g k e = (refl, e)
 
-not_second : (t : Bool) (f g : Fault) → kind g ≡ false → cond t f g ≡ Fine → (t ≡ true) × (f ≡ Fine)
+not_second : (t : Bool) (f g : FaultResult) → kind g ≡ false → cond t f g ≡ Ok tt → (t ≡ true) × (f ≡ Ok tt)
 unfolding kind
 not_second true f g k e = (refl, e)
 not_second false f g k e = clash (sym (ap kind e) ∙ k)
@@ -57,14 +58,14 @@ pub record Passes (h : Terms) (c : Command) (p : Point) : Type 0 where
   pub called : no_call (flow_of h c) p.depth ≡ false
   pub ahead : any_past h.header.count (continues p.task p.block (flow_of h c)) ≡ false
 
-pub passes : (h : Terms) (c : Command) (p : Point) → fault_of h c p ≡ Fine → Passes h c p
+pub passes : (h : Terms) (c : Command) (p : Point) → fault_of h c p ≡ Ok tt → Passes h c p
 unfolding fault_of flow_fault kind
 passes h c p e =
-    let a = not_first (foreign p.task c) Foreign _ refl e in
-    let b = not_second (permitted h c.code p.task) _ Forbidden refl a.1 in
-    let d = not_first (too_deep (flow_of h c) p.depth) TooDeep _ refl b.1 in
-    let f = not_first (no_call (flow_of h c) p.depth) NoCall _ refl d.1 in
-    let g = not_first (any_past h.header.count (continues p.task p.block (flow_of h c))) PastEnd Fine refl f.1 in
+    let a = not_first (foreign p.task c) (Err Foreign) _ refl e in
+    let b = not_second (permitted h c.code p.task) _ (Err Forbidden) refl a.1 in
+    let d = not_first (too_deep (flow_of h c) p.depth) (Err TooDeep) _ refl b.1 in
+    let f = not_first (no_call (flow_of h c) p.depth) (Err NoCall) _ refl d.1 in
+    let g = not_first (any_past h.header.count (continues p.task p.block (flow_of h c))) (Err PastEnd) (Ok tt) refl f.1 in
     record { own = a.0; allowed = b.0; shallow = d.0; called = f.0; ahead = g.0 }
 
 -- a point of a task, a block and a depth of the image
@@ -164,13 +165,13 @@ goes_within h bounds p w (ComputedStart u) s d e = choose (eqb u p.task) e
     choose false k = (record { task = w.task; block = (near _ _ _ k).0; depth = w.depth }, landed)
 
 -- what follows a point follows from its flow, and the point breaks nothing
-pub follows : (ls : List ℕ) (f : Fault) (g : Flow) (p q : Point) → In q (leads_to ls p (unless f g)) → (f ≡ Fine) × In q (leads_to ls p g)
-follows ls Fine g p q m = (refl, m)
-follows ls Foreign g p q m = absurd m
-follows ls Forbidden g p q m = absurd m
-follows ls TooDeep g p q m = absurd m
-follows ls NoCall g p q m = absurd m
-follows ls PastEnd g p q m = absurd m
+pub follows : (ls : List ℕ) (f : FaultResult) (g : Flow) (p q : Point) → In q (leads_to ls p (unless f g)) → (f ≡ Ok tt) × In q (leads_to ls p g)
+follows ls (Ok _) g p q m = (refl, m)
+follows ls (Err Foreign) g p q m = absurd m
+follows ls (Err Forbidden) g p q m = absurd m
+follows ls (Err TooDeep) g p q m = absurd m
+follows ls (Err NoCall) g p q m = absurd m
+follows ls (Err PastEnd) g p q m = absurd m
 
 pub successors_within : (h : Terms) → WalkBounds h → (bs : List ℕ) (p q : Point) → Within h p → In q (successors h bs p) → Within h q
 unfolding successors flow_at fault_at

@@ -15,7 +15,7 @@ use Rattle.walk_flow.specs.Permission.{permitted}
 use Rattle.walk_point.specs.PointFault.{point}
 use Rattle.walk_point.specs.declared.Point.{Point}
 use Rattle.walk.specs.Graph.{In}
-use Rattle.walk.specs.Walk.{Named, starts, starts_anew, goes_on, start_of, WalkStep}
+use Rattle.walk.specs.Walk.{Named, starts, goes_on, start_of, WalkStep}
 use Rattle.walk.specs.Walk.{stays as waits}
 use Rattle.walk.specs.Successors.{leads_to}
 use Rattle.logic.proofs.Choice.{both, test}

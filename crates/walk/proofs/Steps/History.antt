@@ -1,5 +1,6 @@
 -- The points that walks reach are the numbers that are reached by successors: returns to a start add nothing, since the command that named the
 -- start block, passed earlier on the walk, is followed by that block already, and BIAS's start is the first point.
+use Rattle.std.specs.Prelude.{Ok}
 use Prim.Native.Nat.{ℕ, suc, ◌<◌, ◌≤◌}
 use mathlib.Core.Path.{◌≡◌, refl, ap, ◌∙◌}
 use mathlib.Core.Bool.{Bool, true, false, cond}
@@ -15,7 +16,6 @@ use Rattle.command_operands.specs.declared.Command.{Command}
 use Rattle.walk_flow.specs.Flow.{flow_of}
 use Rattle.walk_point.specs.PointFault.{point}
 use Rattle.walk_point.specs.declared.Point.{Point}
-use Rattle.walk_fault.specs.declared.Fault.TheVariants.{Fine}
 use Rattle.walk.specs.Blocks.{command_at, fault_at}
 use Rattle.walk.specs.Walk.{Named, starts, latest, start_of, Walk, Reaches}
 use Rattle.walk.specs.Index.{Inside, index_of, point_at}
@@ -71,7 +71,7 @@ module _ (h : Terms) (bs : List ℕ) (bounds : WalkBounds h) where
   reached_next p q w r m =
       Reach.step (index_of p) (index_of q) r (rw (point_back p (inside p w)) (index_in (successors h bs p) q m))
 
-  goes_on : (p q : Point) → fault_at h bs p ≡ Fine → In q (leads_to h.landings p (flow_of h (command_at bs p.block))) → In q (successors h bs p)
+  goes_on : (p q : Point) → fault_at h bs p ≡ Ok tt → In q (leads_to h.landings p (flow_of h (command_at bs p.block))) → In q (successors h bs p)
   unfolding successors flow_at
   goes_on p q e m = rw e m
 
@@ -81,7 +81,7 @@ module _ (h : Terms) (bs : List ℕ) (bounds : WalkBounds h) where
   record Sound (p : Point) : Type 0 where
     within : Within h p
     reach : Reached p
-    fine : fault_at h bs p ≡ Fine
+    fine : fault_at h bs p ≡ Ok tt
 
   abbrev All : (Point → Type 0) → List Point → Type 0
   All P [] = Unit {0}

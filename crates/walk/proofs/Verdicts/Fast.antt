@@ -1,5 +1,6 @@
 -- The verdict on an image once more, for checks by computation (document 01, "Examples and faults to shut out"): the numbers seen are the bits of
 -- one number, so that a test takes one step and not one for each number seen. A contract cites the plain verdict, to which this one is equal.
+use Rattle.std.specs.Prelude.{Err}
 use Prim.Native.Nat.{ℕ, zero, suc, ◌+◌, ◌/◌, ◌%◌, ◌^◌}
 use mathlib.Core.Path.{◌≡◌, refl, ap, sym, ◌∙◌}
 use mathlib.Core.Bool.{Bool, true, false, ◌||◌, cond}
@@ -10,17 +11,16 @@ use native.Mathlib.Omega.{arith}
 use lib.Dec.{eqb, ltb}
 use borrow.Author.Tests.{eqb-false, eq-eqb, ne_eqb}
 use Rattle.limits.specs.Limits.{marks_length}
-use Rattle.image_result.specs.ImageResult.{done}
 use Rattle.image_header.specs.Scan.{header_of, landings_of, blocks_of}
 use Rattle.walk_flow.specs.Terms.{Terms, terms_in}
-use Rattle.image_header.specs.declared.reader.HeaderRead.{HeaderRead}
+use Rattle.image_header.specs.Scan.{HeaderJudged}
 use Rattle.logic.proofs.Choice.{clash}
 use Rattle.walk.specs.Graph.{has, closure}
 use Rattle.walk.specs.Successors.{next_of}
-use Rattle.walk.specs.Blocks.{block_fault_at, block_number}
-use Rattle.walk.specs.Verdict.{root_of, fuel, reached, least_foreign, least_bad, verdict_by, walks_verdict, blocks_verdict, read_verdict, verdict_of}
-use Rattle.walk.specs.declared.Verdict.{Verdict}
-use Rattle.walk.specs.declared.Verdict.TheVariants as verdict
+use Rattle.walk.specs.Blocks.{block_fault_at}
+use Rattle.walk.specs.Verdict.{refused_by, root_of, fuel, reached, least_foreign, least_bad, verdict_by, walks_verdict, blocks_verdict, read_verdict, verdict_of}
+use Rattle.walk.specs.Verdict.{Verdict}
+use Rattle.walk.specs.declared.Refusal.TheVariants as verdict
 
 -- ---- the twin
 
@@ -47,13 +47,13 @@ walks_fast h bs = verdict_among h bs (closure_fast (next_of h bs) fuel (root_of 
 
 unfoldable pub blocks_fast : Terms → List ℕ → ℕ → ℕ → Verdict
 blocks_fast h bs b zero = walks_fast h bs
-blocks_fast h bs b (suc n) = cond (eqb (block_number h bs b) 0) (blocks_fast h bs (b + 1) n) (verdict.Block (block_fault_at h bs b) b)
+blocks_fast h bs b (suc n) = refused_by (λ f. verdict.Block f b) (block_fault_at h bs b) (blocks_fast h bs (b + 1) n)
 
-unfoldable pub read_fast : HeaderRead → List ℕ → List ℕ → Verdict
-read_fast r ls bs = cond (done r.result) (blocks_fast (terms_in r ls) bs 0 r.header.count) (verdict.Image r.result)
+unfoldable pub read_fast : HeaderJudged → List ℕ → List ℕ → Verdict
+read_fast r ls bs = refused_by verdict.Image r.result (blocks_fast (terms_in r ls) bs 0 r.header.count)
 
 unfoldable pub verdict_fast : List ℕ → ℕ → Verdict
-verdict_fast image n = cond (ltb n marks_length) (verdict.MarksShort n) (read_fast (header_of image) (landings_of image) (blocks_of image))
+verdict_fast image n = cond (ltb n marks_length) (Err (verdict.MarksShort n)) (read_fast (header_of image) (landings_of image) (blocks_of image))
 
 -- ---- a digit added where there was none changes that digit alone
 
@@ -131,12 +131,12 @@ blocks_same : (h : Terms) (bs : List ℕ) (b n : ℕ) → blocks_fast h bs b n �
 unfolding blocks_fast blocks_verdict
 blocks_same h bs b zero = walks_same h bs
 blocks_same h bs b (suc n) =
-    ap (λ (v : Verdict). cond (eqb (block_number h bs b) 0) v (verdict.Block (block_fault_at h bs b) b)) (blocks_same h bs (b + 1) n)
+    ap (refused_by (λ f. verdict.Block f b) (block_fault_at h bs b)) (blocks_same h bs (b + 1) n)
 
-read_same : (r : HeaderRead) (ls bs : List ℕ) → read_fast r ls bs ≡ read_verdict r ls bs
+read_same : (r : HeaderJudged) (ls bs : List ℕ) → read_fast r ls bs ≡ read_verdict r ls bs
 unfolding read_fast read_verdict
-read_same r ls bs = ap (λ (v : Verdict). cond (done r.result) v (verdict.Image r.result)) (blocks_same (terms_in r ls) bs 0 r.header.count)
+read_same r ls bs = ap (refused_by verdict.Image r.result) (blocks_same (terms_in r ls) bs 0 r.header.count)
 
 pub fast_is : (image : List ℕ) (n : ℕ) → verdict_fast image n ≡ verdict_of image n
 unfolding verdict_fast verdict_of
-fast_is image n = ap (λ (v : Verdict). cond (ltb n marks_length) (verdict.MarksShort n) v) (read_same (header_of image) (landings_of image) (blocks_of image))
+fast_is image n = ap (λ (v : Verdict). cond (ltb n marks_length) (Err (verdict.MarksShort n)) v) (read_same (header_of image) (landings_of image) (blocks_of image))

@@ -1,7 +1,8 @@
 -- The computed verdict is what walks say: the closure has exactly what walks reach, so the least of it is the least that some walk reaches; and
 -- an image has one verdict.
+use Rattle.std.specs.Prelude.{Result, Ok, Err}
 use Prim.Native.Nat.{ℕ, ◌<◌, ◌≤◌}
-use mathlib.Core.Path.{◌≡◌, refl, sym, ap, subst, ◌∙◌}
+use mathlib.Core.Path.{◌≡◌, refl, sym, ap, ap₂, subst, ◌∙◌}
 use mathlib.Core.Bool.{Bool, true, false, cond}
 use mathlib.Core.Logic.{◌⊎◌, inl, inr, ◌↔◌}
 use mathlib.Core.List.{List}
@@ -16,15 +17,25 @@ use Rattle.walk.specs.Walk.{Reaches}
 use Rattle.walk.specs.Index.{index_of, point_at, before}
 use Rattle.walk.specs.Successors.{next_of, WalkBounds}
 use Rattle.walk.specs.Graph.{In, Reach}
-use Rattle.walk_fault.specs.Fault.{is_foreign, is_bad}
-use Rattle.walk.specs.Verdict.{root_of, fuel, reached, least_foreign, least_bad, verdict_by, walks_verdict}
+use Rattle.logic.proofs.Choice.{clash}
+use Rattle.walk_fault.specs.Fault.{FaultResult, is_foreign, is_bad}
+use Rattle.walk_fault.specs.declared.Fault.{Fault}
+use Rattle.walk.specs.Verdict.{refused_by, root_of, fuel, reached, least_foreign, least_bad, verdict_by, walks_verdict}
 use Rattle.walk.specs.IsVerdict.{ForeignAt, BadAt, NoForeign, IsWalksVerdict}
-use Rattle.walk.specs.declared.Verdict.{Verdict}
-use Rattle.walk.specs.declared.Verdict.TheVariants as verdict
+use Rattle.walk.specs.Verdict.{Verdict}
+use Rattle.walk.specs.declared.Refusal.TheVariants as verdict
 use Rattle.walk.proofs.Graph.Closure.{closure_sound, closure_whole}
 use Rattle.walk.proofs.Graph.Least.{Member, least_below, least_found}
 use Rattle.walk.proofs.Points.Index.{point_back, index_back, in_order}
 use Rattle.walk.proofs.Steps.History.{inside, next_few, reached_within, reached_number, number_reached, number_inside}
+
+-- results with one fault
+pub same_fault : {E : Type 0} (f g : E) → ◌≡◌ {A = Result (Unit {0}) E} (Err f) (Err g) → f ≡ g
+same_fault {E} f g e = ap told e
+  where
+    told : Result (Unit {0}) E → E
+    told (Ok t) = f
+    told (Err x) = x
 
 module _ (h : Terms) (bs : List ℕ) (bounds : WalkBounds h) where
   -- ---- an image has one verdict
@@ -41,14 +52,16 @@ module _ (h : Terms) (bs : List ℕ) (bounds : WalkBounds h) where
   pub one_verdict : (v w : Verdict) → IsWalksVerdict h bs v → IsWalksVerdict h bs w → v ≡ w
   one_verdict _ _ (IsWalksVerdict.accepted f b) (IsWalksVerdict.accepted g d) = refl
   one_verdict _ _ (IsWalksVerdict.accepted f b) (IsWalksVerdict.foreign p k l) = absurd (f p k)
-  one_verdict _ _ (IsWalksVerdict.accepted f b) (IsWalksVerdict.bad g p k l) = absurd (b p k)
+  one_verdict _ _ (IsWalksVerdict.accepted f b) (IsWalksVerdict.bad g p k l f1 e1) = absurd (b p k)
   one_verdict _ _ (IsWalksVerdict.foreign p k l) (IsWalksVerdict.accepted f b) = absurd (f p k)
-  one_verdict _ _ (IsWalksVerdict.foreign p k l) (IsWalksVerdict.foreign q m n) = ap verdict.Foreign (let a = l q m in let b = n p k in omega arith)
-  one_verdict _ _ (IsWalksVerdict.foreign p k l) (IsWalksVerdict.bad g q m n) = absurd (g p k)
-  one_verdict _ _ (IsWalksVerdict.bad g p k l) (IsWalksVerdict.accepted f b) = absurd (b p k)
-  one_verdict _ _ (IsWalksVerdict.bad g p k l) (IsWalksVerdict.foreign q m n) = absurd (g q m)
-  one_verdict _ _ (IsWalksVerdict.bad g p k l) (IsWalksVerdict.bad f q m n) =
-      ap (λ (o : Point). verdict.Bad (fault_at h bs o) o) (same_point p q k.0 m.0 (n p k) (l q m))
+  one_verdict _ _ (IsWalksVerdict.foreign p k l) (IsWalksVerdict.foreign q m n) = ap (λ (b : ℕ). Err (verdict.Foreign b)) (let a = l q m in let b = n p k in omega arith)
+  one_verdict _ _ (IsWalksVerdict.foreign p k l) (IsWalksVerdict.bad g q m n g1 e2) = absurd (g p k)
+  one_verdict _ _ (IsWalksVerdict.bad g p k l f1 e1) (IsWalksVerdict.accepted f b) = absurd (b p k)
+  one_verdict _ _ (IsWalksVerdict.bad g p k l f1 e1) (IsWalksVerdict.foreign q m n) = absurd (g q m)
+  one_verdict _ _ (IsWalksVerdict.bad g p k l f1 e1) (IsWalksVerdict.bad f q m n g1 e2) =
+      let e = same_point p q k.0 m.0 (n p k) (l q m) in
+      let g : f1 ≡ g1 = same_fault f1 g1 (sym e1 ∙ ap (fault_at h bs) e ∙ e2) in
+      ap₂ (λ (f : Fault) (o : Point). Err (verdict.Bad f o)) g e
 
   -- ---- the computed verdict is that one
 
@@ -113,36 +126,45 @@ module _ (h : Terms) (bs : List ℕ) (bounds : WalkBounds h) where
         omega arith
 
     -- a foreign point that is reached, where there is a least block
-    says_foreign : least_foreign h bs is < most_blocks → IsWalksVerdict h bs (verdict.Foreign (least_foreign h bs is))
+    says_foreign : least_foreign h bs is < most_blocks → IsWalksVerdict h bs (Err (verdict.Foreign (least_foreign h bs is)))
     unfolding least_foreign
     says_foreign l = found (least_found foreign_test block_of most_blocks is)
       where
         found : (least_foreign h bs is ≡ most_blocks) ⊎ Member foreign_test block_of most_blocks is (least_foreign h bs is)
-            → IsWalksVerdict h bs (verdict.Foreign (least_foreign h bs is))
+            → IsWalksVerdict h bs (Err (verdict.Foreign (least_foreign h bs is)))
         found (inl e) = absurd (omega arith)
         found (inr m) =
             let p = point_at m.at in
             let e : p.block ≡ least_foreign h bs is = m.key_is in
             rw (← e) (IsWalksVerdict.foreign p (walked m.at m.member, m.passes) (λ q f. rw e (foreign_least q f)))
 
+    -- a bad point breaks something, which is told
+    by_fault : NoForeign h bs → (p : Point) → BadAt h bs p → ((q : Point) → BadAt h bs q → before q p ≡ false)
+        → IsWalksVerdict h bs (refused_by (λ f. verdict.Bad f p) (fault_at h bs p) (Ok tt))
+    by_fault none p b least = go (fault_at h bs p) refl
+      where
+        go : (r : FaultResult) → fault_at h bs p ≡ r → IsWalksVerdict h bs (refused_by (λ f. verdict.Bad f p) r (Ok tt))
+        go (Ok _) e = clash (sym b.1 ∙ ap is_bad e)
+        go (Err f) e = IsWalksVerdict.bad none p b least f e
+
     -- a bad point that is reached, where there is a least one
     says_bad : NoForeign h bs → least_bad h bs is < marks_length
-        → IsWalksVerdict h bs (verdict.Bad (fault_at h bs (point_at (least_bad h bs is))) (point_at (least_bad h bs is)))
+        → IsWalksVerdict h bs (refused_by (λ f. verdict.Bad f (point_at (least_bad h bs is))) (fault_at h bs (point_at (least_bad h bs is))) (Ok tt))
     unfolding least_bad
     says_bad none l = found (least_found bad_test same marks_length is)
       where
         found : (least_bad h bs is ≡ marks_length) ⊎ Member bad_test same marks_length is (least_bad h bs is)
-            → IsWalksVerdict h bs (verdict.Bad (fault_at h bs (point_at (least_bad h bs is))) (point_at (least_bad h bs is)))
+            → IsWalksVerdict h bs (refused_by (λ f. verdict.Bad f (point_at (least_bad h bs is))) (fault_at h bs (point_at (least_bad h bs is))) (Ok tt))
         found (inl e) = absurd (omega arith)
-        found (inr m) = subst (λ (i : ℕ). IsWalksVerdict h bs (verdict.Bad (fault_at h bs (point_at i)) (point_at i))) m.key_is
+        found (inr m) = subst (λ (i : ℕ). IsWalksVerdict h bs (refused_by (λ f. verdict.Bad f (point_at i)) (fault_at h bs (point_at i)) (Ok tt))) m.key_is
             (here m.at m.key_is m.member m.passes)
           where
-            here : (i : ℕ) → i ≡ least_bad h bs is → In i is → bad_test i ≡ true → IsWalksVerdict h bs (verdict.Bad (fault_at h bs (point_at i)) (point_at i))
+            here : (i : ℕ) → i ≡ least_bad h bs is → In i is → bad_test i ≡ true → IsWalksVerdict h bs (refused_by (λ f. verdict.Bad f (point_at i)) (fault_at h bs (point_at i)) (Ok tt))
             here i e k t =
                 let w = walked i k in
                 let p = point_at i in
                 let inside-p = inside h bs bounds p (reached_within h bs bounds p w) in
-                IsWalksVerdict.bad none p (w, t)
+                by_fault none p (w, t)
                 (λ q f. in_order q p (inside h bs bounds q (reached_within h bs bounds q f.0)) inside-p
                 ∙ le-ltb (index_of q) (index_of p) (let a = bad_least q f in let b = index_back i in omega arith))
 
@@ -151,14 +173,14 @@ module _ (h : Terms) (bs : List ℕ) (bounds : WalkBounds h) where
     says = first (ltb (least_foreign h bs is) most_blocks) refl
       where
         second : NoForeign h bs → (t : Bool) → ltb (least_bad h bs is) marks_length ≡ t
-            → IsWalksVerdict h bs (cond t (verdict.Bad (fault_at h bs (point_at (least_bad h bs is))) (point_at (least_bad h bs is))) verdict.Accepted)
+            → IsWalksVerdict h bs (cond t (refused_by (λ f. verdict.Bad f (point_at (least_bad h bs is))) (fault_at h bs (point_at (least_bad h bs is))) (Ok tt)) (Ok tt))
         second none true e = says_bad none (ltb-true _ _ e)
         second none false e = IsWalksVerdict.accepted none (no_bad (ltb-false _ _ e))
 
         first : (t : Bool) → ltb (least_foreign h bs is) most_blocks ≡ t
             → IsWalksVerdict h bs
-            (cond t (verdict.Foreign (least_foreign h bs is))
-            (cond (ltb (least_bad h bs is) marks_length) (verdict.Bad (fault_at h bs (point_at (least_bad h bs is))) (point_at (least_bad h bs is))) verdict.Accepted))
+            (cond t (Err (verdict.Foreign (least_foreign h bs is)))
+            (cond (ltb (least_bad h bs is) marks_length) (refused_by (λ f. verdict.Bad f (point_at (least_bad h bs is))) (fault_at h bs (point_at (least_bad h bs is))) (Ok tt)) (Ok tt)))
         first true e = says_foreign (ltb-true _ _ e)
         first false e = second (no_foreign (ltb-false _ _ e)) (ltb (least_bad h bs is) marks_length) refl
 

@@ -1,17 +1,12 @@
--- `blocks` meets its contract: the verdict decides how much of the part is handed back.
-use mathlib.Core.Path.{sym}
-use lib.Seq.{length-take-le}
-use Rattle.walk_search.proofs.PartByPart.{kept_within, kept_blocks}
+-- `blocks` meets its contract: the verdict decides whether the blocks are handed back.
+use mathlib.Core.Path.{refl}
+use Rattle.walk.specs.Verdict.{accepted_blocks}
 use Rattle.walk_search.proofs.blocks.Goals as goal
 
-pub slice_bounds-result-end : goal.slice_bounds-result-end
-slice_bounds-result-end c =
-    sym (length-take-le _ _ (kept_within c.judge-verdict.result _ c.kept_length-n.ensures))
+pub returns-then-is_accepted-clause-result_value : goal.returns-then-is_accepted-clause-result_value
+unfolding accepted_blocks
+returns-then-is_accepted-clause-result_value c = rw (← c.judge.ensures.value, ← c.is_accepted.ensures, c.if-is_accepted.true) c.block_part.ensures
 
-pub returns : goal.returns
-returns c =
-    let j = c.judge-verdict.ensures in
-    record {
-      result_value = kept_blocks _ _ j.value c.block_part-part.ensures c.kept_length-n.ensures;
-      after = j.after;
-    }
+pub returns-else-is_accepted-clause-result_value : goal.returns-else-is_accepted-clause-result_value
+unfolding accepted_blocks
+returns-else-is_accepted-clause-result_value c = rw (← c.judge.ensures.value, ← c.is_accepted.ensures, c.if-is_accepted.false) refl

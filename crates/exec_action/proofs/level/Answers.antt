@@ -1,9 +1,0 @@
--- `level` meets its contract by its one test.
-use borrow.Author.Tests.{ne_eqb}
-use Rattle.exec_action.proofs.level.Goals as goal
-
-pub returns-then-byte-eq0 : goal.returns-then-byte-eq0
-returns-then-byte-eq0 c = rw c.if-byte-eq0.true
-
-pub returns-else-byte-eq0 : goal.returns-else-byte-eq0
-returns-else-byte-eq0 c = simp (ne_eqb _ _ c.if-byte-eq0.false)

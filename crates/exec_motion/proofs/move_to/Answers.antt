@@ -1,8 +1,0 @@
--- `move_to` meets its contract: it moves by the stored parameters.
-use Rattle.exec_motion.proofs.move_to.Goals as goal
-
-pub moves-requires : goal.moves-requires
-moves-requires c = tt
-
-pub returns : goal.returns
-returns c = rw c.moves.ensures

@@ -1,8 +1,0 @@
--- `num_arith::le::read_u32` meets its contract: the number of four bytes, spelled out.
-use native.Mathlib.Omega.{arith}
-use Rattle.num_le.proofs.LittleEndian.{spell}
-use Rattle.num_le.proofs.read_u32.Goals as goal
-
-pub returns : goal.returns
-returns c =
-    omega (arith, spell 4 c.args.bytes c.well_formed.0.1.0.1)

@@ -1,7 +1,0 @@
--- `num_arith::le::read_u8` meets its contract: the number of one byte, spelled out.
-use native.Mathlib.Omega.{arith}
-use Rattle.num_le.proofs.LittleEndian.{spell}
-use Rattle.num_le.proofs.read_u8.Goals as goal
-
-pub returns : goal.returns
-returns c = omega (arith, spell 1 c.args.bytes c.well_formed.0.1.0.1)

@@ -1,6 +1,0 @@
--- `to` meets its contract: each field is what it is handed.
-use mathlib.Core.Path.{refl}
-use Rattle.walk_graph.proofs.to.Goals as goal
-
-pub returns : goal.returns
-returns c = refl
