@@ -13,7 +13,7 @@ const ROOM: usize = 128;
 pub fn show<P: Print>(rt: &P, word: &[u8], v: u64) -> io::Result<u64>
     ensures { IfOk result (λ shown. shown ≡ v) }
 {
-    show_behind(rt, word, |line, at| text::put_decimal(line, at, v))?;
+    let _ = show_behind(rt, word, |line, at| text::put_decimal(line, at, v))?;
     Ok(v)
 }
 
@@ -21,7 +21,7 @@ pub fn show<P: Print>(rt: &P, word: &[u8], v: u64) -> io::Result<u64>
 pub fn show_signed<P: Print>(rt: &P, word: &[u8], v: i32) -> io::Result<i32>
     ensures { IfOk result (λ shown. shown ≡ v) }
 {
-    show_behind(rt, word, |line, at| text::put_signed(line, at, v))?;
+    let _ = show_behind(rt, word, |line, at| text::put_signed(line, at, v))?;
     Ok(v)
 }
 
@@ -29,21 +29,23 @@ pub fn show_signed<P: Print>(rt: &P, word: &[u8], v: i32) -> io::Result<i32>
 pub fn show_hex<P: Print>(rt: &P, word: &[u8], v: u8) -> io::Result<u8>
     ensures { IfOk result (λ shown. shown ≡ v) }
 {
-    show_behind(rt, word, |line, at| text::put_hex(line, at, v))?;
+    let _ = show_behind(rt, word, |line, at| text::put_hex(line, at, v))?;
     Ok(v)
 }
 
-// Prints a word, and behind it what `put` puts into the line; `put` gives where the line ends.
+// Prints a word, and behind it what `put` puts into the line; gives where the line ends, which `put` says.
 fn show_behind<P: Print, F: FnOnce(&mut [u8], usize) -> usize>(
     rt: &P,
     word: &[u8],
     put: F,
-) -> io::Result<()>
+) -> io::Result<usize>
     requires callable { F.IsAlwaysCallable put }
     requires counts { (line : _) (at : _) (end : _) (left : _) → F.post put line at end left → IsPrefixLen end left.now }
+    ensures { IfOk result (λ end. (line : _) × (at : _) × (left : _) × F.post put line at end left) }
 {
     let mut line = [0u8; ROOM];
     let at = text::put(&mut line, 0, word);
     let end = put(&mut line, at);
-    rt.write_all(&line[..end])
+    rt.write_all(&line[..end])?;
+    Ok(end)
 }
