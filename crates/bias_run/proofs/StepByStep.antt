@@ -22,12 +22,13 @@ use Rattle.bias_run.specs.Steps.{head_length, length_at, next_at, step_at, steps
 -- ---- at a place
 
 -- where no step stands whole there is none
-none_from : (s : List ℕ) (at k : ℕ) → length s < next_at s at → steps_from s at k ≡ []
+pub none_from : (s : List ℕ) (at k : ℕ) → length s < next_at s at → steps_from s at k ≡ []
 unfolding steps_from
 none_from s at zero h = refl
 none_from s at (suc k) h = rw (lt-leb (next_at s at) (length s) h)
 
-one_from : (s : List ℕ) (at k : ℕ) → next_at s at ≤ length s → steps_from s at (suc k) ≡ step_at s at ∷ steps_from s (next_at s at) k
+-- where one stands whole it is the first
+pub one_from : (s : List ℕ) (at k : ℕ) → next_at s at ≤ length s → steps_from s at (suc k) ≡ step_at s at ∷ steps_from s (next_at s at) k
 unfolding steps_from
 one_from s at k h = rw (le-leb (next_at s at) (length s) h)
 
@@ -80,7 +81,7 @@ pub none_whole : (s : List ℕ) → length s < next_at s 0 → steps_of s ≡ []
 unfolding steps_of
 none_whole s h = none_from s 0 (length s) h
 
-one_more : (s : List ℕ) (n k : ℕ) → n ≡ next_at s 0 → n ≤ length s → length s ≡ k → steps_from s 0 k ≡ step_at s 0 ∷ steps_of (drop n s)
+pub one_more : (s : List ℕ) (n k : ℕ) → n ≡ next_at s 0 → n ≤ length s → length s ≡ k → steps_from s 0 k ≡ step_at s 0 ∷ steps_of (drop n s)
 unfolding steps_of
 one_more s n zero q h e = absurd (omega arith)
 one_more s n (suc k) q h e =

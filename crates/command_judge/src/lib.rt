@@ -44,6 +44,13 @@ impl From<Absence> for BlockFault {
     }
 }
 
+// Document 01's number of what judging a block comes to; 0 where it passes.
+pub fn number(judged: Result<(), BlockFault>) -> u32
+    ensures { result ≡ block_fault_number judged }
+{
+    judged.err().map_or(0, |fault| fault.number())
+}
+
 impl BlockFault {
     // Document 01's number, and change request 3's 23.
     pub fn number(self) -> u32

@@ -137,7 +137,21 @@ impl FlowKind {
     pub fn is_ending(self) -> bool
         ensures { result ≡ is_ending self }
     {
-        matches!(self, FlowKind::Ending)
+        match self {
+            FlowKind::Ending => true,
+            FlowKind::Nothing
+            | FlowKind::Next
+            | FlowKind::Wait
+            | FlowKind::Jump
+            | FlowKind::Branch
+            | FlowKind::Call
+            | FlowKind::Return
+            | FlowKind::StartBias
+            | FlowKind::StartPlc
+            | FlowKind::StartMathematics
+            | FlowKind::ComputedJump
+            | FlowKind::ComputedStartBias => false,
+        }
     }
 }
 

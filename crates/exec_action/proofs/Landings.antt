@@ -18,7 +18,7 @@ named : (z : ℤ) (a : ℕ) → eq_z z (pos a) ≡ true → natural z ≡ a
 named (pos n) a e = eqb-true n a e
 named (negsuc n) a e = clash (sym e)
 
-landing_found : (to : ℕ → Outcome) (ls : List ℕ) (z : ℤ) → flowing (on_to to (landing_of ls z)) ≡ landing ls to z
+pub landing_found : (to : ℕ → Outcome) (ls : List ℕ) (z : ℤ) → flowing (on_to to (landing_of ls z)) ≡ landing ls to z
 unfolding landing_of
 landing_found to [] z = refl
 landing_found to (a ∷ ls) z = go (eq_z z (pos a)) refl (landing_found to ls z)

@@ -34,17 +34,17 @@ level_of levels x = get_or levels x 0
 abbrev pub acted : Action → Values → Effect
 acted a v = effect (changed a.change v) a.request a.outcome
 
--- at most one change, a motion is asked for, and the task goes on
-abbrev pub asking : Option Change → Request → Action
-asking change m = record { change = change; request = Some m; outcome = GoOn }
+-- at most one change, at most one motion is asked for, and the task goes on
+abbrev pub asking : Option Change → Option Request → Action
+asking change m = record { change = change; request = m; outcome = GoOn }
 
--- one change, and the task goes on
-abbrev pub setting : Change → Action
-setting change = record { change = Some change; request = None; outcome = GoOn }
+-- at most one change, and the task goes on
+abbrev pub setting : Option Change → Action
+setting change = asking change None
 
 -- a variable is set
 abbrev pub assigning : Command → ℤ → Action
-assigning c z = setting (Variable c.x z)
+assigning c z = setting (Some (Variable c.x z))
 
 -- nothing changes but the task
 abbrev pub flowing : Outcome → Action
@@ -65,11 +65,11 @@ dividing c None = halting ZeroDivisor
 
 -- a move, which clears the start mark; it stays until it is started
 abbrev pub starting : Context → Motion → Notes → Request → Action
-starting g motion notes request = cond (started g motion notes) (asking (Some (Mark 0)) request) (flowing (Stay 0 0))
+starting g motion notes request = cond (started g motion notes) (asking (Some (Mark 0)) (Some request)) (flowing (Stay 0 0))
 
 -- a parameter is set to a content: 20 unless it is in range
 abbrev pub loading : ℕ → (ℕ → Axis → Axis) → ℤ → Axis → Action
-loading most put content axis = cond (within 1 most content) (setting (Parameters first_axis (put (natural content) axis))) (halting BadContent)
+loading most put content axis = cond (within 1 most content) (setting (Some (Parameters first_axis (put (natural content) axis)))) (halting BadContent)
 
 -- a wait for as long as a content says, which is judged by 20 unless the wait is pending
 abbrev pub waiting : Context → ℤ → Action

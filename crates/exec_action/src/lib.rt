@@ -21,32 +21,29 @@ pub struct Action {
     pub outcome: Outcome,
 }
 
-// At most one change, a motion is asked for, and the task goes on.
-pub fn asks(change: Option<Change>, request: Request) -> Action
+// At most one change, at most one motion is asked for, and the task goes on.
+pub fn asks(change: Option<Change>, request: Option<Request>) -> Action
     ensures { result ≡ asking change request }
 {
     Action {
         change,
-        request: Some(request),
+        request,
         outcome: Outcome::GoOn,
     }
 }
 
-// One change, and the task goes on.
-pub fn sets(change: Change) -> Action
+// At most one change, and the task goes on.
+pub fn sets(change: Option<Change>) -> Action
     ensures { result ≡ setting change }
 {
-    Action {
-        change: Some(change),
-        ..flows(Outcome::GoOn)
-    }
+    asks(change, None)
 }
 
 // Variable x of a command is set, and the task goes on.
 pub fn assigns(c: Command, value: i32) -> Action
     ensures { result ≡ assigning c value }
 {
-    sets(Change::Variable(c.x, value))
+    sets(Some(Change::Variable(c.x, value)))
 }
 
 // Nothing changes but the task.

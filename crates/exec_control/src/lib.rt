@@ -1,9 +1,9 @@
-// Commands of control (51 to 5B; 50 does nothing) and of mathematics (90): one function for each, and one for starts. They take what they read, and change
-// nothing but tasks.
+// Commands of control (51 to 5B; 50 does nothing) and of mathematics (90): one function for each; the starts of a task stand on one
+// function that is given it. They take what they read, and change nothing but tasks.
 #![tactic(auto)]
 
 ghost use Rattle.std.specs.Prelude.{◌≡◌, cond, ◌*◌, ◌<◌, eqb};
-ghost use Rattle.limits.specs.Limits.{bias, most_time};
+ghost use Rattle.limits.specs.Limits.{bias, plc, mathematics, most_time};
 ghost use Rattle.state.specs.Wait.{due};
 ghost use Rattle.machine.specs.Effect.{within, natural, arrived, waits, time_of};
 ghost use Rattle.exec_action.specs.Action.{flowing, waiting, content, landing};
@@ -48,6 +48,13 @@ pub fn start(task: u8, c: Command) -> Action
     exec_action::flows(Outcome::Start(task, c.word))
 }
 
+// 54: the PLC is started.
+pub fn start_plc(c: Command) -> Action
+    ensures { result ≡ flowing (Start plc c.word) }
+{
+    start(limits::PLC, c)
+}
+
 // 55: a jump.
 pub fn jump(c: Command) -> Action
     ensures { result ≡ flowing (Jump c.word) }
@@ -64,6 +71,13 @@ pub fn jump_to_landing<'a>(c: Command, variables: &'a [i32; CELLS], landings: &'
         Outcome::Halt(Cause::NoLanding),
         |block| Outcome::Jump(block),
     ))
+}
+
+// 57: BIAS is started.
+pub fn start_bias(c: Command) -> Action
+    ensures { result ≡ flowing (Start bias c.word) }
+{
+    start(limits::BIAS, c)
 }
 
 // 58: on when the ramp has ended, the position is in the window and the preceding BIAS step, refused and halted ones apart, was no move.
@@ -154,4 +168,11 @@ fn time_of(drive: Drive, content: u32) -> u32
         return content - content % 2;
     }
     content
+}
+
+// 90: mathematics is started.
+pub fn start_mathematics(c: Command) -> Action
+    ensures { result ≡ flowing (Start mathematics c.word) }
+{
+    start(limits::MATHEMATICS, c)
 }

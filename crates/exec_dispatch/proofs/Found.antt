@@ -48,13 +48,13 @@ module _ (inputs ls : List ℕ) (g : Context) (c : Command) (v : Values) where
   -- arms that do one of two things
   pub found_move : (kind : Axis → Request) {k : ℕ} {r : Action} → c.code ≡ k → r ≡ starting g v.motion v.notes (kind v.motion.axis)
       → moves kind g c v ≡ effect_in (effect_rows inputs ls) k g c v → acted r v ≡ effect_of inputs ls g c v
-  found_move kind i e h = found i e (either (started g v.motion v.notes) (asking (Some (Mark 0)) (kind v.motion.axis)) (flowing (Stay 0 0)) v ∙ h)
+  found_move kind i e h = found i e (either (started g v.motion v.notes) (asking (Some (Mark 0)) (Some (kind v.motion.axis))) (flowing (Stay 0 0)) v ∙ h)
 
   pub found_parameter : (most : ℕ) (put : ℕ → Axis → Axis) {k : ℕ} {r : Action} → c.code ≡ k → r ≡ loading most put (variable v c.x) v.motion.axis
       → parameter most put g c v ≡ effect_in (effect_rows inputs ls) k g c v → acted r v ≡ effect_of inputs ls g c v
   found_parameter most put i e h =
       found i e
-      (either (within 1 most (variable v c.x)) (setting (Parameters first_axis (put (natural (variable v c.x)) v.motion.axis)))
+      (either (within 1 most (variable v c.x)) (setting (Some (Parameters first_axis (put (natural (variable v c.x)) v.motion.axis))))
       (halting BadContent) v ∙ h)
 
   pub found_wait : {k : ℕ} {r : Action} → c.code ≡ k → r ≡ waiting g (variable v c.x)

@@ -1,5 +1,5 @@
-// Commands of motion (00, 01, 03, 04, 0E, 0F, 1F) and of the stored parameters (20 to 23, 30 to 33, 40 to 43): one function for each, and one for
-// moves. They take what they read.
+// Commands of motion (00, 01, 03, 04, 0E, 0F, 1F) and of the stored parameters (20 to 23, 30 to 33, 40 to 43): one function for each;
+// the moves stand on one function that is given the request. They take what they read.
 #![tactic(auto)]
 
 ghost use Rattle.std.specs.Prelude.{◌≡◌, cond, pos, Some, None, MatchOption};
@@ -29,70 +29,98 @@ pub fn moves(context: Context, motion: Motion, notes: Notes, request: Request) -
     ensures { result ≡ starting context motion notes request }
 {
     if started(context, motion, notes) {
-        return exec_action::asks(Some(Change::Mark(0)), request);
+        return exec_action::asks(Some(Change::Mark(0)), Some(request));
     }
     exec_action::flows(Outcome::Stay(0, 0))
 }
 
+// 00: a move to the stored position.
+pub fn move_to(context: Context, motion: Motion, notes: Notes) -> Action
+    ensures { result ≡ starting context motion notes (request.MoveTo motion.axis) }
+{
+    moves(context, motion, notes, Request::MoveTo(motion.axis))
+}
+
+// 01: a move by the stored position.
+pub fn move_by(context: Context, motion: Motion, notes: Notes) -> Action
+    ensures { result ≡ starting context motion notes (request.MoveBy motion.axis) }
+{
+    moves(context, motion, notes, Request::MoveBy(motion.axis))
+}
+
+// 03: endless, forward.
+pub fn forward(context: Context, motion: Motion, notes: Notes) -> Action
+    ensures { result ≡ starting context motion notes (request.Forward motion.axis) }
+{
+    moves(context, motion, notes, Request::Forward(motion.axis))
+}
+
+// 04: endless, backward.
+pub fn backward(context: Context, motion: Motion, notes: Notes) -> Action
+    ensures { result ≡ starting context motion notes (request.Backward motion.axis) }
+{
+    moves(context, motion, notes, Request::Backward(motion.axis))
+}
+
 // 0E: the start mark is set.
 pub fn set_mark() -> Action
-    ensures { result ≡ setting (Mark 1) }
+    ensures { result ≡ setting (Some (Mark 1)) }
 {
-    exec_action::sets(Change::Mark(1))
+    exec_action::sets(Some(Change::Mark(1)))
 }
 
 // 0F: a stop of mode x, with the stored deceleration.
 pub fn stop(c: Command, axis: Axis) -> Action
-    ensures { result ≡ asking None (request.Stop c.x axis.deceleration) }
+    ensures { result ≡ asking None (Some (request.Stop c.x axis.deceleration)) }
 {
-    exec_action::asks(None, Request::Stop(c.x, axis.deceleration))
+    exec_action::asks(None, Some(Request::Stop(c.x, axis.deceleration)))
 }
 
 // 1F: a stop of mode x, with the deceleration in word.
 pub fn stop_by(c: Command) -> Action
-    ensures { result ≡ asking None (request.Stop c.x c.word) }
+    ensures { result ≡ asking None (Some (request.Stop c.x c.word)) }
 {
-    exec_action::asks(None, Request::Stop(c.x, c.word))
+    exec_action::asks(None, Some(Request::Stop(c.x, c.word)))
 }
 
 // The stored parameters are set.
 fn sets(axis: Axis) -> Action
-    ensures { result ≡ setting (Parameters first_axis axis) }
+    ensures { result ≡ setting (Some (Parameters first_axis axis)) }
 {
-    exec_action::sets(Change::Parameters(FIRST_AXIS, axis))
+    exec_action::sets(Some(Change::Parameters(FIRST_AXIS, axis)))
 }
 
 // 20: position = value.
 pub fn set_position(c: Command, axis: Axis) -> Action
-    ensures { result ≡ setting (Parameters first_axis (with_position c.value axis)) }
+    ensures { result ≡ setting (Some (Parameters first_axis (with_position c.value axis))) }
 {
     sets(axis.with_position(c.value))
 }
 
 // 21: speed = word.
 pub fn set_speed(c: Command, axis: Axis) -> Action
-    ensures { result ≡ setting (Parameters first_axis (with_speed c.word axis)) }
+    ensures { result ≡ setting (Some (Parameters first_axis (with_speed c.word axis))) }
 {
     sets(axis.with_speed(c.word))
 }
 
 // 22: acceleration = word.
 pub fn set_acceleration(c: Command, axis: Axis) -> Action
-    ensures { result ≡ setting (Parameters first_axis (with_acceleration c.word axis)) }
+    ensures { result ≡ setting (Some (Parameters first_axis (with_acceleration c.word axis))) }
 {
     sets(axis.with_acceleration(c.word))
 }
 
 // 23: deceleration = word.
 pub fn set_deceleration(c: Command, axis: Axis) -> Action
-    ensures { result ≡ setting (Parameters first_axis (with_deceleration c.word axis)) }
+    ensures { result ≡ setting (Some (Parameters first_axis (with_deceleration c.word axis))) }
 {
     sets(axis.with_deceleration(c.word))
 }
 
 // 30: position = variable x.
 pub fn load_position(c: Command, variables: &[i32; CELLS], axis: Axis) -> Action
-    ensures { result ≡ setting (Parameters first_axis (with_position (content variables.now c.x) axis)) }
+    ensures { result ≡ setting (Some (Parameters first_axis (with_position (content variables.now c.x) axis))) }
 {
     sets(axis.with_position(exec_action::content(variables, c.x)))
 }
@@ -108,7 +136,7 @@ fn in_range(most: u16, content: i32) -> Option<u16>
 
 // Parameters with a content, which are set; 20 where the content is out of range.
 fn loads(axis: Option<Axis>) -> Action
-    ensures { MatchOption axis (result ≡ halting BadContent) (λ loaded. result ≡ setting (Parameters first_axis loaded)) }
+    ensures { MatchOption axis (result ≡ halting BadContent) (λ loaded. result ≡ setting (Some (Parameters first_axis loaded))) }
 {
     match axis {
         Some(loaded) => sets(loaded),

@@ -107,7 +107,7 @@ pub fn ready_for(
         Ok(read) => read,
         Err(_) => return Err(NotDone::Differs(p)),
     };
-    let block = walk_blocks::block_at(reader::part_of(image, read), task.block);
+    let block = walk_blocks::block_at(reader::part_of(image, Ok(read)), task.block);
     let i = walk_blocks::decode(block);
     let c = i.command;
     if !(is_loaded(read, &lent, header, landings)

@@ -1,8 +1,8 @@
-// Commands of variables (80 to 86, 88 to 8D): one function for each, or for the operations with one kind of operand. They take what
-// they read.
+// Commands of variables (80 to 86, 88 to 8D): one function for each; those that differ in the operation alone stand on one function
+// that is given it. They take what they read.
 #![tactic(auto)]
 
-ghost use Rattle.std.specs.Prelude.{◌≡◌, ◌+◌, ◌*◌, ℤ, pos};
+ghost use Rattle.std.specs.Prelude.{◌≡◌, ◌+◌, ◌*◌, ℤ, pos, ◌+ℤ◌, ◌-ℤ◌, ◌*ℤ◌};
 ghost use Rattle.std.specs.Int.{w32};
 ghost use Rattle.num_arith.specs.Wrap.{word, wrap};
 ghost use Rattle.num_arith.specs.Ops.{quotient, holds};
@@ -41,6 +41,27 @@ pub fn with_value<F: Fn(i32, i32) -> i32>(
     ensures { (z : ℤ) × F.post operation (content variables.now c.y) c.value z × (result ≡ assigning c z) }
 {
     exec_action::assigns(c, operation(exec_action::content(variables, c.y), c.value))
+}
+
+// 82: variable x = variable y + value.
+pub fn add_value(c: Command, variables: &[i32; CELLS]) -> Action
+    ensures { result ≡ assigning c (wrap w32 (content variables.now c.y +ℤ c.value)) }
+{
+    with_value(c, variables, num_arith::add)
+}
+
+// 83: variable x = variable y - value.
+pub fn sub_value(c: Command, variables: &[i32; CELLS]) -> Action
+    ensures { result ≡ assigning c (wrap w32 (content variables.now c.y -ℤ c.value)) }
+{
+    with_value(c, variables, num_arith::sub)
+}
+
+// 84: variable x = variable y * value.
+pub fn mul_value(c: Command, variables: &[i32; CELLS]) -> Action
+    ensures { result ≡ assigning c (wrap w32 (content variables.now c.y *ℤ c.value)) }
+{
+    with_value(c, variables, num_arith::mul)
 }
 
 // A quotient is stored; a zero divisor halts.
@@ -96,6 +117,27 @@ pub fn with_variable<F: Fn(i32, i32) -> i32>(
     let y = exec_action::content(variables, c.y);
     let z = exec_action::content(variables, c.z);
     exec_action::assigns(c, operation(y, z))
+}
+
+// 8A: variable x = variable y + variable z.
+pub fn add_variable(c: Command, variables: &[i32; CELLS]) -> Action
+    ensures { result ≡ assigning c (wrap w32 (content variables.now c.y +ℤ content variables.now c.z)) }
+{
+    with_variable(c, variables, num_arith::add)
+}
+
+// 8B: variable x = variable y - variable z.
+pub fn sub_variable(c: Command, variables: &[i32; CELLS]) -> Action
+    ensures { result ≡ assigning c (wrap w32 (content variables.now c.y -ℤ content variables.now c.z)) }
+{
+    with_variable(c, variables, num_arith::sub)
+}
+
+// 8C: variable x = variable y * variable z.
+pub fn mul_variable(c: Command, variables: &[i32; CELLS]) -> Action
+    ensures { result ≡ assigning c (wrap w32 (content variables.now c.y *ℤ content variables.now c.z)) }
+{
+    with_variable(c, variables, num_arith::mul)
 }
 
 // 8D: variable x = variable y / variable z.

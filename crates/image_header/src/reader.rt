@@ -73,24 +73,23 @@ pub fn read(image: &[u8], landings: &mut [u16; MOST_LANDINGS]) -> Result<HeaderR
 }
 
 // The part of the image that holds its blocks; the empty part where the image is refused by 1 to 4 or 21.
-#[tactic(auto, using(crate::proofs::Read::no_blocks))]
 pub fn block_part(image: &[u8]) -> &[u8]
     ensures { result.now ≡ blocks_of image.now }
 {
     let mut landings = [0; MOST_LANDINGS];
-    match read(image, &mut landings) {
-        Ok(h) => part_of(image, h),
-        Err(_) => &image[..0],
-    }
+    part_of(image, read(image, &mut landings))
 }
 
-// The same, of an image whose header was read before.
-#[tactic(auto, using(crate::proofs::Read::inside, crate::proofs::Read::all_blocks))]
-pub fn part_of(image: &[u8], h: HeaderRead) -> &[u8]
-    requires { read_result (header_of image.now) ≡ Ok h }
+// The same, of what came of reading its header before.
+#[tactic(auto, using(crate::proofs::Read::inside, crate::proofs::Read::all_blocks, crate::proofs::Read::no_blocks))]
+pub fn part_of(image: &[u8], read: Result<HeaderRead, ImageFault>) -> &[u8]
+    requires { read ≡ read_result (header_of image.now) }
     ensures { result.now ≡ blocks_of image.now }
 {
-    &image[h.at..]
+    match read {
+        Ok(h) => &image[h.at..],
+        Err(_) => &image[..0],
+    }
 }
 
 // Whether load accepts a header: every row lets it pass.

@@ -7,6 +7,20 @@ ghost use Rattle.image_result.specs.ImageResult.{result_number, result_place};
 // Done, or a refusal.
 pub type ImageResult = Result<(), ImageFault>;
 
+// Document 01's number of what reading or writing an image comes to; 0 where it is done.
+pub fn number(outcome: ImageResult) -> u32
+    ensures { result ≡ result_number outcome }
+{
+    outcome.err().map_or(0, |fault| fault.number())
+}
+
+// The place that document 01 names in brackets; 0 where it is done.
+pub fn place(outcome: ImageResult) -> usize
+    ensures { result ≡ result_place outcome }
+{
+    outcome.err().map_or(0, |fault| fault.place())
+}
+
 // A refusal with its place.
 #[derive(Clone, Copy)]
 pub enum ImageFault {

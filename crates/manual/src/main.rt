@@ -40,7 +40,8 @@ fn examples<P: Print>(rt: &P, text: &[u8]) -> io::Result<usize>
     for (i, byte) in text.iter().enumerate() {
         if *byte == LINE_END {
             n += 1;
-            println!(rt; "example {n}")?;
+            text_print::show(rt, b"example ", n as u64)?;
+            rt.write_all(b"\n")?;
             example(rt, &text[from..i])?;
             from = i + 1;
         }

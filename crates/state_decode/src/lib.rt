@@ -2,26 +2,28 @@
 #![tactic(auto)]
 
 ghost use Rattle.std.specs.Prelude.{◌≡◌, ℕ, ◌+◌, ◌*◌, ◌<◌, ◌≤◌, length, get_or};
-ghost use Rattle.limits.specs.Limits.{task_count, most_depth, most_landings};
+ghost use Rattle.limits.specs.Limits.{task_count, most_depth, most_landings, state_length};
 ghost use Rattle.state.specs.State.{task_at};
 ghost use Rattle.state_layout.specs.Codecs.{levels_length, levels_in, header_in, landings_in, motion_in, notes_in, stack_in, task_length, task_in};
 ghost use Rattle.state_layout.specs.Layout.{header_at, landings_at, motion_at, notes_at, cells_in, bias_in, plc_in, mathematics_in, tasks_in, decoded};
 
 use drive::Drive;
 use image_header::Header;
-use limits::{CELLS, MOST_LANDINGS, STACK_LENGTH, STATE_LENGTH, TASKS};
+use limits::{CELLS, MOST_LANDINGS, STACK_LENGTH, TASKS};
 use state::{Axis, Motion, Notes, Task};
 
 // The three tasks.
-pub fn tasks_in(b: &[u8; STATE_LENGTH]) -> [Task; TASKS]
+pub fn tasks_in(b: &[u8]) -> [Task; TASKS]
+    requires { length b.now ≡ state_length }
     ensures { result ≡ tasks_in b.now }
 {
     [task_at(b, 0), task_at(b, 1), task_at(b, 2)]
 }
 
 // One of them.
-pub fn task_at(b: &[u8; STATE_LENGTH], t: u8) -> Task
-    requires { t < task_count }
+pub fn task_at(b: &[u8], t: u8) -> Task
+    requires b_len { length b.now ≡ state_length }
+    requires task_in_range { t < task_count }
     ensures { result ≡ task_at (decoded b.now) t }
 {
     let at = state_layout::TASKS_AT + usize::from(t) * state_layout::TASK_LENGTH;
@@ -29,8 +31,9 @@ pub fn task_at(b: &[u8; STATE_LENGTH], t: u8) -> Task
 }
 
 // The block that a task starts at: BIAS starts at the program start, which the header has.
-fn start_of(b: &[u8; STATE_LENGTH], t: u8) -> u16
-    requires { t < task_count }
+fn start_of(b: &[u8], t: u8) -> u16
+    requires b_len { length b.now ≡ state_length }
+    requires task_in_range { t < task_count }
     ensures { result ≡ (task_at (decoded b.now) t).start }
 {
     if t == limits::BIAS {
@@ -40,7 +43,8 @@ fn start_of(b: &[u8; STATE_LENGTH], t: u8) -> u16
 }
 
 // The variables.
-pub fn variables_in(b: &[u8; STATE_LENGTH]) -> [i32; CELLS]
+pub fn variables_in(b: &[u8]) -> [i32; CELLS]
+    requires { length b.now ≡ state_length }
     ensures { result ≡ (cells_in b.now).variables }
 {
     let mut r = [0; CELLS];
@@ -51,21 +55,24 @@ pub fn variables_in(b: &[u8; STATE_LENGTH]) -> [i32; CELLS]
 }
 
 // The flags.
-pub fn flags_in(b: &[u8; STATE_LENGTH]) -> [u8; CELLS]
+pub fn flags_in(b: &[u8]) -> [u8; CELLS]
+    requires { length b.now ≡ state_length }
     ensures { result ≡ (cells_in b.now).flags }
 {
     levels_in(b, state_layout::FLAGS_AT)
 }
 
 // The outputs.
-pub fn outputs_in(b: &[u8; STATE_LENGTH]) -> [u8; CELLS]
+pub fn outputs_in(b: &[u8]) -> [u8; CELLS]
+    requires { length b.now ≡ state_length }
     ensures { result ≡ (cells_in b.now).outputs }
 {
     levels_in(b, state_layout::OUTPUTS_AT)
 }
 
 // The notes of BIAS.
-pub fn notes_in(b: &[u8; STATE_LENGTH]) -> Notes
+pub fn notes_in(b: &[u8]) -> Notes
+    requires { length b.now ≡ state_length }
     ensures { result ≡ notes_in b.now notes_at }
 {
     Notes {
@@ -84,7 +91,8 @@ fn levels_in(b: &[u8], at: usize) -> [u8; CELLS]
     r
 }
 
-pub fn header_in(b: &[u8; STATE_LENGTH]) -> Header
+pub fn header_in(b: &[u8]) -> Header
+    requires { length b.now ≡ state_length }
     ensures { result ≡ header_in b.now header_at }
 {
     let drive = Drive {
@@ -102,7 +110,8 @@ pub fn header_in(b: &[u8; STATE_LENGTH]) -> Header
 }
 
 // The landing list, of which the first `count` are landing blocks: no others are read, as 16 has found them 0.
-pub fn landings_in(b: &[u8; STATE_LENGTH], count: u8) -> [u16; MOST_LANDINGS]
+pub fn landings_in(b: &[u8], count: u8) -> [u16; MOST_LANDINGS]
+    requires b_len { length b.now ≡ state_length }
     requires count_in_range { count ≤ most_landings }
     requires zeros_behind { (k : ℕ) → count ≤ k → get_or (landings_in b.now landings_at) k 0 ≡ 0 }
     ensures { result ≡ landings_in b.now landings_at }
@@ -115,7 +124,8 @@ pub fn landings_in(b: &[u8; STATE_LENGTH], count: u8) -> [u16; MOST_LANDINGS]
 }
 
 // The axis and the start mark.
-pub fn motion_in(b: &[u8; STATE_LENGTH]) -> Motion
+pub fn motion_in(b: &[u8]) -> Motion
+    requires { length b.now ≡ state_length }
     ensures { result ≡ motion_in b.now motion_at }
 {
     let axis = Axis {

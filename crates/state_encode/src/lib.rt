@@ -2,6 +2,7 @@
 #![tactic(auto)]
 
 ghost use Rattle.std.specs.Prelude.{◌≡◌, [], ◌∷◌, ℕ, ◌+◌, ◌*◌, ◌<◌, ◌≤◌, length, get_or, replicate};
+ghost use Rattle.limits.specs.Limits.{state_length};
 ghost use Rattle.state_bytes.specs.Bytes.{puts};
 ghost use Rattle.state_sections.specs.Records.{record_bytes};
 ghost use Rattle.state_layout.specs.Codecs.{variables_length, variable_bytes, layout_bytes, header_bytes, landings_in, motion_bytes, notes_bytes, start_widths, word_bytes};
@@ -13,20 +14,26 @@ use limits::{CELLS, STATE_LENGTH, TASKS};
 use state::{Motion, Notes, State, Task};
 
 // The bytes of a state into the buffer.
-pub fn encode(b: &mut [u8; STATE_LENGTH], s: State)
+pub fn encode(b: &mut [u8], s: State)
+    requires { length b.old ≡ state_length }
     ensures { b.new ≡ encoded s }
 {
-    let values = s.values;
-    put_words(b, state_layout::LANDINGS_AT, &s.landings);
+    let State {
+        values,
+        header,
+        landings,
+        tasks,
+    } = s;
+    put_words(b, state_layout::LANDINGS_AT, &landings);
     encode_parts(
         b,
         &values.cells.variables,
         &values.cells.flags,
         &values.cells.outputs,
-        s.header,
+        header,
         values.motion,
         values.notes,
-        s.tasks,
+        tasks,
     );
 }
 
@@ -34,7 +41,7 @@ pub fn encode(b: &mut [u8; STATE_LENGTH], s: State)
 // changes it.
 #[inline]
 pub fn encode_parts<'a>(
-    b: &mut [u8; STATE_LENGTH],
+    b: &mut [u8],
     variables: &'a [i32; CELLS],
     flags: &'a [u8; CELLS],
     outputs: &'a [u8; CELLS],
@@ -43,6 +50,7 @@ pub fn encode_parts<'a>(
     notes: Notes,
     tasks: [Task; TASKS],
 )
+    requires { length b.old ≡ state_length }
     ensures { b.new
         ≡ encoded (state_of variables.now flags.now outputs.now header (landings_in b.old landings_at) motion
         notes tasks) }
@@ -83,13 +91,15 @@ fn put_levels(b: &mut [u8], at: usize, levels: &[u8])
 }
 
 // The number of this release's layout.
-fn put_layout(b: &mut [u8; STATE_LENGTH])
+fn put_layout(b: &mut [u8])
+    requires { length b.old ≡ state_length }
     ensures { b.new ≡ puts b.old layout_at layout_bytes }
 {
     state_bytes::put_byte(b, state_layout::LAYOUT_AT, state_layout::LAYOUT_NUMBER);
 }
 
-fn put_header(b: &mut [u8; STATE_LENGTH], h: Header)
+fn put_header(b: &mut [u8], h: Header)
+    requires { length b.old ≡ state_length }
     ensures { b.new ≡ puts b.old header_at (header_bytes h) }
 {
     state_bytes::put_byte(b, state_layout::HEADER_AT, h.format);
@@ -102,7 +112,8 @@ fn put_header(b: &mut [u8; STATE_LENGTH], h: Header)
 }
 
 // The axis and the start mark.
-fn put_motion(b: &mut [u8; STATE_LENGTH], motion: Motion)
+fn put_motion(b: &mut [u8], motion: Motion)
+    requires { length b.old ≡ state_length }
     ensures { b.new ≡ puts b.old motion_at (motion_bytes motion) }
 {
     state_bytes::put_signed(b, state_layout::MOTION_AT, motion.axis.position);
@@ -112,7 +123,8 @@ fn put_motion(b: &mut [u8; STATE_LENGTH], motion: Motion)
     state_bytes::put_byte(b, state_layout::MOTION_AT + 10, motion.mark);
 }
 
-fn put_notes(b: &mut [u8; STATE_LENGTH], notes: Notes)
+fn put_notes(b: &mut [u8], notes: Notes)
+    requires { length b.old ≡ state_length }
     ensures { b.new ≡ puts b.old notes_at (notes_bytes notes) }
 {
     state_bytes::put_byte(b, state_layout::NOTES_AT, notes.level);
@@ -120,7 +132,8 @@ fn put_notes(b: &mut [u8; STATE_LENGTH], notes: Notes)
 }
 
 // The start blocks of the PLC and of mathematics.
-fn put_starts(b: &mut [u8; STATE_LENGTH], plc: u16, mathematics: u16)
+fn put_starts(b: &mut [u8], plc: u16, mathematics: u16)
+    requires { length b.old ≡ state_length }
     ensures { b.new ≡ puts b.old starts_at (record_bytes start_widths (plc ∷ mathematics ∷ [])) }
 {
     state_bytes::put_word(b, state_layout::STARTS_AT, plc);
@@ -152,8 +165,9 @@ fn put_words(b: &mut [u8], at: usize, words: &[u16])
 }
 
 // The unused bytes, which are 0.
-fn put_unused(b: &mut [u8; STATE_LENGTH])
+fn put_unused(b: &mut [u8])
+    requires { length b.old ≡ state_length }
     ensures { b.new ≡ puts b.old unused_at (replicate unused_length 0) }
 {
-    b[state_layout::UNUSED_AT..].fill(0);
+    b[state_layout::UNUSED_AT..STATE_LENGTH].fill(0);
 }

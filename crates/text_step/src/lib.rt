@@ -2,7 +2,7 @@
 // to the stored output of the program manual; the contracts say which things are shown as changed. An error is the printing's.
 #![tactic(auto)]
 
-ghost use Rattle.std.specs.Prelude.{◌≡◌, ◌&&◌, ◌+◌, ◌*◌, ◌<◌, ◌≤◌, eqb, ltb, IfOk};
+ghost use Rattle.std.specs.Prelude.{◌≡◌, ◌&&◌, ◌+◌, ◌*◌, ◌<◌, ◌≤◌, eqb, ltb, length, IfOk};
 ghost use Rattle.std.specs.Int.{w32, cast_unsigned};
 ghost use Rattle.limits.specs.Limits.{task_count, cells, state_length};
 ghost use Rattle.image_header.specs.Scan.{blocks_of};
@@ -20,7 +20,6 @@ use state_layout::{
     FLAGS_AT, MOTION_AT, NOTES_AT, OUTPUTS_AT, STARTS_AT, TASK_LENGTH, TASKS_AT, TIME_AT, TURNS_AT,
     VARIABLES_AT,
 };
-use std::fmt::Display;
 use std::io;
 
 // The line of a step; a is the state buffer before it, b the one behind it. Gives whether nothing changed.
@@ -34,22 +33,22 @@ pub fn show_step<P: Print>(
 ) -> io::Result<bool>
     ensures { IfOk result (λ given. given ≡ unchanged a.now b.now) }
 {
-    print!(rt; "task {task}")?;
+    text_print::show(rt, b"task ", u64::from(task))?;
     show_place(rt, image, a, task)?;
-    print!(rt; " : ")?;
+    rt.write_all(b" : ")?;
     let buffers = Buffers {
         before: a,
         after: b,
     };
     let nothing = buffers.show_changes(rt)?;
     if nothing {
-        print!(rt; "nothing")?;
+        rt.write_all(b"nothing")?;
     }
-    print!(rt; " : ")?;
+    rt.write_all(b" : ")?;
     show_motion(rt, r)?;
-    print!(rt; " : ")?;
+    rt.write_all(b" : ")?;
     show_answer(rt, r)?;
-    println!(rt; "")?;
+    rt.write_all(b"\n")?;
     Ok(nothing)
 }
 
@@ -58,11 +57,13 @@ pub fn show_load<P: Print>(rt: &P, v: BiasVerdict) -> io::Result<u32>
     ensures { IfOk result (λ given. given ≡ v.number) }
 {
     let number = v.number;
-    print!(rt; "load {number}")?;
+    text_print::show(rt, b"load ", u64::from(number))?;
     if number != 0 {
-        print!(rt; " place {} task {} depth {}", v.place, v.task, v.depth)?;
+        text_print::show(rt, b" place ", v.place)?;
+        text_print::show(rt, b" task ", u64::from(v.task))?;
+        text_print::show(rt, b" depth ", u64::from(v.depth))?;
     }
-    println!(rt; "")?;
+    rt.write_all(b"\n")?;
     Ok(number)
 }
 
@@ -93,11 +94,22 @@ fn show_block<P: Print>(rt: &P, image: &[u8], block: u16) -> io::Result<[u8; BLO
     ensures { IfOk result (λ given. given ≡ block_at (blocks_of image.now) block) }
 {
     let bytes = walk_blocks::block_at(reader::block_part(image), block);
-    print!(rt; " block {block} code")?;
-    for byte in &bytes {
-        print!(rt; " {byte:02X}")?;
-    }
+    text_print::show(rt, b" block ", u64::from(block))?;
+    rt.write_all(b" code")?;
+    show_bytes(rt, &bytes)?;
     Ok(bytes)
+}
+
+// Bytes in hexadecimal digits; gives how many it showed.
+fn show_bytes<P: Print>(rt: &P, bytes: &[u8]) -> io::Result<usize>
+    ensures { IfOk result (λ given. given ≡ length bytes.now) }
+{
+    let mut n = 0;
+    for byte in bytes {
+        text_print::show_hex(rt, b" ", *byte)?;
+        n += 1;
+    }
+    Ok(n)
 }
 
 // The state buffer before a step and the one behind it.
@@ -112,9 +124,9 @@ impl Buffers<'_> {
     fn show_changes<P: Print>(&self, rt: &P) -> io::Result<bool>
         ensures { IfOk result (λ given. given ≡ unchanged self.now.before.now self.now.after.now) }
     {
-        let variables = self.show_cells(rt, VARIABLES_AT, 4, "variable", true)?;
-        let flags = self.show_cells(rt, FLAGS_AT, 1, "flag", variables)?;
-        let outputs = self.show_cells(rt, OUTPUTS_AT, 1, "output", flags)?;
+        let variables = self.show_cells(rt, VARIABLES_AT, 4, b"variable ", true)?;
+        let flags = self.show_cells(rt, FLAGS_AT, 1, b"flag ", variables)?;
+        let outputs = self.show_cells(rt, OUTPUTS_AT, 1, b"output ", flags)?;
         let axis = self.show_axis(rt, outputs)?;
         let starts = self.show_starts(rt, axis)?;
         let bias = self.show_task(rt, limits::BIAS, starts)?;
@@ -128,7 +140,7 @@ impl Buffers<'_> {
         rt: &P,
         at: usize,
         width: usize,
-        name: &str,
+        name: &[u8],
         nothing: bool,
     ) -> io::Result<bool>
         requires width_nonzero { 0 < width }
@@ -137,59 +149,89 @@ impl Buffers<'_> {
     {
         let mut left = nothing;
         for k in 0..CELLS {
-            left = self.show_number(rt, at + width * k, width, format_args!("{name} {k}"), left)?;
+            left = self.show_cell(rt, at + width * k, width, name, k, left)?;
         }
         Ok(left)
     }
 
-    // The parameters of the axis, the start mark and the notes of BIAS, as far as they changed.
-    fn show_axis<P: Print>(&self, rt: &P, nothing: bool) -> io::Result<bool>
-        ensures { IfOk result (λ given. given ≡ nothing && same_axis self.now.before.now self.now.after.now) }
-    {
-        let position = self.show_number(rt, MOTION_AT, 4, "position", nothing)?;
-        let speed = self.show_number(rt, MOTION_AT + 4, 2, "speed", position)?;
-        let acceleration = self.show_number(rt, MOTION_AT + 6, 2, "acceleration", speed)?;
-        let deceleration = self.show_number(rt, MOTION_AT + 8, 2, "deceleration", acceleration)?;
-        let mark = self.show_number(rt, MOTION_AT + 10, 1, "mark", deceleration)?;
-        let level = self.show_number(rt, NOTES_AT, 1, "level", mark)?;
-        self.show_number(rt, NOTES_AT + 1, 1, "moved", level)
-    }
-
-    // The start blocks of the PLC and of mathematics, as far as they changed.
-    fn show_starts<P: Print>(&self, rt: &P, nothing: bool) -> io::Result<bool>
-        ensures { IfOk result (λ given. given ≡ nothing && same_starts self.now.before.now self.now.after.now) }
-    {
-        let plc = self.show_number(
-            rt,
-            STARTS_AT,
-            2,
-            format_args!("start of task {}", limits::PLC),
-            nothing,
-        )?;
-        self.show_number(
-            rt,
-            STARTS_AT + 2,
-            2,
-            format_args!("start of task {}", limits::MATHEMATICS),
-            plc,
-        )
-    }
-
-    // A number and its name, if it changed.
-    fn show_number<P: Print, D: Display + Drop>(
+    // A number, its name and its index, if it changed.
+    fn show_cell<P: Print>(
         &self,
         rt: &P,
         at: usize,
         width: usize,
-        name: D,
+        name: &[u8],
+        index: usize,
         nothing: bool,
     ) -> io::Result<bool>
         requires width_nonzero { 0 < width }
         requires width_bound { at + width ≤ state_length }
         ensures { IfOk result (λ given. given ≡ nothing && same self.now.before.now self.now.after.now at width) }
     {
-        let value = value_at(self.after, at, width);
-        self.show_changed(rt, at, width, format_args!("{name} = {value}"), nothing)
+        if self.same(at, width) {
+            return Ok(nothing);
+        }
+        show_comma(rt, nothing)?;
+        text_print::show(rt, name, index as u64)?;
+        show_value(rt, self.after, at, width)?;
+        Ok(false)
+    }
+
+    // The parameters of the axis, the start mark and the notes of BIAS, as far as they changed.
+    fn show_axis<P: Print>(&self, rt: &P, nothing: bool) -> io::Result<bool>
+        ensures { IfOk result (λ given. given ≡ nothing && same_axis self.now.before.now self.now.after.now) }
+    {
+        let position = self.show_number(rt, MOTION_AT, 4, b"position", nothing)?;
+        let speed = self.show_number(rt, MOTION_AT + 4, 2, b"speed", position)?;
+        let acceleration = self.show_number(rt, MOTION_AT + 6, 2, b"acceleration", speed)?;
+        let deceleration = self.show_number(rt, MOTION_AT + 8, 2, b"deceleration", acceleration)?;
+        let mark = self.show_number(rt, MOTION_AT + 10, 1, b"mark", deceleration)?;
+        let level = self.show_number(rt, NOTES_AT, 1, b"level", mark)?;
+        self.show_number(rt, NOTES_AT + 1, 1, b"moved", level)
+    }
+
+    // The start blocks of the PLC and of mathematics, as far as they changed.
+    fn show_starts<P: Print>(&self, rt: &P, nothing: bool) -> io::Result<bool>
+        ensures { IfOk result (λ given. given ≡ nothing && same_starts self.now.before.now self.now.after.now) }
+    {
+        let plc = self.show_cell(
+            rt,
+            STARTS_AT,
+            2,
+            b"start of task ",
+            usize::from(limits::PLC),
+            nothing,
+        )?;
+        self.show_cell(
+            rt,
+            STARTS_AT + 2,
+            2,
+            b"start of task ",
+            usize::from(limits::MATHEMATICS),
+            plc,
+        )
+    }
+
+    // A number and its name, if it changed.
+    fn show_number<P: Print>(
+        &self,
+        rt: &P,
+        at: usize,
+        width: usize,
+        name: &[u8],
+        nothing: bool,
+    ) -> io::Result<bool>
+        requires width_nonzero { 0 < width }
+        requires width_bound { at + width ≤ state_length }
+        ensures { IfOk result (λ given. given ≡ nothing && same self.now.before.now self.now.after.now at width) }
+    {
+        if self.same(at, width) {
+            return Ok(nothing);
+        }
+        show_comma(rt, nothing)?;
+        rt.write_all(name)?;
+        show_value(rt, self.after, at, width)?;
+        Ok(false)
     }
 
     // A task's record, if it changed.
@@ -198,37 +240,21 @@ impl Buffers<'_> {
         ensures { IfOk result (λ given. given ≡ nothing && same self.now.before.now self.now.after.now (task_place t) task_length) }
     {
         let at = task_at(t);
-        let after = self.after;
-        let block = state_bytes::word(after, at + 2);
-        let depth = state_bytes::byte(after, at + 1);
-        let status = state_bytes::byte(after, at);
-        let time = state_bytes::long(after, at + TIME_AT);
-        let turns = state_bytes::long(after, at + TURNS_AT);
-        let text = format_args!(
-            "task {t} at {block} depth {depth} status {status} wait {time} {turns}"
-        );
-        self.show_changed(rt, at, TASK_LENGTH, text, nothing)
-    }
-
-    // A text, if the bytes from a place on changed; a comma before it, unless nothing was shown before.
-    fn show_changed<P: Print, D: Display + Drop>(
-        &self,
-        rt: &P,
-        at: usize,
-        width: usize,
-        text: D,
-        nothing: bool,
-    ) -> io::Result<bool>
-        requires { at + width ≤ state_length }
-        ensures { IfOk result (λ given. given ≡ nothing && same self.now.before.now self.now.after.now at width) }
-    {
-        if self.same(at, width) {
+        if self.same(at, TASK_LENGTH) {
             return Ok(nothing);
         }
-        if !nothing {
-            print!(rt; ", ")?;
-        }
-        print!(rt; "{text}")?;
+        let after = self.after;
+        show_comma(rt, nothing)?;
+        text_print::show(rt, b"task ", u64::from(t))?;
+        text_print::show(rt, b" at ", u64::from(state_bytes::word(after, at + 2)))?;
+        text_print::show(rt, b" depth ", u64::from(state_bytes::byte(after, at + 1)))?;
+        text_print::show(rt, b" status ", u64::from(state_bytes::byte(after, at)))?;
+        text_print::show(
+            rt,
+            b" wait ",
+            u64::from(state_bytes::long(after, at + TIME_AT)),
+        )?;
+        text_print::show(rt, b" ", u64::from(state_bytes::long(after, at + TURNS_AT)))?;
         Ok(false)
     }
 
@@ -241,6 +267,26 @@ impl Buffers<'_> {
         let after = self.after;
         before[at..at + width] == after[at..at + width]
     }
+}
+
+// Between two changes.
+fn show_comma<P: Print>(rt: &P, nothing: bool) -> io::Result<bool>
+    ensures { IfOk result (λ given. given ≡ nothing) }
+{
+    if !nothing {
+        rt.write_all(b", ")?;
+    }
+    Ok(nothing)
+}
+
+// The number of so many bytes, shown. Gives the bytes as a number.
+fn show_value<P: Print>(rt: &P, b: &[u8; STATE_LENGTH], at: usize, width: usize) -> io::Result<u32>
+    requires width_nonzero { 0 < width }
+    requires width_bound { at + width ≤ state_length }
+    ensures { IfOk result (λ given. given ≡ shown_at b.now at width) }
+{
+    let shown = text_print::show_signed(rt, b" = ", value_at(b, at, width))?;
+    Ok(shown.cast_unsigned())
 }
 
 // The number of so many bytes: of four bytes a signed one.
@@ -262,29 +308,30 @@ fn show_motion<P: Print>(rt: &P, r: BiasAnswer) -> io::Result<u32>
 {
     let motion = r.motion;
     match motion {
-        1 => show_move(rt, "move to", r),
-        2 => show_move(rt, "move by", r),
-        3 => show_move(rt, "forward", r),
-        4 => show_move(rt, "backward", r),
+        1 => show_move(rt, b"move to ", r),
+        2 => show_move(rt, b"move by ", r),
+        3 => show_move(rt, b"forward ", r),
+        4 => show_move(rt, b"backward ", r),
         5 => {
-            print!(rt; "stop mode {} ramp {}", r.mode, r.deceleration)?;
+            text_print::show(rt, b"stop mode ", u64::from(r.mode))?;
+            text_print::show(rt, b" ramp ", u64::from(r.deceleration))?;
             Ok(motion)
         }
         _ => {
-            print!(rt; "none")?;
+            rt.write_all(b"none")?;
             Ok(motion)
         }
     }
 }
 
 // A move and its parameters; gives the request's number.
-fn show_move<P: Print>(rt: &P, name: &str, r: BiasAnswer) -> io::Result<u32>
+fn show_move<P: Print>(rt: &P, name: &[u8], r: BiasAnswer) -> io::Result<u32>
     ensures { IfOk result (λ given. given ≡ r.motion) }
 {
-    print!(rt;
-        "{name} {} {} {} {}",
-        r.position, r.speed, r.acceleration, r.deceleration
-    )?;
+    text_print::show_signed(rt, name, r.position)?;
+    text_print::show(rt, b" ", u64::from(r.speed))?;
+    text_print::show(rt, b" ", u64::from(r.acceleration))?;
+    text_print::show(rt, b" ", u64::from(r.deceleration))?;
     Ok(r.motion)
 }
 
@@ -293,11 +340,17 @@ fn show_answer<P: Print>(rt: &P, r: BiasAnswer) -> io::Result<u32>
     ensures { IfOk result (λ given. given ≡ r.number) }
 {
     let number = r.number;
-    print!(rt; "{number}")?;
+    text_print::show(rt, b"", u64::from(number))?;
     match number {
         0 | 16 | 18 => {}
-        15 => print!(rt; " place {}", r.place)?,
-        _ => print!(rt; " block {} task {} depth {}", r.place, r.task, r.depth)?,
+        15 => {
+            text_print::show(rt, b" place ", r.place)?;
+        }
+        _ => {
+            text_print::show(rt, b" block ", r.place)?;
+            text_print::show(rt, b" task ", u64::from(r.task))?;
+            text_print::show(rt, b" depth ", u64::from(r.depth))?;
+        }
     }
     Ok(number)
 }

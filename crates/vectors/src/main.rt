@@ -61,10 +61,12 @@ const PAIRS: [(i32, i32); 10] = [
 fn arith_rows<P: Print>(rt: &P) -> io::Result<usize>
     ensures { IfOk result (λ given. given ≡ 10) }
 {
+    let mut n = 0;
     for (a, b) in PAIRS {
         arith_row(rt, a, b)?;
+        n += 1;
     }
-    Ok(PAIRS.len())
+    Ok(n)
 }
 
 // Numbers of one to four bytes, and the ends of the range.
@@ -74,10 +76,12 @@ const WHOLE: [i32; 8] = [0, 1, 255, 256, 16909060, -1, 2147483647, -2147483648];
 fn bytes_rows<P: Print>(rt: &P) -> io::Result<usize>
     ensures { IfOk result (λ given. given ≡ 8) }
 {
+    let mut n = 0;
     for v in WHOLE {
         bytes_row(rt, v)?;
+        n += 1;
     }
-    Ok(WHOLE.len())
+    Ok(n)
 }
 
 // Document 01's case K; the least and the greatest number of one byte and of two; then bytes that are none: a second byte 0, a third byte
@@ -330,16 +334,16 @@ fn arith_row<P: Print>(rt: &P, a: i32, b: i32) -> io::Result<i32>
     ensures { IfOk result (λ given. given ≡ wrap w32 (a +ℤ b)) }
 {
     let sum = num_arith::add(a, b);
-    let difference = num_arith::sub(a, b);
-    let product = num_arith::mul(a, b);
-    let negation = num_arith::neg(a);
-    print!(rt;
-        "arith {a} {b}: sum {sum} difference {difference} product {product} negation {negation}"
-    )?;
+    text_print::show_signed(rt, b"arith ", a)?;
+    text_print::show_signed(rt, b" ", b)?;
+    text_print::show_signed(rt, b": sum ", sum)?;
+    text_print::show_signed(rt, b" difference ", num_arith::sub(a, b))?;
+    text_print::show_signed(rt, b" product ", num_arith::mul(a, b))?;
+    text_print::show_signed(rt, b" negation ", num_arith::neg(a))?;
     show_quotient(rt, num_arith::div(a, b))?;
     show_conditions(rt, a, b)?;
     show_bits(rt, a)?;
-    println!(rt; "")?;
+    rt.write_all(b"\n")?;
     Ok(sum)
 }
 
@@ -362,21 +366,22 @@ fn show_quotient<P: Print>(rt: &P, q: Option<i32>) -> io::Result<Option<i32>>
 fn show_conditions<P: Print>(rt: &P, a: i32, b: i32) -> io::Result<u8>
     ensures { IfOk result (λ given. given ≡ 9) }
 {
-    print!(rt; " conditions ")?;
+    rt.write_all(b" conditions ")?;
+    let mut n = 0;
     for condition in 0..9 {
-        print!(rt; "{}", num_arith::compare(condition, a, b) as u8)?;
+        text_print::show(rt, b"", num_arith::compare(condition, a, b) as u64)?;
+        n += 1;
     }
-    Ok(9)
+    Ok(n)
 }
 
 // Bits 0 and 31, and 32, which there is not.
 fn show_bits<P: Print>(rt: &P, a: i32) -> io::Result<i32>
     ensures { IfOk result (λ given. given ≡ a) }
 {
-    let first = num_arith::bit(a, 0) as u8;
-    let last = num_arith::bit(a, 31) as u8;
-    let none = num_arith::bit(a, 32) as u8;
-    print!(rt; " bits {first}{last}{none}")?;
+    text_print::show(rt, b" bits ", num_arith::bit(a, 0) as u64)?;
+    text_print::show(rt, b"", num_arith::bit(a, 31) as u64)?;
+    text_print::show(rt, b"", num_arith::bit(a, 32) as u64)?;
     Ok(a)
 }
 
@@ -384,20 +389,20 @@ fn show_bits<P: Print>(rt: &P, a: i32) -> io::Result<i32>
 fn bytes_row<P: Print>(rt: &P, v: i32) -> io::Result<[u8; 4]>
     ensures { IfOk result (λ given. given ≡ le_bytes 4 (word w32 v)) }
 {
-    print!(rt; "bytes {v}")?;
+    text_print::show_signed(rt, b"bytes ", v)?;
     show_bytes(rt, num_le::put_i32(v))
 }
 
 fn show_bytes<P: Print>(rt: &P, b: [u8; 4]) -> io::Result<[u8; 4]>
     ensures { IfOk result (λ given. given ≡ b) }
 {
-    print!(rt; ":")?;
+    rt.write_all(b":")?;
     show_buffer(rt, &b)?;
-    let byte = num_le::read_u8([b[0]]);
-    let word = num_le::read_u16([b[0], b[1]]);
-    let long = num_le::read_u32(b);
-    let signed = num_le::read_i32(b);
-    println!(rt; " read {byte} {word} {long} {signed}")?;
+    text_print::show(rt, b" read ", u64::from(num_le::read_u8([b[0]])))?;
+    text_print::show(rt, b" ", u64::from(num_le::read_u16([b[0], b[1]])))?;
+    text_print::show(rt, b" ", u64::from(num_le::read_u32(b)))?;
+    text_print::show_signed(rt, b" ", num_le::read_i32(b))?;
+    rt.write_all(b"\n")?;
     Ok(b)
 }
 
@@ -442,7 +447,8 @@ fn header_row<P: Print>(rt: &P, image: &[u8]) -> io::Result<Result<HeaderRead, I
     let mut landings = [0; MOST_LANDINGS];
     let r = reader::read(image, &mut landings);
     let _ = show_header(rt, r)?;
-    println!(rt; " blocks {}", reader::block_part(image).len())?;
+    text_print::show(rt, b" blocks ", reader::block_part(image).len() as u64)?;
+    rt.write_all(b"\n")?;
     Ok(r)
 }
 
@@ -458,11 +464,11 @@ fn block_row<P: Print>(rt: &P, image: &[u8]) -> io::Result<usize>
 fn show_blocks<P: Print>(rt: &P, blocks: &[u8]) -> io::Result<usize>
     ensures { IfOk result (λ given. given ≡ length blocks.now) }
 {
-    print!(rt; "blocks [")?;
-    for byte in blocks {
-        print!(rt; "{byte:02X}")?;
-    }
-    println!(rt; "]")?;
+    let mut line = [0u8; 64];
+    let end = text::put(&mut line, 0, b"blocks [");
+    let end = text::put_hex_bytes(&mut line, end, blocks);
+    let end = text::put(&mut line, end, b"]\n");
+    rt.write_all(&line[..end])?;
     Ok(blocks.len())
 }
 
@@ -481,14 +487,14 @@ fn show_header<P: Print>(
         },
     };
     let header = read.header;
-    print!(rt; "header ")?;
+    rt.write_all(b"header ")?;
     let _ = show_result(rt, outcome(r))?;
-    print!(rt; ": format {} ", header.format)?;
+    text_print::show(rt, b": format ", u64::from(header.format))?;
+    rt.write_all(b" ")?;
     show_drive(rt, header.drive)?;
-    print!(rt;
-        " start {} count {} at {}",
-        header.start, header.count, read.at
-    )?;
+    text_print::show(rt, b" start ", u64::from(header.start))?;
+    text_print::show(rt, b" count ", u64::from(header.count))?;
+    text_print::show(rt, b" at ", read.at as u64)?;
     Ok(r)
 }
 
@@ -496,10 +502,8 @@ fn show_header<P: Print>(
 fn show_result<P: Print>(rt: &P, res: ImageResult) -> io::Result<ImageResult>
     ensures { IfOk result (λ given. given ≡ res) }
 {
-    match res {
-        Ok(()) => print!(rt; "refusal 0 place 0")?,
-        Err(fault) => print!(rt; "refusal {} place {}", fault.number(), fault.place())?,
-    }
+    text_print::show(rt, b"refusal ", u64::from(image_result::number(res)))?;
+    text_print::show(rt, b" place ", image_result::place(res) as u64)?;
     Ok(res)
 }
 
@@ -507,7 +511,9 @@ fn show_result<P: Print>(rt: &P, res: ImageResult) -> io::Result<ImageResult>
 fn show_drive<P: Print>(rt: &P, d: Drive) -> io::Result<Drive>
     ensures { IfOk result (λ given. given ≡ d) }
 {
-    print!(rt; "type {} B {} C {}", d.model, d.b, d.c)?;
+    text_print::show(rt, b"type ", u64::from(d.model))?;
+    text_print::show(rt, b" B ", u64::from(d.b))?;
+    text_print::show(rt, b" C ", u64::from(d.c))?;
     Ok(d)
 }
 
@@ -541,7 +547,7 @@ fn write_row<P: Print>(
     let w = image_writer::write(format, numbers, landings, blocks, out);
     show_written(rt, w)?;
     show_buffer(rt, out)?;
-    println!(rt; "")?;
+    rt.write_all(b"\n")?;
     Ok(w)
 }
 
@@ -549,9 +555,10 @@ fn show_written<P: Print>(rt: &P, w: Written) -> io::Result<Written>
     ensures { IfOk result (λ given. given ≡ w) }
 {
     let result = w.result;
-    print!(rt; "write ")?;
+    rt.write_all(b"write ")?;
     let _ = show_result(rt, result)?;
-    print!(rt; " length {} out", w.length)?;
+    text_print::show(rt, b" length ", w.length as u64)?;
+    rt.write_all(b" out")?;
     Ok(w)
 }
 
@@ -559,10 +566,12 @@ fn show_written<P: Print>(rt: &P, w: Written) -> io::Result<Written>
 fn show_buffer<P: Print>(rt: &P, out: &[u8]) -> io::Result<usize>
     ensures { IfOk result (λ given. given ≡ length out.now) }
 {
+    let mut n = 0;
     for byte in out {
-        print!(rt; " {byte}")?;
+        text_print::show(rt, b" ", u64::from(*byte))?;
+        n += 1;
     }
-    Ok(out.len())
+    Ok(n)
 }
 
 // The three kinds of pins of a drive; gives how many it has of all kinds.
@@ -582,7 +591,8 @@ fn pin_row<P: Print>(rt: &P, d: Drive, kind: PinKind) -> io::Result<u32>
     show_drive(rt, d)?;
     show_kind(rt, kind)?;
     let n = show_pins(rt, d, kind)?;
-    println!(rt; ": {n}")?;
+    text_print::show(rt, b": ", u64::from(n))?;
+    rt.write_all(b"\n")?;
     Ok(n)
 }
 
@@ -590,11 +600,11 @@ fn show_kind<P: Print>(rt: &P, kind: PinKind) -> io::Result<PinKind>
     ensures { IfOk result (λ given. given ≡ kind) }
 {
     let name = match kind {
-        PinKind::Input => "inputs",
-        PinKind::OutputWritten => "written",
-        PinKind::OutputRead => "read",
+        PinKind::Input => " inputs",
+        PinKind::OutputWritten => " written",
+        PinKind::OutputRead => " read",
     };
-    print!(rt; " {name}")?;
+    rt.write_all(name.as_bytes())?;
     Ok(kind)
 }
 
@@ -614,11 +624,12 @@ fn show_pin<P: Print>(rt: &P, d: Drive, kind: PinKind, pin: u8) -> io::Result<u3
 {
     match d.pin(kind, pin) {
         Ok(()) => {
-            print!(rt; " {pin}")?;
+            text_print::show(rt, b" ", u64::from(pin))?;
             Ok(1)
         }
         Err(Absence::BoardMissing) => {
-            print!(rt; " {pin}?")?;
+            text_print::show(rt, b" ", u64::from(pin))?;
+            rt.write_all(b"?")?;
             Ok(0)
         }
         Err(Absence::Never) => Ok(0),

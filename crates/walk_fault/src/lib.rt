@@ -14,6 +14,27 @@ pub enum Fault {
     PastEnd,
 }
 
+// Document 01's number of what judging a point comes to; 0 where nothing is broken.
+pub fn number(judged: Result<(), Fault>) -> u32
+    ensures { result ≡ fault_number judged }
+{
+    judged.err().map_or(0, |fault| fault.number())
+}
+
+// Whether a 51 ends another task at the point.
+pub fn is_foreign(judged: Result<(), Fault>) -> bool
+    ensures { result ≡ is_foreign judged }
+{
+    judged.is_err_and(|fault| fault.is_foreign())
+}
+
+// Whether the point is bad by 9 to 12.
+pub fn is_bad(judged: Result<(), Fault>) -> bool
+    ensures { result ≡ is_bad judged }
+{
+    judged.is_err_and(|fault| fault.is_bad())
+}
+
 impl Fault {
     // Document 01's number.
     pub fn number(self) -> u32

@@ -33,7 +33,7 @@ pub fn judge(image: &[u8], marks: &mut [u8]) -> Verdict
     let program = Program {
         header: read.header,
         landings: &landings[..read.header.landings as usize],
-        blocks: reader::part_of(image, read),
+        blocks: reader::part_of(image, Ok(read)),
     };
     judge_blocks(&program, marks)
 }

@@ -23,6 +23,7 @@ landings_in-landings-requires c =
     let holds = sym c.is_state.ensures ∙ c.if-not-is_state.false in
     let read = c.header_in-header.ensures in
     record {
+      b_len = omega arith;
       count_in_range = few_landings b bytes holds _ read;
       zeros_behind = zeros_behind b bytes holds _ read;
     }

@@ -1,7 +1,5 @@
 -- `perform` meets its contract: each arm of the match is the row of its code.
-use Rattle.std.proofs.Common.{rules, refl, w32, ◌+ℤ◌, ◌-ℤ◌, ◌*ℤ◌}
-use Rattle.num_arith.specs.Wrap.{wrap}
-use Rattle.exec_action.specs.Action.{assigning, content}
+use mathlib.Core.Path.{refl}
 use Rattle.limits.specs.Limits.{bias, most_speed, most_ramp}
 use Rattle.state.specs.State.{with_speed, with_acceleration, with_deceleration}
 use Rattle.machine.specs.Effect.{effect_in}
@@ -12,19 +10,19 @@ use Rattle.exec_dispatch.proofs.perform.Goals as goal
 
 pub returns-in-0 : goal.returns-in-0
 unfolding effect_in
-returns-in-0 c = found_move _ _ _ _ _ MoveTo c.in-0.is c.moves.ensures refl
+returns-in-0 c = found_move _ _ _ _ _ MoveTo c.in-0.is c.move_to.ensures refl
 
 pub returns-in-1 : goal.returns-in-1
 unfolding effect_in
-returns-in-1 c = found_move _ _ _ _ _ MoveBy c.in-1.is c.moves-in-1.ensures refl
+returns-in-1 c = found_move _ _ _ _ _ MoveBy c.in-1.is c.move_by.ensures refl
 
 pub returns-in-3 : goal.returns-in-3
 unfolding effect_in
-returns-in-3 c = found_move _ _ _ _ _ Forward c.in-3.is c.moves-in-3.ensures refl
+returns-in-3 c = found_move _ _ _ _ _ Forward c.in-3.is c.forward.ensures refl
 
 pub returns-in-4 : goal.returns-in-4
 unfolding effect_in
-returns-in-4 c = found_move _ _ _ _ _ Backward c.in-4.is c.moves-in-4.ensures refl
+returns-in-4 c = found_move _ _ _ _ _ Backward c.in-4.is c.backward.ensures refl
 
 pub returns-in-14 : goal.returns-in-14
 unfolding effect_in
@@ -104,7 +102,7 @@ returns-in-83 c = found _ _ _ _ _ c.in-83.is c.come_back.ensures refl
 
 pub returns-in-84 : goal.returns-in-84
 unfolding effect_in
-returns-in-84 c = found _ _ _ _ _ c.in-84.is c.start.ensures refl
+returns-in-84 c = found _ _ _ _ _ c.in-84.is c.start_plc.ensures refl
 
 pub returns-in-85 : goal.returns-in-85
 unfolding effect_in
@@ -116,7 +114,7 @@ returns-in-86 c = found_landing _ _ _ _ _ Jump c.in-86.is c.jump_to_landing.ensu
 
 pub returns-in-87 : goal.returns-in-87
 unfolding effect_in
-returns-in-87 c = found _ _ _ _ _ c.in-87.is c.start-in-87.ensures refl
+returns-in-87 c = found _ _ _ _ _ c.in-87.is c.start_bias.ensures refl
 
 pub returns-in-88 : goal.returns-in-88
 unfolding effect_in
@@ -140,11 +138,11 @@ returns-in-96 c = found _ _ _ _ _ c.in-96.is c.set_flag.ensures refl
 
 pub returns-in-97 : goal.returns-in-97
 unfolding effect_in
-returns-in-97 c = found _ _ _ _ _ c.in-97.is c.jump_by_level.ensures refl
+returns-in-97 c = found _ _ _ _ _ c.in-97.is c.jump_by_flag.ensures refl
 
 pub returns-in-98 : goal.returns-in-98
 unfolding effect_in
-returns-in-98 c = found _ _ _ _ _ c.in-98.is c.flag_from_level.ensures refl
+returns-in-98 c = found _ _ _ _ _ c.in-98.is c.copy_flag.ensures refl
 
 pub returns-in-99 : goal.returns-in-99
 unfolding effect_in
@@ -152,7 +150,7 @@ returns-in-99 c = found _ _ _ _ _ c.in-99.is c.flag_from_input.ensures refl
 
 pub returns-in-100 : goal.returns-in-100
 unfolding effect_in
-returns-in-100 c = found _ _ _ _ _ c.in-100.is c.flag_from_level-in-100.ensures refl
+returns-in-100 c = found _ _ _ _ _ c.in-100.is c.flag_from_output.ensures refl
 
 pub returns-in-101 : goal.returns-in-101
 unfolding effect_in
@@ -180,7 +178,7 @@ returns-in-112 c = found _ _ _ _ _ c.in-112.is c.jump_by_input.ensures refl
 
 pub returns-in-113 : goal.returns-in-113
 unfolding effect_in
-returns-in-113 c = found _ _ _ _ _ c.in-113.is c.jump_by_level-in-113.ensures refl
+returns-in-113 c = found _ _ _ _ _ c.in-113.is c.jump_by_output.ensures refl
 
 pub returns-in-114 : goal.returns-in-114
 unfolding effect_in
@@ -200,18 +198,15 @@ returns-in-129 c = found _ _ _ _ _ c.in-129.is c.jump_by_value.ensures refl
 
 pub returns-in-130 : goal.returns-in-130
 unfolding effect_in
-returns-in-130 c = let a = c.args in
-    found _ _ _ _ _ {a = assigning a.c (wrap w32 (content a.variables.now a.c.y +ℤ a.c.value))} c.in-130.is (search rules) refl
+returns-in-130 c = found _ _ _ _ _ c.in-130.is c.add_value.ensures refl
 
 pub returns-in-131 : goal.returns-in-131
 unfolding effect_in
-returns-in-131 c = let a = c.args in
-    found _ _ _ _ _ {a = assigning a.c (wrap w32 (content a.variables.now a.c.y -ℤ a.c.value))} c.in-131.is (search rules) refl
+returns-in-131 c = found _ _ _ _ _ c.in-131.is c.sub_value.ensures refl
 
 pub returns-in-132 : goal.returns-in-132
 unfolding effect_in
-returns-in-132 c = let a = c.args in
-    found _ _ _ _ _ {a = assigning a.c (wrap w32 (content a.variables.now a.c.y *ℤ a.c.value))} c.in-132.is (search rules) refl
+returns-in-132 c = found _ _ _ _ _ c.in-132.is c.mul_value.ensures refl
 
 pub returns-in-133 : goal.returns-in-133
 unfolding effect_in
@@ -231,18 +226,15 @@ returns-in-137 c = found _ _ _ _ _ c.in-137.is c.jump_by_variable.ensures refl
 
 pub returns-in-138 : goal.returns-in-138
 unfolding effect_in
-returns-in-138 c = let a = c.args in
-    found _ _ _ _ _ {a = assigning a.c (wrap w32 (content a.variables.now a.c.y +ℤ content a.variables.now a.c.z))} c.in-138.is (search rules) refl
+returns-in-138 c = found _ _ _ _ _ c.in-138.is c.add_variable.ensures refl
 
 pub returns-in-139 : goal.returns-in-139
 unfolding effect_in
-returns-in-139 c = let a = c.args in
-    found _ _ _ _ _ {a = assigning a.c (wrap w32 (content a.variables.now a.c.y -ℤ content a.variables.now a.c.z))} c.in-139.is (search rules) refl
+returns-in-139 c = found _ _ _ _ _ c.in-139.is c.sub_variable.ensures refl
 
 pub returns-in-140 : goal.returns-in-140
 unfolding effect_in
-returns-in-140 c = let a = c.args in
-    found _ _ _ _ _ {a = assigning a.c (wrap w32 (content a.variables.now a.c.y *ℤ content a.variables.now a.c.z))} c.in-140.is (search rules) refl
+returns-in-140 c = found _ _ _ _ _ c.in-140.is c.mul_variable.ensures refl
 
 pub returns-in-141 : goal.returns-in-141
 unfolding effect_in
@@ -250,7 +242,7 @@ returns-in-141 c = found_quotient _ _ _ _ _ _ c.in-141.is c.div_variable.ensures
 
 pub returns-in-144 : goal.returns-in-144
 unfolding effect_in
-returns-in-144 c = found _ _ _ _ _ c.in-144.is c.start-in-144.ensures refl
+returns-in-144 c = found _ _ _ _ _ c.in-144.is c.start_mathematics.ensures refl
 
 pub returns-in_default : goal.returns-in_default
 unfolding effect_in

@@ -3,7 +3,7 @@ use Rattle.std.proofs.Common.{ℕ, ◌+◌, refl, sym, ap, ◌∙◌, arith}
 use Rattle.text_hex.specs.Lines.{lines_of}
 use Rattle.text_hex.proofs.Lines.{ends, goes_on}
 use Rattle.manual.proofs.examples.Goals as goal
-use Rattle.manual.proofs.examples.Goals.{then-byte-eq-LINE_END+in_ok-println+in_ok-example, else-byte-eq-LINE_END}
+use Rattle.manual.proofs.examples.Goals.{then-byte-eq-LINE_END+in_ok-show+in_ok-write_all+in_ok-example, else-byte-eq-LINE_END}
 
 pub loop-i-init : goal.loop-i-init
 unfolding lines_of
@@ -14,7 +14,7 @@ loop-i-preserved g c =
     let v = c.loop-i in
     let text = c.args.text.now in
     elim c.if-byte-eq-LINE_END.branch [
-      | then-byte-eq-LINE_END+in_ok-println+in_ok-example w ↦
+      | then-byte-eq-LINE_END+in_ok-show+in_ok-write_all+in_ok-example w ↦
           record {
             begins = omega arith;
             few = omega arith;

@@ -21,4 +21,4 @@ unfolding decoded
 returns-then-t-eq-BIAS c = c.word.ensures ∙ rw c.if-t-eq-BIAS.true
 
 pub returns : goal.returns
-returns c = rw c.from.ensures at c.word-2.ensures ∙ start_read c.args.b.now c.args.t (omega arith) c.requires
+returns c = rw c.from.ensures at c.word-2.ensures ∙ start_read c.args.b.now c.args.t (omega arith) c.requires.task_in_range

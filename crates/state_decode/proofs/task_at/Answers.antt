@@ -17,4 +17,4 @@ task_read b (suc (suc zero)) l = refl
 task_read b (suc (suc (suc t))) l = absurd (omega arith)
 
 pub returns : goal.returns
-returns c = c.task_in.ensures ∙ rw (c.from.ensures, c.start_of.ensures) (task_read c.args.b.now c.args.t c.requires)
+returns c = c.task_in.ensures ∙ rw (c.from.ensures, c.start_of.ensures) (task_read c.args.b.now c.args.t c.requires.task_in_range)

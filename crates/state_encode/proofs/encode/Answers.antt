@@ -16,4 +16,4 @@ returns c =
     c.encode_parts.ensures
     ∙ ap (λ (l : List ℕ). encoded (state_of v.values.cells.variables v.values.cells.flags v.values.cells.outputs v.header l
     v.values.motion v.values.notes v.tasks))
-    (words_written _ _ _ _ _ c.put_words.ensures.b_after room c.put_words.ensures.words_fit (omega arith))
+    (words_written _ _ _ _ _ c.put_words.ensures.b_after room c.put_words.ensures.words_fit (omega (arith, c.requires)))

@@ -48,7 +48,7 @@ returns c =
     let l = c.loop-t in
     let e : l.t ≡ task_count = omega arith in
     let all : l.b ≡ tasks_put c.put_starts.new.b a.tasks task_count = l.invariant ∙ ap (tasks_put c.put_starts.new.b a.tasks) e in
-    encoded_put _ flags outputs _ _ _ c.told-b
+    encoded_put _ flags outputs _ _ _ c.requires
     (put c.put_variables.ensures
     (put c.put_levels.ensures
     (put c.put_levels-2.ensures

@@ -13,6 +13,6 @@ use Rattle.state_encode.proofs.put_unused.Goals as goal
 pub returns : goal.returns
 returns c =
     let b = c.args.b.now in
-    let n : length (mid_of unused_at unused_length b) ≡ unused_length = length-take-le unused_length _ (omega (arith, length-drop unused_at b)) in
+    let n : length (mid_of unused_at unused_length b) ≡ unused_length = length-take-le unused_length _ (omega (arith, length-drop unused_at b, c.requires)) in
     ap (put_mid unused_at unused_length b) (c.fill.ensures.after (λ y e. e) ∙ ap (λ (k : ℕ). replicate {A = ℕ} k 0) n)
-    ∙ puts_part b unused_at unused_length (replicate {A = ℕ} unused_length 0) refl (omega arith)
+    ∙ puts_part b unused_at unused_length (replicate {A = ℕ} unused_length 0) refl (omega (arith, c.requires))

@@ -14,5 +14,5 @@ unfolding each_below
 loop-k-preserved g c =
     let a = c.args in
     let l = c.loop-k in
-    rw add-one (then a.nothing (same_cells a.self.now.before.now a.self.now.after.now a.at a.width l.k-counter)
-    (same a.self.now.before.now a.self.now.after.now (a.at + a.width * l.k-counter) a.width) l.left l.invariant c.in_ok-left.ensures)
+    rw add-one (then a.nothing (same_cells a.self.now.before.now a.self.now.after.now a.at a.width l.k)
+    (same a.self.now.before.now a.self.now.after.now (a.at + a.width * l.k) a.width) l.left l.invariant c.in_ok-left.ensures)
